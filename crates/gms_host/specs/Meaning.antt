@@ -1,0 +1,42 @@
+-- What a host means to the one who calls it.
+use Rattle.std.specs.Prelude.{ℕ, ◌+◌, ◌≤◌, Bool, List, Option, min}
+use Rattle.std.specs.Ordering.{nat_cmp}
+use Rattle.std.specs.Cmp.Lexicographic.{slice_cmp}
+use Rattle.std.specs.FinMap.{FinMap}
+
+-- the finite map from the names of files to their bytes
+abbrev pub Files : Type 0
+Files = FinMap (slice_cmp nat_cmp) (List ℕ)
+
+-- What a host tells of itself; of what it does not tell stands None.
+pub record Meaning : Type 0 where
+  -- its files
+  pub files : Option Files
+  -- what the opened input still gives
+  pub input : Option (List ℕ)
+  -- the bytes of the opened output so far
+  pub output : Option (List ℕ)
+  -- the bytes of standard output so far
+  pub said : Option (List ℕ)
+  -- the names of the files that were asked for so far, in order
+  pub asked : Option (List (List ℕ))
+  -- an input is open
+  pub reading : Bool
+  -- an output is open
+  pub writing : Bool
+  -- how many faults of reading there were
+  pub read_faults : ℕ
+  -- how many faults of writing there were
+  pub write_faults : ℕ
+
+-- the greatest number that a count of faults reaches, at which it stands still
+abbrev pub greatest_count : ℕ
+greatest_count = 18446744073709551615
+
+-- a count of faults rose: it is greater by one or more, or stands at the greatest number
+abbrev pub Rose : ℕ → ℕ → Type 0
+Rose old new = min (old + 1) greatest_count ≤ new
+
+-- the faults of both kinds
+abbrev pub faults : Meaning → ℕ
+faults m = m.read_faults + m.write_faults
