@@ -1,0 +1,121 @@
+//! What a field of exact numbers with a limit is: its calls, each exact both ways, and its laws.
+ghost use Rattle.std.specs.Prelude.{◌≡◌, ◌≢◌, ◌↔◌, ℕ, ◌<◌, ◌≤◌, ◌^◌, ℤ, pos, nat_abs, true, IsTrue};
+ghost use Rattle.gq_number.specs.Number.{Number, whole, ratio, ◌+ℚ◌, ◌-ℚ◌, ◌*ℚ◌, ◌/ℚ◌, neg_ℚ, sign_of, truncated, floor_of, ceiling_of, rounded};
+ghost use Rattle.gq_number.specs.Order.{number_cmp};
+
+use crate::parts::Parts;
+use std::cmp::Ordering;
+
+/// The answer of a step whose number does not fit under the limit.
+#[derive(Clone, Copy, Debug, PartialEq, Eq)]
+pub struct Limit;
+
+/// A field of exact numbers whose parts are at most a limit in magnitude.
+///
+/// A value means a number, its reduced fraction. Each call answers the exact number where it fits; a step that
+/// does not fit answers `Limit`, and no other step does.
+pub trait ExactField: Copy {
+    ghost use Rattle.gq_field.specs.Fits.{fits, sum_fits, Answers};
+    ghost use Rattle.gq_field.specs.Values.{parts_value};
+
+    /// The greatest magnitude that a part of a value has.
+    ghost limit: { ℕ };
+
+    /// The number that a value means.
+    ghost value: { Self → Number };
+
+    /// The greatest magnitude that a part of a value has.
+    fn limit() -> u128
+        ensures { result ≡ limit };
+
+    /// The parts of the value, as every field is computed in.
+    fn widened(self) -> Parts
+        ensures { parts_value result ≡ value self };
+
+    /// The value with these parts, which have to fit.
+    fn narrowed(parts: Parts) -> Self
+        requires { fits limit (parts_value parts) ≡ true }
+        ensures { value result ≡ parts_value parts };
+
+    /// 0.
+    fn zero() -> Self
+        ensures { value result ≡ whole (pos 0) };
+
+    /// 1.
+    fn one() -> Self
+        ensures { value result ≡ whole (pos 1) };
+
+    /// The whole number `n`, which has to fit.
+    fn from_int(n: i64) -> Self
+        requires { nat_abs n ≤ limit }
+        ensures { value result ≡ whole n };
+
+    /// The fraction of `num` over `den`, reduced. `Limit` exactly where a part of the reduced fraction does not fit.
+    fn from_parts(num: i128, den: u128) -> Result<Self, Limit>
+        requires { 0 < den }
+        ensures { Answers value result (fits limit (ratio num den)) (ratio num den) };
+
+    /// The numerator and the denominator of the reduced fraction.
+    fn parts(self) -> (i128, u128)
+        ensures numerator { result.0 ≡ (value self).numerator }
+        ensures denominator { result.1 ≡ (value self).denominator };
+
+    /// Whether the value is 0.
+    fn is_zero(self) -> bool
+        ensures { IsTrue result ↔ (value self ≡ whole (pos 0)) };
+
+    /// -1, 0 or 1, as the value is below, at or above 0.
+    fn sign(self) -> i8
+        ensures { result ≡ sign_of (value self) };
+
+    /// The value of the other sign.
+    fn neg(self) -> Self
+        ensures { value result ≡ neg_ℚ (value self) };
+
+    /// How the two values compare as numbers.
+    fn cmp_value(self, other: Self) -> Ordering
+        ensures { result ≡ number_cmp (value self) (value other) };
+
+    /// The whole number towards 0.
+    fn trunc(self) -> Self
+        ensures { value result ≡ whole (truncated (value self)) };
+
+    /// The greatest whole number that is at most the value.
+    fn floor(self) -> Self
+        ensures { value result ≡ whole (floor_of (value self)) };
+
+    /// The least whole number that is at least the value.
+    fn ceil(self) -> Self
+        ensures { value result ≡ whole (ceiling_of (value self)) };
+
+    /// The nearest whole number, and from the middle of two the one further from 0.
+    fn round_whole(self) -> Self
+        ensures { value result ≡ whole (rounded (value self)) };
+
+    /// The sum. `Limit` exactly where a number on the way does not fit: the numerators over the common denominator,
+    /// their sum, or the denominator of the result.
+    fn add(self, other: Self) -> Result<Self, Limit>
+        ensures { Answers value result (sum_fits limit (value self) (value other)) (value self +ℚ value other) };
+
+    /// The difference, which is the sum with the negated `other`, with its `Limit`.
+    fn sub(self, other: Self) -> Result<Self, Limit>
+        ensures { Answers value result (sum_fits limit (value self) (neg_ℚ (value other))) (value self -ℚ value other) };
+
+    /// The product. `Limit` exactly where a part of the reduced product does not fit.
+    fn mul(self, other: Self) -> Result<Self, Limit>
+        ensures { Answers value result (fits limit (value self *ℚ value other)) (value self *ℚ value other) };
+
+    /// The quotient by `d`, which is not 0. `Limit` exactly where a part of the reduced quotient does not fit.
+    fn div(self, d: Self) -> Result<Self, Limit>
+        requires { value d ≢ whole (pos 0) }
+        ensures { Answers value result (fits limit (value self /ℚ value d)) (value self /ℚ value d) };
+
+    /// The least limit is 127, and the greatest 2^127 - 1.
+    ghost limit_range: { (127 ≤ limit) × (limit < 2 ^ 127) };
+
+    /// Each value fits.
+    ghost within: { (x : Self) → fits limit (value x) ≡ true };
+
+    /// Values that mean the same number are the same.
+    ghost same_value: { (x y : Self) → value x ≡ value y → x ≡ y };
+}

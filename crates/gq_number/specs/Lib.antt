@@ -1,0 +1,5 @@
+pub mod Gcd
+pub mod GcdLaws
+pub mod Reduced
+pub mod Number
+pub mod Order

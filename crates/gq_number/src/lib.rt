@@ -1,0 +1,2 @@
+//! What exact numbers are, and their laws.
+#![tactic(auto)]
