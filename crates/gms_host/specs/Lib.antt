@@ -1,2 +1,5 @@
 pub mod Meaning
 pub mod Rules
+pub mod Counts
+pub mod MemoryState
+pub mod RealState

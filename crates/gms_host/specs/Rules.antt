@@ -1,7 +1,7 @@
 -- The rules of a host's six calls: what each of them changes, and that it leaves all else.
-use Rattle.std.specs.Prelude.{◌≡◌, ℕ, ◌+◌, ◌≤◌, ◌<◌, ◌↔◌, ◌⊎◌, Bool, true, false, List, [], ◌∷◌, ◌++◌, take, drop, length, Option, Some, None, option_map, is_some, IfSome, IsSome}
+use Rattle.std.specs.Prelude.{◌≡◌, ℕ, ◌≤◌, ◌↔◌, ◌⊎◌, Bool, true, false, List, [], ◌∷◌, ◌++◌, take, drop, length, Option, Some, option_map, is_some, IfSome, IsSome}
 use Rattle.std.specs.FinMap as map
-use Rattle.gms_host.specs.Meaning.{Meaning, Files}
+use Rattle.gms_host.specs.Meaning.{Meaning}
 
 -- no call lets a count of faults fall
 pub record CountsStay (old new : Meaning) : Type 0 where

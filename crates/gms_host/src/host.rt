@@ -1,7 +1,10 @@
 //! What a host is: its six calls, and the rules that they keep.
 ghost use Rattle.std.specs.Prelude.{◌≡◌, ◌<◌, ◌≤◌, true, false, take, length, IsSome, IfOk, OnOk, OnErr, IsErrOf};
+ghost use Rattle.gms_host.specs.declared.host.Failed.TheVariants.{Memory};
 ghost use Rattle.gms_host.specs.Meaning.{Meaning, Rose};
 ghost use Rattle.gms_host.specs.Rules.{KeepsAll, SameCounts, AsksOrNot, names_with, OpensInput, FailsToOpenInput, Reads, OpensOutput, Writes, ClosesOutput, Says};
+
+use std::alloc::{AllocError, AllocFailed};
 
 /// Why a call of a host did not do its work.
 #[derive(Clone, Copy, Debug, PartialEq, Eq)]
@@ -10,6 +13,22 @@ pub enum Failed {
     Fault,
     /// A growth found no memory. No count of faults rose.
     Memory,
+}
+
+impl From<AllocError> for Failed {
+    ghost from_gives = { λ _ failed. failed ≡ Memory };
+
+    fn from(_error: AllocError) -> Failed {
+        Failed::Memory
+    }
+}
+
+impl<T: Drop> From<AllocFailed<T>> for Failed {
+    ghost from_gives = { λ _ failed. failed ≡ Memory };
+
+    fn from(_error: AllocFailed<T>) -> Failed {
+        Failed::Memory
+    }
 }
 
 /// The outside: named files, of which one can be read and one written at a time, and standard output.

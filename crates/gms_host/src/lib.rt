@@ -2,5 +2,12 @@
 #![tactic(auto)]
 
 mod host;
+mod memory;
+mod real;
 
 pub use host::{Failed, Host};
+pub use memory::MemHost;
+pub use real::RealHost;
+
+#[cfg(test)]
+mod tests;

@@ -1,0 +1,146 @@
+-- A host of files in memory: what its caller may know of it, and what each of its calls leaves.
+use Rattle.std.specs.Prelude.{ℕ, Bool, true, false, List, [], ◌∷◌, ◌++◌, map, take, drop, unwrap_or, Some, Result, Ok, Err, String, Vec, string_bytes, Contains, refl}
+use Rattle.std.specs.declared.alloc.Global.{Global}
+use Rattle.std.specs.Coded.{Coded, code_by, coded×, coded_ℕ, coded_bool, coded_list}
+use Rattle.std.specs.FinMap as finite
+use Rattle.gms_host.specs.declared.host.Failed.{Failed}
+use Rattle.gms_host.specs.declared.host.Failed.TheVariants.{Fault, Memory}
+use Rattle.gms_host.specs.Meaning.{Meaning, Files}
+use Rattle.gms_host.specs.Counts.{one_more}
+
+-- What the caller of such a host may know of it.
+pub record MemoryState : Type 0 where
+  -- its files
+  pub files : Files
+  -- the numbers of the calls that are to fail
+  pub failing : List ℕ
+  -- the number of the next call
+  pub calls : ℕ
+  -- what the opened input still gives
+  pub input : List ℕ
+  -- the bytes of the opened output so far
+  pub output : List ℕ
+  -- the bytes of standard output so far
+  pub said : List ℕ
+  -- the names of the files that were opened so far, in order
+  pub asked : List (List ℕ)
+  -- an input is open
+  pub reading : Bool
+  -- an output is open
+  pub writing : Bool
+  -- how many faults of reading there were
+  pub read_faults : ℕ
+  -- how many faults of writing there were
+  pub write_faults : ℕ
+
+-- the code of a list of bytes
+abbrev pub bytes_code : Coded (List ℕ)
+bytes_code = coded_list coded_ℕ
+
+-- a state is stored as its fields, in pairs
+abbrev pub state_code : Coded MemoryState
+state_code =
+    code_by (Files × (List ℕ × (ℕ × (List ℕ × (List ℕ × (List ℕ × (List (List ℕ) × (Bool × (Bool × (ℕ × ℕ))))))))))
+    (coded× (finite.code bytes_code bytes_code) (coded× bytes_code (coded× coded_ℕ (coded× bytes_code (coded× bytes_code (coded× bytes_code
+    (coded× (coded_list bytes_code) (coded× coded_bool (coded× coded_bool (coded× coded_ℕ coded_ℕ))))))))))
+    (λ m. (m.files, (m.failing, (m.calls, (m.input, (m.output, (m.said, (m.asked, (m.reading, (m.writing, (m.read_faults, m.write_faults)))))))))))
+    (λ p. record {
+      files = p.0;
+      failing = p.1.0;
+      calls = p.1.1.0;
+      input = p.1.1.1.0;
+      output = p.1.1.1.1.0;
+      said = p.1.1.1.1.1.0;
+      asked = p.1.1.1.1.1.1.0;
+      reading = p.1.1.1.1.1.1.1.0;
+      writing = p.1.1.1.1.1.1.1.1.0;
+      read_faults = p.1.1.1.1.1.1.1.1.1.0;
+      write_faults = p.1.1.1.1.1.1.1.1.1.1;
+    })
+    (λ _. refl)
+
+-- the files of a list of names and bytes, of which the first counts where several have one name
+abbrev pub files_of : List (String Global × Vec ℕ Global) → Files
+files_of files = finite.from_entries (map (λ file. (string_bytes file.0, file.1.items)) files)
+
+-- a host of these files, of which no call was made
+abbrev pub at_start : Files → List ℕ → MemoryState
+at_start files failing = record {
+  files = files;
+  failing = failing;
+  calls = 0;
+  input = [];
+  output = [];
+  said = [];
+  asked = [];
+  reading = false;
+  writing = false;
+  read_faults = 0;
+  write_faults = 0;
+}
+
+-- a host of files in memory tells all of itself
+abbrev pub meaning_of : MemoryState → Meaning
+meaning_of m = record {
+  files = Some m.files;
+  input = Some m.input;
+  output = Some m.output;
+  said = Some m.said;
+  asked = Some m.asked;
+  reading = m.reading;
+  writing = m.writing;
+  read_faults = m.read_faults;
+  write_faults = m.write_faults;
+}
+
+-- the call that comes now is among those that are to fail
+abbrev pub IsToFail : MemoryState → Type 0
+IsToFail m = Contains m.failing m.calls
+
+-- one call was numbered, and nothing else happened
+abbrev pub numbered : MemoryState → MemoryState
+numbered m = record m { calls = one_more m.calls }
+
+-- a fault of reading was counted, and nothing else happened
+abbrev pub with_read_fault : MemoryState → MemoryState
+with_read_fault m = record m { read_faults = one_more m.read_faults }
+
+-- a fault of writing was counted, and nothing else happened
+abbrev pub with_write_fault : MemoryState → MemoryState
+with_write_fault m = record m { write_faults = one_more m.write_faults }
+
+-- what an `open_in` of that name leaves, by its answer
+abbrev pub after_open_in : MemoryState → List ℕ → Result (Unit {0}) Failed → MemoryState
+after_open_in m name (Ok _) = record (numbered m) { input = unwrap_or (finite.get m.files name) []; asked = m.asked ++ name ∷ []; reading = true }
+after_open_in m name (Err Fault) = record (with_read_fault (numbered m)) { reading = false }
+after_open_in m name (Err Memory) = record (numbered m) { reading = false }
+
+-- what a `read` leaves, by its answer: the bytes that it gave are off the input
+abbrev pub after_read : MemoryState → Result ℕ Failed → MemoryState
+after_read m (Ok count) = record (numbered m) { input = drop count m.input }
+after_read m (Err Fault) = with_read_fault (numbered m)
+after_read m (Err Memory) = numbered m
+
+-- what an `open_out` of that name leaves, by its answer: an empty output
+abbrev pub after_open_out : MemoryState → List ℕ → Result (Unit {0}) Failed → MemoryState
+after_open_out m name (Ok _) = record (numbered m) { output = []; asked = m.asked ++ name ∷ []; writing = true }
+after_open_out m name (Err Fault) = record (with_write_fault (numbered m)) { output = []; writing = false }
+after_open_out m name (Err Memory) = record (numbered m) { output = []; writing = false }
+
+-- what a `write` of these bytes leaves, by its answer: as many of them as it says are at the end of the output
+abbrev pub after_write : MemoryState → List ℕ → Result ℕ Failed → MemoryState
+after_write m bytes (Ok count) = record (numbered m) { output = m.output ++ take count bytes }
+after_write m bytes (Err Fault) = with_write_fault (numbered m)
+after_write m bytes (Err Memory) = numbered m
+
+-- what a `close_out` leaves, by its answer: no output is open
+abbrev pub after_close_out : MemoryState → Result (Unit {0}) Failed → MemoryState
+after_close_out m (Ok _) = record (numbered m) { writing = false }
+after_close_out m (Err Fault) = record (with_write_fault (numbered m)) { writing = false }
+after_close_out m (Err Memory) = record (numbered m) { writing = false }
+
+-- what a `say` of these bytes leaves, by its answer: as many of them as it says are at the end of standard output
+abbrev pub after_say : MemoryState → List ℕ → Result ℕ Failed → MemoryState
+after_say m bytes (Ok count) = record (numbered m) { said = m.said ++ take count bytes }
+after_say m bytes (Err Fault) = with_write_fault (numbered m)
+after_say m bytes (Err Memory) = numbered m

@@ -1,0 +1,37 @@
+-- A host over real files and standard output: what its caller may know of it.
+use Rattle.std.specs.Prelude.{ℕ, Bool, false, None}
+use Rattle.gms_host.specs.Meaning.{Meaning}
+
+-- What the caller of such a host may know of it.
+pub record RealState : Type 0 where
+  -- an input is open
+  pub reading : Bool
+  -- an output is open
+  pub writing : Bool
+  -- how many faults of reading there were
+  pub read_faults : ℕ
+  -- how many faults of writing there were
+  pub write_faults : ℕ
+
+-- nothing is open, and nothing has failed
+abbrev pub untouched : RealState
+untouched = record {
+  reading = false;
+  writing = false;
+  read_faults = 0;
+  write_faults = 0;
+}
+
+-- such a host tells no files, no names and no bytes
+abbrev pub meaning_of : RealState → Meaning
+meaning_of r = record {
+  files = None;
+  input = None;
+  output = None;
+  said = None;
+  asked = None;
+  reading = r.reading;
+  writing = r.writing;
+  read_faults = r.read_faults;
+  write_faults = r.write_faults;
+}

@@ -1,0 +1,268 @@
+//! A host over files in memory, whose calls fail where its maker says so.
+ghost use Rattle.std.specs.Prelude.{◌≡◌, ◌≢◌, ◌<◌, ◌↔◌, ◌⊎◌, ◌++◌, true, IsSome, map, min, take, drop, length, option_map, string_bytes, Contains, IsNone, IsTrue, IfOk, OnOk, OnErr, IsErrOf};
+ghost use Rattle.std.specs.FinMap as finite;
+ghost use Rattle.gms_host.specs.MemoryState.{files_of, at_start, numbered, with_read_fault, with_write_fault, meaning_of, IsToFail, after_open_in, after_read, after_open_out, after_write, after_close_out, after_say};
+
+use crate::host::{Failed, Host};
+use std::alloc::Global;
+use std::marker::Model;
+
+/// A host over files in memory, which tells all of itself.
+///
+/// It numbers its calls from 0, and a call whose number was given to fail is a fault. So is an `open_in` of a
+/// name that no file has, and no other call is one. The number and both counts of faults stand still at the
+/// greatest number of their type.
+#[derive(Debug, Drop)]
+pub struct MemHost {
+    alloc: Global,
+    files: Vec<(String, Vec<u8>)>,
+    failing: Vec<u64>,
+    calls: u64,
+    input: Vec<u8>,
+    given: usize,
+    output: Vec<u8>,
+    said: Vec<u8>,
+    asked: Vec<String>,
+    reading: bool,
+    writing: bool,
+    read_faults: u64,
+    write_faults: u64,
+}
+
+impl Model for MemHost {
+    ghost use Rattle.std.specs.Prelude.{◌≤◌, drop, length, map, string_bytes};
+    ghost use Rattle.gms_host.specs.MemoryState.{MemoryState, state_code, files_of};
+
+    ghost Value = { MemoryState };
+
+    ghost coded = { state_code };
+
+    ghost view = { λ h. record {
+      files = files_of h.files.items;
+      failing = h.failing.items;
+      calls = h.calls;
+      input = drop h.given h.input.items;
+      output = h.output.items;
+      said = h.said.items;
+      asked = map string_bytes h.asked.items;
+      reading = h.reading;
+      writing = h.writing;
+      read_faults = h.read_faults;
+      write_faults = h.write_faults;
+    } };
+
+    ghost invariant = { λ h. h.given ≤ length h.input.items };
+}
+
+impl MemHost {
+    /// A host of these files, of which the first counts where several have one name. Nothing is open, and
+    /// the calls whose numbers stand in `fail` are to fail.
+    pub fn new(alloc: Global, files: Vec<(String, Vec<u8>)>, fail: Vec<u64>) -> MemHost
+        ensures { result ≡ at_start (files_of files.items) fail.items }
+    {
+        MemHost {
+            alloc,
+            files,
+            failing: fail,
+            calls: 0,
+            input: Vec::new(alloc),
+            given: 0,
+            output: Vec::new(alloc),
+            said: Vec::new(alloc),
+            asked: Vec::new(alloc),
+            reading: false,
+            writing: false,
+            read_faults: 0,
+            write_faults: 0,
+        }
+    }
+
+    /// The number of the next call.
+    pub fn calls(&self) -> u64
+        ensures { result ≡ self.now.calls }
+    {
+        self.calls
+    }
+
+    /// The names of the files that were opened so far, in order.
+    pub fn asked(&self) -> &[String]
+        ensures { map string_bytes result.now ≡ self.now.asked }
+    {
+        self.asked.as_slice()
+    }
+
+    /// The bytes of the opened output so far.
+    pub fn output(&self) -> &[u8]
+        ensures { result.now ≡ self.now.output }
+    {
+        self.output.as_slice()
+    }
+
+    /// The bytes of standard output so far.
+    pub fn said(&self) -> &[u8]
+        ensures { result.now ≡ self.now.said }
+    {
+        self.said.as_slice()
+    }
+
+    /// Numbers this call, and says whether it is to fail.
+    fn begin_call(&mut self) -> bool
+        ensures number { self.new ≡ numbered self.old }
+        ensures fails { IsTrue result ↔ IsToFail self.old }
+    {
+        let number = self.calls;
+        self.calls = number.saturating_add(1);
+        self.failing.contains(&number)
+    }
+
+    /// Counts a fault of reading.
+    fn read_fault(&mut self) -> Failed
+        ensures fault { result ≡ Failed.Fault }
+        ensures counted { self.new ≡ with_read_fault self.old }
+    {
+        self.read_faults = self.read_faults.saturating_add(1);
+        Failed::Fault
+    }
+
+    /// Counts a fault of writing.
+    fn write_fault(&mut self) -> Failed
+        ensures fault { result ≡ Failed.Fault }
+        ensures counted { self.new ≡ with_write_fault self.old }
+    {
+        self.write_faults = self.write_faults.saturating_add(1);
+        Failed::Fault
+    }
+}
+
+impl Host for MemHost {
+    ghost meaning = { meaning_of };
+
+    ghost tells_input = { λ _ told. told };
+
+    /// Opens the file of that name, and notes the name among those asked for.
+    ///
+    /// It is a fault where the call is to fail or no file has the name. Where it fails no input is open, and the
+    /// name is not noted.
+    fn open_in(&mut self, name: &str) -> Result<(), Failed>
+        ensures after { self.new ≡ after_open_in self.old name.now result }
+        ensures found { OnOk result (IsSome (finite.get self.old.files name.now)) }
+        ensures exact { IsErrOf result Failed.Fault ↔ (IsToFail self.old ⊎ IsNone (finite.get self.old.files name.now)) }
+    {
+        self.reading = false;
+        if self.begin_call() {
+            return Err(self.read_fault());
+        }
+        let Some(bytes) = find(self.files.as_slice(), name) else {
+            return Err(self.read_fault());
+        };
+        let input = Vec::from_slice(self.alloc, bytes)?;
+        self.asked.push(String::from_str(self.alloc, name)?)?;
+        self.input = input;
+        self.given = 0;
+        self.reading = true;
+        Ok(())
+    }
+
+    /// Gives as many bytes as are left and fit, and leaves the rest of the buffer.
+    ///
+    /// It is a fault exactly where the call is to fail, and takes no memory. Then nothing is given.
+    fn read(&mut self, into: &mut [u8]) -> Result<usize, Failed>
+        requires open { self.old.reading ≡ true }
+        requires room { 0 < length into.old }
+        ensures after { self.new ≡ after_read self.old result }
+        ensures count { IfOk result (λ count. count ≡ min (length into.old) (length self.old.input)) }
+        ensures given { IfOk result (λ count. into.new ≡ take count self.old.input ++ drop count into.old) }
+        ensures kept { OnErr result (into.new ≡ into.old) }
+        ensures exact { IsErrOf result Failed.Fault ↔ IsToFail self.old }
+        ensures no_growth { result ≢ Err Failed.Memory }
+    {
+        // A call that fails takes nothing off the input.
+        if self.begin_call() {
+            return Err(self.read_fault());
+        }
+        let rest = &self.input[self.given..];
+        let count = into.len().min(rest.len());
+        into[..count].copy_from_slice(&rest[..count]);
+        self.given += count;
+        Ok(count)
+    }
+
+    /// Opens an empty output, and notes the name among those asked for.
+    ///
+    /// It is a fault exactly where the call is to fail. Where it fails the output is empty and not open, and the
+    /// name is not noted.
+    fn open_out(&mut self, name: &str) -> Result<(), Failed>
+        ensures after { self.new ≡ after_open_out self.old name.now result }
+        ensures exact { IsErrOf result Failed.Fault ↔ IsToFail self.old }
+    {
+        self.output.clear();
+        self.writing = false;
+        if self.begin_call() {
+            return Err(self.write_fault());
+        }
+        self.asked.push(String::from_str(self.alloc, name)?)?;
+        self.writing = true;
+        Ok(())
+    }
+
+    /// Adds all the bytes to the output.
+    ///
+    /// It is a fault exactly where the call is to fail. Where it fails nothing is added.
+    fn write(&mut self, from: &[u8]) -> Result<usize, Failed>
+        requires open { self.old.writing ≡ true }
+        requires some { 0 < length from.now }
+        ensures after { self.new ≡ after_write self.old from.now result }
+        ensures count { IfOk result (λ count. count ≡ length from.now) }
+        ensures exact { IsErrOf result Failed.Fault ↔ IsToFail self.old }
+    {
+        if self.begin_call() {
+            return Err(self.write_fault());
+        }
+        self.output.extend_from_slice(from)?;
+        Ok(from.len())
+    }
+
+    /// Closes the output, whose bytes stand.
+    ///
+    /// It is a fault exactly where the call is to fail, and takes no memory. The output is closed then too.
+    fn close_out(&mut self) -> Result<(), Failed>
+        requires { self.old.writing ≡ true }
+        ensures after { self.new ≡ after_close_out self.old result }
+        ensures exact { IsErrOf result Failed.Fault ↔ IsToFail self.old }
+        ensures no_growth { result ≢ Err Failed.Memory }
+    {
+        self.writing = false;
+        if self.begin_call() {
+            return Err(self.write_fault());
+        }
+        Ok(())
+    }
+
+    /// Adds all the bytes to standard output.
+    ///
+    /// It is a fault exactly where the call is to fail. Where it fails nothing is added.
+    fn say(&mut self, from: &[u8]) -> Result<usize, Failed>
+        requires { 0 < length from.now }
+        ensures after { self.new ≡ after_say self.old from.now result }
+        ensures count { IfOk result (λ count. count ≡ length from.now) }
+        ensures exact { IsErrOf result Failed.Fault ↔ IsToFail self.old }
+    {
+        if self.begin_call() {
+            return Err(self.write_fault());
+        }
+        self.said.extend_from_slice(from)?;
+        Ok(from.len())
+    }
+}
+
+/// The bytes of the first file of that name.
+fn find<'a>(files: &'a [(String, Vec<u8>)], name: &str) -> Option<&'a [u8]>
+    ensures { option_map (λ bytes. bytes.now) result ≡ finite.get (files_of files.now) name.now }
+{
+    for (known, bytes) in files {
+        if known.as_str() == name {
+            return Some(bytes.as_slice());
+        }
+    }
+    None
+}

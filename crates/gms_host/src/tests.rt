@@ -1,0 +1,77 @@
+//! That calls succeed with ample memory, and which calls of a host in memory fail.
+use crate::{Failed, Host, MemHost, RealHost};
+use std::alloc::{AllocError, Global};
+use std::fs;
+use std::test::Fail;
+
+/// A host of three files, two of them of one name.
+fn three_files(alloc: Global, fail: &[u64]) -> Result<MemHost, AllocError> {
+    let mut files = Vec::new(alloc);
+    for (name, bytes) in [("a", "first"), ("b", "x"), ("a", "second")] {
+        let bytes = Vec::from_slice(alloc, bytes.as_bytes())?;
+        files.push((String::from_str(alloc, name)?, bytes))?;
+    }
+    Ok(MemHost::new(alloc, files, Vec::from_slice(alloc, fail)?))
+}
+
+#[test]
+fn reads_a_file_in_memory(rt: HostRuntime) -> Result<(), Fail> {
+    let mut host = three_files(rt.alloc(), &[])?;
+    let mut buffer = [0u8; 3];
+    host.open_in("a")?;
+    assert_eq!(rt; host.read(&mut buffer)?, 3);
+    assert_eq!(rt; host.read(&mut buffer)?, 2);
+    assert_eq!(rt; buffer.as_slice(), b"str".as_slice());
+    Ok(())
+}
+
+#[test]
+fn writes_a_file_in_memory(rt: HostRuntime) -> Result<(), Fail> {
+    let mut host = three_files(rt.alloc(), &[])?;
+    host.open_out("c")?;
+    assert_eq!(rt; host.write(b"bytes")?, 5);
+    host.close_out()?;
+    assert_eq!(rt; host.say(b"done")?, 4);
+    assert_eq!(rt; host.output(), b"bytes".as_slice());
+    assert_eq!(rt; host.said(), b"done".as_slice());
+    assert_eq!(rt; host.asked().first().map(|name| name.as_str()), Some("c"));
+    Ok(())
+}
+
+#[test]
+fn fails_where_it_is_told_to(rt: HostRuntime) -> Result<(), Fail> {
+    let table = [
+        ("a", 0, Err(Failed::Fault)),
+        ("a", 1, Ok(())),
+        ("b", 1, Ok(())),
+        ("missing", 1, Err(Failed::Fault)),
+    ];
+    for (name, fail, want) in table {
+        let mut host = three_files(rt.alloc(), &[fail])?;
+        assert_eq!(rt; host.open_in(name), want, "{name} {fail}");
+        assert_eq!(rt; host.calls(), 1);
+        assert_eq!(rt; host.say(b"x").is_err(), fail == 1);
+        assert_eq!(rt; host.calls(), 2);
+    }
+    Ok(())
+}
+
+#[test]
+fn copies_a_real_file(rt: HostRuntime) -> Result<(), Fail> {
+    let name = "copies_a_real_file.lst";
+    let mut host = RealHost::new(rt.clone()?);
+    assert_eq!(rt; host.open_in("no_such_file.lst"), Err(Failed::Fault));
+
+    host.open_out(name)?;
+    assert_eq!(rt; host.write(b"bytes")?, 5);
+    host.close_out()?;
+    assert_eq!(rt; host.say(b"said\n")?, 5);
+
+    let mut buffer = [0u8; 8];
+    host.open_in(name)?;
+    assert_eq!(rt; host.read(&mut buffer)?, 5);
+    assert_eq!(rt; buffer.as_slice(), b"bytes\0\0\0".as_slice());
+    assert_eq!(rt; host.read(&mut buffer)?, 0);
+    fs::remove_file(&rt, name)?;
+    Ok(())
+}
