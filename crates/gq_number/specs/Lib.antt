@@ -3,3 +3,4 @@ pub mod GcdLaws
 pub mod Reduced
 pub mod Number
 pub mod Order
+pub mod Sums

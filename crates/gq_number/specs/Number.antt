@@ -1,6 +1,7 @@
 -- Exact numbers: reduced fractions of whole numbers, without limit.
 use Rattle.std.specs.Prelude.{ℕ, zero, suc, ◌+◌, ◌*◌, ◌/◌, ℤ, pos, negsuc, ◌+ℤ◌, ◌*ℤ◌, neg_ℤ, nat_abs, int_div}
 use Rattle.gq_number.specs.Reduced.{whole_reduced, ratio_reduced, neg_reduced}
+-- passed on: the greatest common divisor, and what a reduced fraction is
 unfoldable pub use Rattle.gq_number.specs.Gcd.{gcd}
 pub use Rattle.gq_number.specs.Reduced.{IsReduced}
 
