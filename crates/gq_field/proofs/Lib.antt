@@ -1,0 +1,7 @@
+pub mod Casts
+pub mod Compares
+pub mod Fractions
+pub mod Products
+pub mod Roundings
+pub mod Signs
+pub mod Sums

@@ -1,12 +1,24 @@
 -- The numbers that the fields' values mean.
+use Rattle.std.specs.Prelude.{ℕ, ℤ, pos, neg_ℤ, Bool, true, false}
 use Rattle.gq_number.specs.Number.{Number}
-use Rattle.gq_field.specs.declared.parts.Parts.{Parts}
+use Rattle.gq_number.specs.Reduced.{IsReduced, neg_reduced}
+use Rattle.gq_field.specs.declared.fraction.Fraction.{Fraction}
 use Rattle.gq_field.specs.declared.half.Half.{Half}
 use Rattle.gq_field.specs.declared.tiny.Tiny.{Tiny}
 
--- the number with these parts
-unfoldable pub parts_value : Parts → Number
-parts_value p = record { numerator = p.numerator; denominator = p.denominator; reduced = p.reduced }
+-- the whole number of this magnitude, negated or not
+abbrev pub signed : Bool → ℕ → ℤ
+signed false magnitude = pos magnitude
+signed true magnitude = neg_ℤ (pos magnitude)
+
+pub signed_reduced : (negative : Bool) (magnitude denominator : ℕ) → IsReduced (pos magnitude) denominator → IsReduced (signed negative magnitude) denominator
+signed_reduced false m d r = r
+signed_reduced true m d r = neg_reduced (pos m) d r
+
+-- the number with this sign and these parts
+unfoldable pub fraction_value : Fraction → Number
+fraction_value f =
+    record { numerator = signed f.negative f.magnitude; denominator = f.denominator; reduced = signed_reduced f.negative f.magnitude f.denominator f.reduced }
 
 -- the number that a value of the field with the limit 2^63 - 1 means
 unfoldable pub half_value : Half → Number

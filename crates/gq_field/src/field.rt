@@ -3,7 +3,11 @@ ghost use Rattle.std.specs.Prelude.{◌≡◌, ◌≢◌, ◌↔◌, ℕ, ◌<�
 ghost use Rattle.gq_number.specs.Number.{Number, whole, ratio, ◌+ℚ◌, ◌-ℚ◌, ◌*ℚ◌, ◌/ℚ◌, neg_ℚ, sign_of, truncated, floor_of, ceiling_of, rounded};
 ghost use Rattle.gq_number.specs.Order.{number_cmp};
 
-use crate::parts::Parts;
+use crate::compare::compare;
+use crate::fraction::Fraction;
+use crate::product::{product, quotient, reduced};
+use crate::rounding::{down, to_nearest, towards_zero, up};
+use crate::sum::{difference, sum};
 use std::cmp::Ordering;
 
 /// The answer of a step whose number does not fit under the limit.
@@ -16,7 +20,7 @@ pub struct Limit;
 /// does not fit answers `Limit`, and no other step does.
 pub trait ExactField: Copy {
     ghost use Rattle.gq_field.specs.Fits.{fits, sum_fits, Answers};
-    ghost use Rattle.gq_field.specs.Values.{parts_value};
+    ghost use Rattle.gq_field.specs.Values.{fraction_value};
 
     /// The greatest magnitude that a part of a value has.
     ghost limit: { ℕ };
@@ -28,87 +32,155 @@ pub trait ExactField: Copy {
     fn limit() -> u128
         ensures { result ≡ limit };
 
-    /// The parts of the value, as every field is computed in.
-    fn widened(self) -> Parts
-        ensures { parts_value result ≡ value self };
+    /// The value as a fraction, in which every field computes.
+    fn widened(self) -> Fraction
+        ensures { fraction_value result ≡ value self };
 
-    /// The value with these parts, which have to fit.
-    fn narrowed(parts: Parts) -> Self
-        requires { fits limit (parts_value parts) ≡ true }
-        ensures { value result ≡ parts_value parts };
+    /// The value of this fraction, whose parts have to fit.
+    fn narrowed(fraction: Fraction) -> Self
+        requires { fits limit (fraction_value fraction) ≡ true }
+        ensures { value result ≡ fraction_value fraction };
 
     /// 0.
     fn zero() -> Self
-        ensures { value result ≡ whole (pos 0) };
+        ensures { value result ≡ whole (pos 0) }
+    {
+        Self::from_int(0)
+    }
 
     /// 1.
     fn one() -> Self
-        ensures { value result ≡ whole (pos 1) };
+        ensures { value result ≡ whole (pos 1) }
+    {
+        Self::from_int(1)
+    }
 
     /// The whole number `n`, which has to fit.
     fn from_int(n: i64) -> Self
         requires { nat_abs n ≤ limit }
-        ensures { value result ≡ whole n };
+        ensures { value result ≡ whole n }
+    {
+        Self::narrowed(Fraction::whole(n < 0, n.unsigned_abs() as u128))
+    }
 
     /// The fraction of `num` over `den`, reduced. `Limit` exactly where a part of the reduced fraction does not fit.
     fn from_parts(num: i128, den: u128) -> Result<Self, Limit>
         requires { 0 < den }
-        ensures { Answers value result (fits limit (ratio num den)) (ratio num den) };
+        ensures { Answers value result (fits limit (ratio num den)) (ratio num den) }
+    {
+        let fraction = reduced(Self::limit(), num < 0, num.unsigned_abs(), den)?;
+        Ok(Self::narrowed(fraction))
+    }
 
     /// The numerator and the denominator of the reduced fraction.
     fn parts(self) -> (i128, u128)
         ensures numerator { result.0 ≡ (value self).numerator }
-        ensures denominator { result.1 ≡ (value self).denominator };
+        ensures denominator { result.1 ≡ (value self).denominator }
+    {
+        let fraction = self.widened();
+        (fraction.numerator(), fraction.denominator)
+    }
 
     /// Whether the value is 0.
     fn is_zero(self) -> bool
-        ensures { IsTrue result ↔ (value self ≡ whole (pos 0)) };
+        ensures { IsTrue result ↔ (value self ≡ whole (pos 0)) }
+    {
+        self.widened().magnitude == 0
+    }
 
     /// -1, 0 or 1, as the value is below, at or above 0.
     fn sign(self) -> i8
-        ensures { result ≡ sign_of (value self) };
+        ensures { result ≡ sign_of (value self) }
+    {
+        let fraction = self.widened();
+        if fraction.magnitude == 0 {
+            0
+        } else if fraction.negative {
+            -1
+        } else {
+            1
+        }
+    }
 
     /// The value of the other sign.
     fn neg(self) -> Self
-        ensures { value result ≡ neg_ℚ (value self) };
+        ensures { value result ≡ neg_ℚ (value self) }
+    {
+        Self::narrowed(self.widened().negated())
+    }
 
     /// How the two values compare as numbers.
     fn cmp_value(self, other: Self) -> Ordering
-        ensures { result ≡ number_cmp (value self) (value other) };
+        ensures { result ≡ number_cmp (value self) (value other) }
+    {
+        compare(self.widened(), other.widened())
+    }
 
     /// The whole number towards 0.
     fn trunc(self) -> Self
-        ensures { value result ≡ whole (truncated (value self)) };
+        ensures { value result ≡ whole (truncated (value self)) }
+    {
+        Self::narrowed(towards_zero(self.widened()))
+    }
 
     /// The greatest whole number that is at most the value.
     fn floor(self) -> Self
-        ensures { value result ≡ whole (floor_of (value self)) };
+        ensures { value result ≡ whole (floor_of (value self)) }
+    {
+        Self::narrowed(down(self.widened()))
+    }
 
     /// The least whole number that is at least the value.
     fn ceil(self) -> Self
-        ensures { value result ≡ whole (ceiling_of (value self)) };
+        ensures { value result ≡ whole (ceiling_of (value self)) }
+    {
+        Self::narrowed(up(self.widened()))
+    }
 
     /// The nearest whole number, and from the middle of two the one further from 0.
     fn round_whole(self) -> Self
-        ensures { value result ≡ whole (rounded (value self)) };
+        ensures { value result ≡ whole (rounded (value self)) }
+    {
+        Self::narrowed(to_nearest(self.widened()))
+    }
 
     /// The sum. `Limit` exactly where a number on the way does not fit: the numerators over the common denominator,
     /// their sum, or the denominator of the result.
     fn add(self, other: Self) -> Result<Self, Limit>
-        ensures { Answers value result (sum_fits limit (value self) (value other)) (value self +ℚ value other) };
+        ensures { Answers value result (sum_fits limit (value self) (value other))
+            (value self +ℚ value other) }
+    {
+        let fraction = sum(Self::limit(), self.widened(), other.widened())?;
+        Ok(Self::narrowed(fraction))
+    }
 
     /// The difference, which is the sum with the negated `other`, with its `Limit`.
     fn sub(self, other: Self) -> Result<Self, Limit>
-        ensures { Answers value result (sum_fits limit (value self) (neg_ℚ (value other))) (value self -ℚ value other) };
+        ensures { Answers value result (sum_fits limit (value self) (neg_ℚ (value other)))
+            (value self -ℚ value other) }
+    {
+        let fraction = difference(Self::limit(), self.widened(), other.widened())?;
+        Ok(Self::narrowed(fraction))
+    }
 
     /// The product. `Limit` exactly where a part of the reduced product does not fit.
     fn mul(self, other: Self) -> Result<Self, Limit>
-        ensures { Answers value result (fits limit (value self *ℚ value other)) (value self *ℚ value other) };
+        ensures { Answers value result (fits limit (value self *ℚ value other))
+            (value self *ℚ value other) }
+    {
+        let fraction = product(Self::limit(), self.widened(), other.widened())?;
+        Ok(Self::narrowed(fraction))
+    }
 
     /// The quotient by `d`, which is not 0. `Limit` exactly where a part of the reduced quotient does not fit.
     fn div(self, d: Self) -> Result<Self, Limit>
         requires { value d ≢ whole (pos 0) }
-        ensures { Answers value result (fits limit (value self /ℚ value d)) (value self /ℚ value d) };
+        ensures { Answers value result (fits limit (value self /ℚ value d))
+            (value self /ℚ value d) }
+    {
+        let fraction = quotient(Self::limit(), self.widened(), d.widened())?;
+        Ok(Self::narrowed(fraction))
+    }
 
     /// The least limit is 127, and the greatest 2^127 - 1.
     ghost limit_range: { (127 ≤ limit) × (limit < 2 ^ 127) };

@@ -1,12 +1,19 @@
 //! Exact numbers with a limit: fields of fractions whose parts fit, and what a step answers that does not.
 #![tactic(auto)]
 
+mod compare;
+mod divisor;
 mod field;
+mod fraction;
 mod half;
-mod parts;
+mod product;
+mod rounding;
+mod sum;
+#[cfg(test)]
+mod tests;
 mod tiny;
 
 pub use field::{ExactField, Limit};
+pub use fraction::Fraction;
 pub use half::Half;
-pub use parts::Parts;
 pub use tiny::Tiny;

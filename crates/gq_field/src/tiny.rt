@@ -2,12 +2,46 @@
 ghost use Rattle.std.specs.Prelude.{◌<◌, ◌^◌, nat_abs};
 ghost use Rattle.gq_number.specs.Reduced.{IsReduced};
 
+use crate::field::ExactField;
+use crate::fraction::Fraction;
+
 /// A fraction whose parts are at most 127 in magnitude.
-#[derive(Clone, Copy, Debug)]
+#[derive(Clone, Copy, Debug, PartialEq, Eq)]
 pub struct Tiny {
     numerator: i8,
     denominator: u8,
     ghost reduced: { IsReduced numerator denominator },
     ghost numerator_small: { nat_abs numerator < 2 ^ 7 },
     ghost denominator_small: { denominator < 2 ^ 7 },
+}
+
+impl ExactField for Tiny {
+    ghost use Rattle.std.specs.Prelude.{◌-◌, ◌^◌};
+    ghost use Rattle.gq_field.specs.Values.{tiny_value};
+    ghost use Rattle.gq_field.specs.FieldLaws.{tiny_range, tiny_within, tiny_same_value};
+
+    ghost limit = { 127 };
+
+    ghost value = { tiny_value };
+
+    fn limit() -> u128 {
+        i8::MAX as u128
+    }
+
+    fn widened(self) -> Fraction {
+        Fraction::new(self.numerator as i128, self.denominator as u128)
+    }
+
+    fn narrowed(fraction: Fraction) -> Self {
+        Tiny {
+            numerator: fraction.numerator() as i8,
+            denominator: fraction.denominator as u8,
+        }
+    }
+
+    ghost limit_range = { tiny_range };
+
+    ghost within = { tiny_within };
+
+    ghost same_value = { tiny_same_value };
 }

@@ -1,0 +1,44 @@
+//! The four ways from a fraction to a whole number.
+ghost use Rattle.std.specs.Prelude.{◌≡◌};
+ghost use Rattle.gq_number.specs.Number.{whole, truncated, floor_of, ceiling_of, rounded};
+ghost use Rattle.gq_field.specs.Values.{fraction_value};
+
+use crate::fraction::Fraction;
+
+/// The whole number towards 0.
+pub fn towards_zero(x: Fraction) -> Fraction
+    ensures { fraction_value result ≡ whole (truncated (fraction_value x)) }
+{
+    Fraction::whole(x.negative, x.magnitude / x.denominator)
+}
+
+/// The greatest whole number that is at most the fraction.
+pub fn down(x: Fraction) -> Fraction
+    ensures { fraction_value result ≡ whole (floor_of (fraction_value x)) }
+{
+    if x.is_negative() {
+        Fraction::whole(true, (x.magnitude - 1) / x.denominator + 1)
+    } else {
+        Fraction::whole(false, x.magnitude / x.denominator)
+    }
+}
+
+/// The least whole number that is at least the fraction.
+pub fn up(x: Fraction) -> Fraction
+    ensures { fraction_value result ≡ whole (ceiling_of (fraction_value x)) }
+{
+    down(x.negated()).negated()
+}
+
+/// The nearest whole number, and from the middle of two the one further from 0.
+pub fn to_nearest(x: Fraction) -> Fraction
+    ensures { fraction_value result ≡ whole (rounded (fraction_value x)) }
+{
+    let below = x.magnitude / x.denominator;
+    let rest = x.magnitude % x.denominator;
+    if rest >= x.denominator - rest {
+        Fraction::whole(x.negative, below + 1)
+    } else {
+        Fraction::whole(x.negative, below)
+    }
+}
