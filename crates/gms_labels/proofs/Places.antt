@@ -1,0 +1,121 @@
+-- Laws of places: what holds of the place of a text in a list, and what entering a text does to places.
+use Rattle.std.proofs.Common.{◌≡◌, ℕ, ◌+◌, ◌<◌, ◌≤◌, Bool, true, false, cond, ltb, not, List, [], ◌∷◌, ◌++◌, length, map, get_or, Option, Some, None, position, is_some, IsSome, refl, sym, ap, ◌∙◌, arith, inl, inr}
+use Rattle.std.specs.List.{position_or_len}
+use Rattle.std.specs.Prelude.{slice_get}
+use Rattle.std.proofs.lemmas.List.{length-map, length_push}
+use Rattle.std.proofs.lemmas.List.Folds.{position_or_len_push}
+use Rattle.std.proofs.lemmas.List.Sums.{prefix_len-le-length, position_or_len_is}
+use Rattle.std.proofs.lemmas.List.Quantifiers.{position-Some}
+use Rattle.std.proofs.lemmas.Option.{get_or_from_slice_get, slice_get_cases}
+use Rattle.std.proofs.lemmas.Bool.Decides.{nat_tests}
+use Rattle.std.proofs.lemmas.Slice.Eq.{bytes_eq-Decides}
+use Rattle.gms_labels.specs.Labels.{folded, is_same, place_of, entered, AreDistinct, AreLabels}
+
+module _ {X : Type 0} (p : X → Bool) where
+  -- a place that is answered is the first that passes
+  pub position_is : (xs : List X) (n : ℕ) → position p xs ≡ Some n → (n < length xs) × (position_or_len p xs ≡ n)
+  position_is xs n e = by (ltb (position_or_len p xs) (length xs)) refl e
+    where
+      by : (b : Bool) → ltb (position_or_len p xs) (length xs) ≡ b → cond b (Some (position_or_len p xs)) None ≡ Some n → (n < length xs) × (position_or_len p xs ≡ n)
+      by true t e = let q : position_or_len p xs ≡ n = cc in (grind (arith, nat_tests), q)
+      by false t e = absurd cc
+
+  -- the first place that passes is answered
+  pub position_from : (xs : List X) (n : ℕ) → n < length xs → position_or_len p xs ≡ n → position p xs ≡ Some n
+  position_from xs n l e = grind (arith, nat_tests)
+
+  -- where no place is answered the list was passed to its end
+  pub position_none : (xs : List X) → position p xs ≡ None → position_or_len p xs ≡ length xs
+  position_none xs e = by (ltb (position_or_len p xs) (length xs)) refl e
+    where
+      by : (b : Bool) → ltb (position_or_len p xs) (length xs) ≡ b → cond b (Some (position_or_len p xs)) None ≡ None → position_or_len p xs ≡ length xs
+      by true t e = absurd cc
+      by false t e = grind (arith, nat_tests, prefix_len-le-length (λ x. not (p x)) xs)
+
+  -- one more element leaves a place that was answered
+  pub position-push_kept : (xs : List X) (y : X) (n : ℕ) → position p xs ≡ Some n → position p (xs ++ y ∷ []) ≡ Some n
+  position-push_kept xs y n e =
+      let at = position_is xs n e in
+      position_from (xs ++ y ∷ []) n (omega (arith, at.0, length_push xs y)) (grind (arith, nat_tests, at.0, at.1, position_or_len_push p xs y))
+
+  -- a new element that passes has the last place
+  pub position-push_new : (xs : List X) (y : X) → position p xs ≡ None → p y ≡ true → position p (xs ++ y ∷ []) ≡ Some (length xs)
+  position-push_new xs y e passes =
+      position_from (xs ++ y ∷ []) (length xs) (omega (arith, length_push xs y)) (grind (arith, nat_tests, passes, position_none xs e, position_or_len_push p xs y))
+
+-- the place in a list of images is the place of the first whose image passes
+pub position-map : {X Y : Type 0} (p : Y → Bool) (f : X → Y) (xs : List X) → position p (map f xs) ≡ position (λ x. p (f x)) xs
+position-map p f xs = grind (arith, first-map p f xs, length-map xs f)
+  where
+    first-map : {X Y : Type 0} (p : Y → Bool) (f : X → Y) (xs : List X) → position_or_len p (map f xs) ≡ position_or_len (λ x. p (f x)) xs
+    first-map p f [] = refl
+    first-map p f (x ∷ xs) = ap (λ n. cond (not (p (f x))) (1 + n) 0) (first-map p f xs)
+
+-- a text is the same label as itself
+pub is_same_refl : (text : List ℕ) → is_same text text ≡ true
+is_same_refl text = (bytes_eq-Decides (folded text) (folded text)).1 refl
+
+-- two texts that are one label are so in either order
+pub is_same_sym : (a b : List ℕ) → is_same a b ≡ true → is_same b a ≡ true
+is_same_sym a b e = (bytes_eq-Decides (folded b) (folded a)).1 (sym ((bytes_eq-Decides (folded a) (folded b)).0 e))
+
+-- entering a text keeps the place of each text that was there
+pub place_of-entered_kept : (texts : List (List ℕ)) (text other : List ℕ) (n : ℕ) → place_of texts other ≡ Some n → place_of (entered texts text) other ≡ Some n
+place_of-entered_kept texts text other n e = by (is_some (place_of texts text))
+  where
+    by : (b : Bool) → place_of (cond b texts (texts ++ text ∷ [])) other ≡ Some n
+    by true = e
+    by false = position-push_kept (is_same other) texts text n e
+
+-- a new text gets the last place
+pub place_of-entered_new : (texts : List (List ℕ)) (text : List ℕ) → place_of texts text ≡ None → place_of (entered texts text) text ≡ Some (length texts)
+place_of-entered_new texts text e =
+    rw e (position-push_new (is_same text) texts text e (is_same_refl text))
+
+-- a text that was entered is found
+pub place_of-entered : (texts : List (List ℕ)) (text : List ℕ) → IsSome (place_of (entered texts text) text)
+place_of-entered texts text = by (place_of texts text) refl
+  where
+    by : (o : Option ℕ) → place_of texts text ≡ o → IsSome (place_of (entered texts text) text)
+    by None e = ap is_some (place_of-entered_new texts text e)
+    by (Some n) e = ap is_some (place_of-entered_kept texts text text n e)
+
+-- two texts that are one label with a third are one label
+pub is_same_trans : (a b c : List ℕ) → is_same a b ≡ true → is_same b c ≡ true → is_same a c ≡ true
+is_same_trans a b c p q =
+    (bytes_eq-Decides (folded a) (folded c)).1 ((bytes_eq-Decides (folded a) (folded b)).0 p ∙ (bytes_eq-Decides (folded b) (folded c)).0 q)
+
+-- a place is unique: the place of a text is the one place at which its label stands
+pub place_of-unique : (texts : List (List ℕ)) (text : List ℕ) (n : ℕ) → AreDistinct texts → n < length texts → is_same text (get_or texts n []) ≡ true → place_of texts text ≡ Some n
+place_of-unique texts text n distinct l e =
+    position_from (is_same text) texts n l (position_or_len_is (is_same text) texts n [] (omega arith) (λ k below. by k below (is_same text (get_or texts k [])) refl) (λ _. e))
+  where
+    by : (k : ℕ) → k < n → (b : Bool) → is_same text (get_or texts k []) ≡ b → b ≡ false
+    by k below false _ = refl
+    by k below true same =
+        let at : is_same (get_or texts k []) (get_or texts n []) ≡ true = is_same_trans (get_or texts k []) text (get_or texts n []) (is_same_sym text (get_or texts k []) same) e in
+        let apart : is_same (get_or texts k []) (get_or texts n []) ≡ false = distinct k n [] below l in
+        absurd cc
+
+-- the label at a place that is answered is that of the text
+pub place_of-reads : (texts : List (List ℕ)) (text : List ℕ) (n : ℕ) → place_of texts text ≡ Some n → (n < length texts) × (is_same text (get_or texts n []) ≡ true)
+place_of-reads texts text n e =
+    let at = position-Some (is_same text) texts n [] e in (at.0, at.1)
+
+-- a place that has a text is a place of the list
+within-at : (texts : List (List ℕ)) (n : ℕ) (text : List ℕ) → slice_get texts n ≡ Some text → n < length texts
+within-at texts n text at =
+    let cases = (slice_get_cases texts n).1 in
+    elim cases [ inl found ↦ found.1 | inr past ↦ absurd (let none : slice_get texts n ≡ None = past.1 in cc) ]
+
+-- the place of the text at a place is that place
+pub place_of-at : (texts : List (List ℕ)) (n : ℕ) (text : List ℕ) → AreLabels texts → slice_get texts n ≡ Some text → place_of texts text ≡ Some n
+place_of-at texts n text labels at =
+    let read : get_or texts n [] ≡ text = get_or_from_slice_get texts n text [] at in
+    place_of-unique texts text n labels.distinct (within-at texts n text at) (rw read (is_same_refl text))
+
+-- the text at a place is short
+pub short-at : (texts : List (List ℕ)) (n : ℕ) (text : List ℕ) → AreLabels texts → slice_get texts n ≡ Some text → length text ≤ 63
+short-at texts n text labels at =
+    let read : get_or texts n [] ≡ text = get_or_from_slice_get texts n text [] at in
+    rw read at (labels.short n [] (within-at texts n text at))

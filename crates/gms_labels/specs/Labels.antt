@@ -1,0 +1,37 @@
+-- Labels: a list of texts that differ when letter case is ignored, each named by its place.
+use Rattle.std.specs.Prelude.{◌≡◌, ℕ, ◌≤◌, Bool, false, List, [], ◌∷◌, ◌++◌, length, map, Option, None, position, is_some, if◌then◌else◌, All, AllPairs}
+use Rattle.std.specs.Char.{to_ascii_lowercase}
+use Rattle.std.specs.Str.{str_eq_ignore_ascii_case}
+
+-- a text with its ASCII letters in lower case
+abbrev pub folded : List ℕ → List ℕ
+folded text = map to_ascii_lowercase text
+
+-- whether two texts are one label: they are equal when letter case is ignored
+abbrev pub is_same : List ℕ → List ℕ → Bool
+is_same a b = str_eq_ignore_ascii_case a b
+
+-- the place of a text in a list, letter case ignored
+abbrev pub place_of : List (List ℕ) → List ℕ → Option ℕ
+place_of texts text = position (is_same text) texts
+
+-- the list after a text was entered: it goes last where it is new
+abbrev pub entered : List (List ℕ) → List ℕ → List (List ℕ)
+entered texts text = if is_some (place_of texts text) then texts else texts ++ text ∷ []
+
+-- the text is new, and the list has as many texts as a table may have
+abbrev pub IsFullFor : List (List ℕ) → List ℕ → Type 0
+IsFullFor texts text = (place_of texts text ≡ None) × (length texts ≡ 65536)
+
+-- no two texts of the list are one label
+abbrev pub AreDistinct : List (List ℕ) → Type 0
+AreDistinct texts = AllPairs (λ a b. is_same a b ≡ false) texts
+
+-- What holds of the texts of each table.
+pub record AreLabels (texts : List (List ℕ)) : Type 0 where
+  -- no two are one label
+  pub distinct : AreDistinct texts
+  -- there are at most 65,536
+  pub few : length texts ≤ 65536
+  -- each has at most 63 bytes
+  pub short : All (λ text. length text ≤ 63) texts

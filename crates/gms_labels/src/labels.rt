@@ -1,0 +1,131 @@
+//! The table of labels.
+ghost use Rattle.std.specs.Prelude.{◌≡◌, ◌<◌, ◌≤◌, ◌↔◌, ℕ, List, [], length, slice_get, IsSome, IfSome, IsOk, IfOk, OnOk, OnErr, IsErrOf, IsTrue, IsOkUnless, ◌∷◌, ◌++◌};
+ghost use Rattle.gms_labels.specs.Labels.{place_of, entered, IsFullFor, AreLabels};
+
+use crate::fault::LabelFault;
+use crate::folded::Folded;
+use indexmap::IndexMap;
+use std::alloc::Global;
+use std::marker::Model;
+
+/// How many labels a table has at most.
+pub const MOST_LABELS: usize = 65_536;
+
+/// How many bytes a label has at most.
+pub const MOST_BYTES: usize = 63;
+
+/// A table of labels: texts that differ when letter case is ignored, each named by its place, in the order in
+/// which they were entered.
+///
+/// A text keeps the case in which it was first written. Only the case of ASCII letters is ignored.
+#[derive(Drop)]
+pub struct Labels {
+    texts: IndexMap<Vec<u8>, String>,
+}
+
+impl Model for Labels {
+    ghost use Rattle.std.specs.Prelude.{List, ℕ};
+    ghost use Rattle.gms_labels.specs.Table.{texts_of, IsKept};
+
+    ghost Value = { List (List ℕ) };
+
+    ghost view = { λ l. texts_of l.texts.entries };
+
+    ghost invariant = { λ l. IsKept l.texts.entries };
+}
+
+impl Labels {
+    /// An empty table.
+    pub fn new(alloc: Global) -> Labels
+        ensures { result ≡ [] }
+    {
+        Labels {
+            texts: IndexMap::new(alloc),
+        }
+    }
+
+    /// How many labels there are.
+    pub fn len(&self) -> u32
+        ensures len { result ≡ length self.now }
+        ensures labels { AreLabels self.now }
+    {
+        self.texts.len() as u32
+    }
+
+    /// Whether there is no label.
+    pub fn is_empty(&self) -> bool
+        ensures { IsTrue result ↔ (self.now ≡ []) }
+    {
+        self.texts.is_empty()
+    }
+
+    /// The place of a text, letter case ignored, which is entered last where it is new.
+    ///
+    /// `Full` comes exactly where the text is new and the table has 65,536 labels. After `Full`, and after want of
+    /// memory, the table is as it was.
+    pub fn enter(&mut self, alloc: Global, text: &str) -> Result<u32, LabelFault>
+        requires { length text.now ≤ MOST_BYTES }
+        // The text has the place that is answered, and a new one stands last.
+        ensures ok { OnOk result (self.new ≡ entered self.old text.now) }
+        ensures place { IfOk result (λ n. place_of self.new text.now ≡ Some n) }
+
+        // A text that is there needs no room.
+        ensures known { IsSome (place_of self.old text.now) → IsOk result }
+        ensures full { IsErrOf result LabelFault.Full ↔ IsFullFor self.old text.now }
+        ensures err { OnErr result (self.new ≡ self.old) }
+
+        // Places stay.
+        ensures keeps { (other : List ℕ) (n : ℕ) → place_of self.old other ≡ Some n → place_of self.new other ≡ Some n }
+        ensures labels { AreLabels self.new }
+    {
+        if let Some(place) = self.find(text) {
+            return Ok(place);
+        }
+        let place = self.len();
+        if place as usize == MOST_LABELS {
+            return Err(LabelFault::Full);
+        }
+        self.append(alloc, text)?;
+        Ok(place)
+    }
+
+    /// Enters a text that is new, where there is room for it.
+    fn append(&mut self, alloc: Global, text: &str) -> Result<(), LabelFault>
+        requires short { length text.now ≤ MOST_BYTES }
+        requires new { place_of self.old text.now ≡ None }
+        requires room { length self.old < MOST_LABELS }
+        ensures ok { OnOk result (self.new ≡ self.old ++ text.now ∷ []) }
+        ensures err { OnErr result (self.new ≡ self.old) }
+        ensures memory { IsOkUnless result LabelFault.Memory }
+        ensures labels { OnOk result (AreLabels self.new) }
+    {
+        let folded = Folded::new(text);
+        let key = Vec::from_slice(alloc, folded.as_slice())?;
+        let written = String::from_str(alloc, text)?;
+        self.texts.insert(key, written)?;
+        Ok(())
+    }
+
+    /// The place of a text, letter case ignored. `None` exactly where it is not there.
+    pub fn find(&self, text: &str) -> Option<u32>
+        requires { length text.now ≤ MOST_BYTES }
+        ensures place { result ≡ place_of self.now text.now }
+        ensures within { IfSome result (λ n. n < length self.now) }
+        ensures labels { AreLabels self.now }
+    {
+        let folded = Folded::new(text);
+        let place = self.texts.get_index_of(folded.as_slice())?;
+        Some(place as u32)
+    }
+
+    /// The text at a place, as it was first written.
+    pub fn text(&self, n: u32) -> &str
+        requires { n < length self.now }
+        ensures value { slice_get self.now n ≡ Some result.now }
+        ensures short { length result.now ≤ MOST_BYTES }
+        ensures place { place_of self.now result.now ≡ Some n }
+    {
+        let (_, written) = self.texts.get_index(n as usize).unwrap();
+        written.as_str()
+    }
+}
