@@ -1,0 +1,45 @@
+-- Sets of tuples, each seen as the ordered list of its members.
+use Rattle.std.specs.Prelude.{ℕ, Bool, not, List, ◌∷◌, ◌++◌, filter, fold, count_by, Option, position, if◌then◌else◌}
+use Rattle.std.specs.List.{list_any}
+use Rattle.gms_tuple.specs.TupleOrder.{is_before, same_tuple, begins_with}
+
+-- whether a tuple is a member
+abbrev pub has : List (List ℕ) → List ℕ → Bool
+has members tuple = list_any (λ member. same_tuple member tuple) members
+
+-- the place of a tuple among the members
+abbrev pub place_of : List (List ℕ) → List ℕ → Option ℕ
+place_of members tuple = position (λ member. same_tuple member tuple) members
+
+-- the members, and the tuple at its place in the order
+abbrev pub inserted : List (List ℕ) → List ℕ → List (List ℕ)
+inserted members tuple =
+    if has members tuple then members else filter (λ member. is_before member tuple) members ++ tuple ∷ filter (λ member. is_before tuple member) members
+
+-- the members other than the tuple
+abbrev pub removed : List (List ℕ) → List ℕ → List (List ℕ)
+removed members tuple = filter (λ member. not (same_tuple member tuple)) members
+
+-- the members of either set
+abbrev pub union : List (List ℕ) → List (List ℕ) → List (List ℕ)
+union members others = fold inserted members others
+
+-- the members that the other set lacks
+abbrev pub difference : List (List ℕ) → List (List ℕ) → List (List ℕ)
+difference members others = filter (λ member. not (has others member)) members
+
+-- the members that the other set has
+abbrev pub intersection : List (List ℕ) → List (List ℕ) → List (List ℕ)
+intersection members others = filter (λ member. has others member) members
+
+-- how many members come before a prefix
+abbrev pub count_before : List (List ℕ) → List ℕ → ℕ
+count_before members prefix = count_by (λ member. is_before member prefix) members
+
+-- how many members begin with a prefix
+abbrev pub count_with : List (List ℕ) → List ℕ → ℕ
+count_with members prefix = count_by (λ member. begins_with member prefix) members
+
+-- the members that begin with a prefix, in order
+abbrev pub those_with : List (List ℕ) → List ℕ → List (List ℕ)
+those_with members prefix = filter (λ member. begins_with member prefix) members

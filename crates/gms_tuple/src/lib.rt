@@ -1,0 +1,10 @@
+//! Tuples of labels in their one order, and sets of tuples as ordered lists.
+#![tactic(auto)]
+
+mod set;
+#[cfg(test)]
+mod tests;
+mod tuple;
+
+pub use set::TupleSet;
+pub use tuple::{MOST_LABELS, Tuple};

@@ -1,0 +1,134 @@
+//! A tuple of labels, and the order of tuples.
+ghost use Rattle.std.specs.Prelude.{◌≡◌, ◌<◌, ◌≤◌, ℕ, List, [], ◌∷◌, ◌++◌, length, nat_eq, IfOk, OnOk, OnErr};
+ghost use Rattle.gms_tuple.specs.TupleOrder.{tuple_cmp, begins_with};
+
+use smallvec::SmallVec;
+use std::alloc::{AllocError, Global};
+use std::cmp::Ordering;
+use std::marker::Model;
+
+/// How many labels a tuple has at most.
+pub const MOST_LABELS: usize = 10;
+
+/// A tuple of labels, each by its number: at most 10, of which up to four need no memory.
+///
+/// Tuples are ordered label by label, and a proper prefix comes before the longer tuple. In
+/// `parameter c(i,j) /seattle.chicago 1.7/` the element is a tuple of two labels.
+#[derive(Drop)]
+pub struct Tuple {
+    labels: SmallVec<u32, 4>,
+}
+
+impl Model for Tuple {
+    ghost use Rattle.std.specs.Prelude.{List, ℕ, length, ◌≤◌};
+
+    ghost Value = { List ℕ };
+
+    ghost view = { λ t. t.labels.items };
+
+    ghost invariant = { λ t. length t.labels.items ≤ 10 };
+}
+
+impl Tuple {
+    /// The tuple of no labels.
+    pub fn new(alloc: Global) -> Tuple
+        ensures { result ≡ [] }
+    {
+        Tuple {
+            labels: SmallVec::new(alloc),
+        }
+    }
+
+    /// Adds a label at the end. After want of memory the tuple is as it was.
+    pub fn push(&mut self, _alloc: Global, label: u32) -> Result<(), AllocError>
+        requires { length self.old < MOST_LABELS }
+        ensures ok { OnOk result (self.new ≡ self.old ++ label ∷ []) }
+        ensures err { OnErr result (self.new ≡ self.old) }
+    {
+        self.labels.push(label)?;
+        Ok(())
+    }
+
+    /// An equal tuple.
+    pub fn copy(&self, alloc: Global) -> Result<Tuple, AllocError>
+        ensures { IfOk result (λ copy. copy ≡ self.now) }
+    {
+        let labels = SmallVec::from_slice(alloc, self.labels.as_slice())?;
+        Ok(Tuple { labels })
+    }
+
+    /// The labels, in order.
+    pub fn as_slice(&self) -> &[u32]
+        ensures value { result.now ≡ self.now }
+        ensures most { length result.now ≤ MOST_LABELS }
+    {
+        self.labels.as_slice()
+    }
+
+    /// How the two tuples compare: label by label, a proper prefix first.
+    pub fn order(&self, o: &Tuple) -> Ordering
+        ensures { result ≡ tuple_cmp self.now o.now }
+    {
+        self.labels.as_slice().cmp(o.labels.as_slice())
+    }
+
+    /// Whether the tuple begins with all labels of `prefix`.
+    pub fn begins_with(&self, prefix: &Tuple) -> bool
+        ensures { result ≡ begins_with self.now prefix.now }
+    {
+        self.labels.as_slice().starts_with(prefix.labels.as_slice())
+    }
+}
+
+impl PartialEq for Tuple {
+    ghost use Rattle.std.specs.Prelude.{nat_eq};
+    ghost use Rattle.std.proofs.lemmas.Cmp.{nat_list_eq_equiv};
+    ghost use Rattle.std.specs.Cmp.{partial_equiv_from_equiv};
+    ghost use Rattle.gms_tuple.specs.TupleOrder.{same_tuple};
+
+    ghost eq = { same_tuple };
+
+    ghost laws = { partial_equiv_from_equiv nat_list_eq_equiv };
+
+    fn eq(&self, other: &Tuple) -> bool {
+        self.labels.as_slice() == other.labels.as_slice()
+    }
+}
+
+impl Eq for Tuple {
+    ghost use Rattle.std.proofs.lemmas.Cmp.{nat_list_eq_equiv};
+
+    ghost laws = { nat_list_eq_equiv };
+}
+
+impl PartialOrd for Tuple {
+    ghost use Rattle.std.specs.Ordering.{as_partial_cmp};
+    ghost use Rattle.gms_tuple.specs.TupleOrder.{tuple_cmp};
+    ghost use Rattle.gms_tuple.specs.OrderLaws.{tuple_cmp-partial};
+
+    ghost partial_cmp = { as_partial_cmp tuple_cmp };
+
+    ghost laws = { tuple_cmp-partial };
+
+    fn partial_cmp(&self, other: &Tuple) -> Option<Ordering> {
+        Some(self.order(other))
+    }
+}
+
+impl Ord for Tuple {
+    ghost use Rattle.std.specs.Prelude.{refl};
+    ghost use Rattle.gms_tuple.specs.TupleOrder.{tuple_cmp};
+    ghost use Rattle.gms_tuple.specs.OrderLaws.{tuple_cmp-total, same_tuple-tuple_cmp};
+
+    ghost cmp = { tuple_cmp };
+
+    ghost total = { tuple_cmp-total };
+
+    ghost matches_partial_cmp = { λ x y. refl };
+
+    ghost matches_eq = { same_tuple-tuple_cmp };
+
+    fn cmp(&self, other: &Tuple) -> Ordering {
+        self.order(other)
+    }
+}
