@@ -1,0 +1,59 @@
+-- Trees of expressions as contracts compare them: what an expression is, wherever its parts are kept in memory.
+use Rattle.std.specs.Prelude.{ℕ, Bool, List}
+use Rattle.gms_labels.specs.declared.place.Place.{Place}
+use Rattle.gms_ast.specs.declared.expression.Suffix.{Suffix}
+use Rattle.gms_ast.specs.declared.expression.FoldOp.{FoldOp}
+use Rattle.gms_ast.specs.declared.expression.LagOp.{LagOp}
+use Rattle.gms_ast.specs.declared.expression.Function.{Function}
+use Rattle.gms_ast.specs.declared.expression.RelOp.{RelOp}
+
+-- What stands with a part of a node.
+pub data Mark : Type 0 where
+  -- nothing
+  plain : Mark
+  -- its place, in a power
+  placed : Place → Mark
+  -- its place and whether it is subtracted or divides, in a sum or a product
+  signed : Place → Bool → Mark
+  -- the relation before it
+  related : RelOp → Mark
+  -- whether it is joined by `xor`
+  chosen : Bool → Mark
+
+mutual
+  -- An expression over numbers of N.
+  pub data Tree (N : Type 0) : Type 0 where
+    number : N → Tree N
+    yes : Tree N
+    no : Tree N
+    reference : Place → ℕ → Suffix → Indices N → Tree N
+    place_in_set : Place → ℕ → Tree N
+    size_of_set : Place → ℕ → Tree N
+    call : Place → Function → Parts N → Tree N
+    fold_over : Place → FoldOp → Control N → Tree N → Tree N
+    negated : Tree N → Tree N
+    sum : Parts N → Tree N
+    product : Parts N → Tree N
+    power : Parts N → Tree N
+    relation : Parts N → Tree N
+    not_so : Tree N → Tree N
+    all_of : Parts N → Tree N
+    one_of : Parts N → Tree N
+    guarded : Tree N → Parts N → Tree N
+
+  -- Parts of a node in order, each with its mark.
+  pub data Parts (N : Type 0) : Type 0 where
+    no_part : Parts N
+    part : Mark → Tree N → Parts N → Parts N
+
+  -- Indices of a reference in order: a label, a set, or a set with a lag, the place of its amount and the amount.
+  pub data Indices (N : Type 0) : Type 0 where
+    no_index : Indices N
+    label : ℕ → Indices N → Indices N
+    set : ℕ → Indices N → Indices N
+    lagged : ℕ → LagOp → Place → Tree N → Indices N → Indices N
+
+  -- The sets of a fold or a loop, without a condition or with one.
+  pub data Control (N : Type 0) : Type 0 where
+    over : List ℕ → Control N
+    over_where : List ℕ → Tree N → Control N

@@ -1,0 +1,207 @@
+//! The tree of an expression.
+use crate::sequence::Sequence;
+use gms_labels::Place;
+
+/// Which value of a symbol a reference takes. Each example is a reference.
+#[derive(Clone, Copy, Debug, PartialEq, Eq)]
+pub enum Suffix {
+    /// `p(i)`: no suffix.
+    None,
+    /// `x.lo(i)`: the lower bound.
+    Lo,
+    /// `x.up(i)`: the upper bound.
+    Up,
+    /// `x.l(i)`: the level.
+    L,
+    /// `e.m(i)`: the marginal.
+    M,
+    /// `x.fx(i)`: both bounds and the level.
+    Fx,
+    /// `m.modelstat`: the model's status.
+    ModelStat,
+    /// `m.solvestat`: the solver's status.
+    SolveStat,
+}
+
+/// How a fold joins its values.
+#[derive(Clone, Copy, Debug, PartialEq, Eq)]
+pub enum FoldOp {
+    /// `sum(i, p(i))`
+    Sum,
+    /// `prod(i, p(i))`
+    Prod,
+    /// `smin(i, p(i))`
+    Smin,
+    /// `smax(i, p(i))`
+    Smax,
+}
+
+/// How an index goes from an element to another of its set.
+#[derive(Clone, Copy, Debug, PartialEq, Eq)]
+pub enum LagOp {
+    /// `i+1`
+    Lead,
+    /// `i-1`
+    Lag,
+    /// `i++1`
+    CircularLead,
+    /// `i--1`
+    CircularLag,
+}
+
+/// A function that an expression calls.
+#[derive(Clone, Copy, Debug, PartialEq, Eq)]
+pub enum Function {
+    /// `abs(x)`
+    Abs,
+    /// `max(x,y)`
+    Max,
+    /// `min(x,y)`
+    Min,
+    /// `mod(x,y)`
+    Mod,
+    /// `sqr(x)`
+    Sqr,
+    /// `power(x,3)`
+    Power,
+    /// `round(x)`
+    Round,
+    /// `floor(x)`
+    Floor,
+    /// `ceil(x)`
+    Ceil,
+    /// `trunc(x)`
+    Trunc,
+    /// `sign(x)`
+    Sign,
+    /// One that this language leaves out, as `exp(x)`.
+    NotInProfile,
+}
+
+/// A relation between two numbers.
+#[derive(Clone, Copy, Debug, PartialEq, Eq)]
+pub enum RelOp {
+    /// `<` or `lt`
+    Lt,
+    /// `<=` or `le`
+    Le,
+    /// `=` or `eq`
+    Eq,
+    /// `<>` or `ne`
+    Ne,
+    /// `>=` or `ge`
+    Ge,
+    /// `>` or `gt`
+    Gt,
+}
+
+/// An expression over the numbers of a field.
+///
+/// Parentheses and a sign `+` leave no trace, and a production without an operator adds no node. The place of a part
+/// of a sum, a product or a power is that of its first character, its own sign included. The mark of a first part says
+/// nothing: it is false, or `Eq`.
+#[cycle(expression)]
+#[derive(Drop)]
+pub enum Expr<F> {
+    /// A number, as `2.5`.
+    Number(F),
+    /// `yes`
+    Yes,
+    /// `no`
+    No,
+    /// A reference to a symbol, as `x.l(i,"a")`.
+    Ref {
+        /// The place of its first character.
+        at: Place,
+        /// The name, by its number.
+        name: u32,
+        /// The suffix.
+        suffix: Suffix,
+        /// The indices, in order.
+        indices: Vec<Index<F>>,
+    },
+    /// The place of an element in its set, as `ord(i)`.
+    Ord {
+        /// The place of its first character.
+        at: Place,
+        /// The set, by the number of its name.
+        set: u32,
+    },
+    /// How many elements a set has, as `card(i)`.
+    Card {
+        /// The place of its first character.
+        at: Place,
+        /// The set, by the number of its name.
+        set: u32,
+    },
+    /// A call of a function, as `max(x,y)`.
+    Call {
+        /// The place of its first character.
+        at: Place,
+        /// The function.
+        function: Function,
+        /// The arguments, in order.
+        args: Vec<Expr<F>>,
+    },
+    /// A fold over sets, as `sum((i,j)$c(i,j), x(i,j))`.
+    Fold {
+        /// The place of its first character.
+        at: Place,
+        /// How its values are joined.
+        op: FoldOp,
+        /// The sets and the condition.
+        control: Control<F>,
+        /// The expression whose values are joined.
+        body: Box<Expr<F>>,
+    },
+    /// A negation, as `-x`.
+    Neg(Box<Expr<F>>),
+    /// A sum, as `a - b + c`. Each part has its place and whether it is subtracted.
+    Plus(Vec<(Place, bool, Expr<F>)>),
+    /// A product, as `a / b * c`. Each part has its place and whether it divides.
+    Times(Vec<(Place, bool, Expr<F>)>),
+    /// A power, as `a ** 2`. Each part has its place.
+    Power(Vec<(Place, Expr<F>)>),
+    /// Relations, as `a < b`. Each part has the relation before it.
+    Relate(Vec<(RelOp, Expr<F>)>),
+    /// `not a`
+    Not(Box<Expr<F>>),
+    /// `a and b`
+    And(Vec<Expr<F>>),
+    /// A choice, as `a or b xor c`. Each part has whether it is joined by `xor`.
+    Or(Vec<(bool, Expr<F>)>),
+    /// An operand under conditions, as `a$b$c`.
+    Guard {
+        /// The operand.
+        operand: Box<Expr<F>>,
+        /// The conditions, in order.
+        guards: Vec<Expr<F>>,
+    },
+}
+
+/// An index of a reference.
+#[cycle(expression)]
+#[derive(Drop)]
+pub enum Index<F> {
+    /// A label in quotation marks, as `"a"`, by its number.
+    Label(u32),
+    /// A set that is controlled, as `i` or `i-1`.
+    Set {
+        /// The set, by the number of its name.
+        name: u32,
+        /// The lag, where there is one: what it does, the place of its amount, and the amount.
+        lag: Option<(LagOp, Place, Box<Expr<F>>)>,
+    },
+}
+
+/// The sets over which a fold or a loop goes, and the condition on their elements.
+///
+/// In `sum((i,j)$c(i,j), x(i,j))` the sets are `i` and `j`, and the condition is `c(i,j)`.
+#[cycle(expression)]
+#[derive(Drop)]
+pub struct Control<F> {
+    /// The sets, by the numbers of their names.
+    pub sets: Sequence<u32>,
+    /// The condition, where there is one.
+    pub condition: Option<Box<Expr<F>>>,
+}

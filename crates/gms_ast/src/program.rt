@@ -1,0 +1,186 @@
+//! The statements of a program, and the program.
+use crate::declaration::{Decl, DeclKind, ModelDecl};
+use crate::expression::{Control, Expr, Index, Suffix};
+use crate::sequence::Sequence;
+use crate::word::{Named, Word};
+use gms_labels::{Labels, Place};
+
+/// A program: its two tables, in which names and labels have their numbers, and its statements in order.
+#[derive(Drop)]
+pub struct Program<F> {
+    /// The names, in order of first appearance.
+    pub names: Labels,
+    /// The labels, in order of first appearance.
+    pub labels: Labels,
+    /// The statements.
+    pub statements: Vec<Stmt<F>>,
+}
+
+/// A statement, and the place of its first character.
+///
+/// `c(i) = 2 * d(i);` is one.
+#[cycle(statement)]
+#[derive(Drop)]
+pub struct Stmt<F> {
+    /// The place of its first character.
+    pub at: Place,
+    /// What it does.
+    pub act: Act<F>,
+}
+
+/// What a statement does.
+#[cycle(statement)]
+#[derive(Drop)]
+pub enum Act<F> {
+    /// Declares names of one kind, as `set i /a/, j /b/;`.
+    Declare {
+        /// What they are.
+        kind: DeclKind,
+        /// The names, in order.
+        items: Sequence<Decl<F>>,
+    },
+    /// Gives a set a second name, as `alias (i,j);`.
+    Alias {
+        /// The name that is written first.
+        first: Named,
+        /// The name that is written second.
+        second: Named,
+    },
+    /// Assigns, as `p(i)$q(i) = 2 * q(i);`.
+    Assign {
+        /// What is assigned.
+        target: Target<F>,
+        /// The condition on the left, where there is one.
+        condition: Option<Expr<F>>,
+        /// The place of the first character of the right side.
+        right_at: Place,
+        /// The right side.
+        right: Right<F>,
+    },
+    /// Defines an equation, as `supply(i).. sum(j, x(i,j)) =l= a(i);`.
+    Define {
+        /// The equation.
+        equation: Named,
+        /// Its indices.
+        indices: Sequence<Index<F>>,
+        /// The condition, where there is one.
+        condition: Option<Expr<F>>,
+        /// The place of the first character of the left side.
+        left_at: Place,
+        /// The left side.
+        left: Expr<F>,
+        /// How the sides relate.
+        side: Side,
+        /// The place of the first character of the right side.
+        right_at: Place,
+        /// The right side.
+        right: Expr<F>,
+    },
+    /// Declares models, as `model m /all/;`.
+    Model {
+        /// The models, in order.
+        models: Sequence<ModelDecl>,
+    },
+    /// Solves a model, as `solve m using lp minimizing z;`.
+    Solve {
+        /// The model.
+        model: Named,
+        /// The word after `using`.
+        method: Word,
+        /// The variable whose value is the objective.
+        objective: Named,
+        /// Whether the objective is maximized.
+        maximize: bool,
+    },
+    /// Shows values, as `display "costs", c, x.l;`.
+    Display {
+        /// What is shown, in order.
+        items: Sequence<Show>,
+    },
+    /// Runs statements once for each element, as `loop(i, s = s + p(i); );`.
+    Loop {
+        /// The sets and the condition.
+        control: Control<F>,
+        /// The statements.
+        body: Vec<Stmt<F>>,
+    },
+    /// Changes settings, as `option limrow = 0, solprint = off;`.
+    Options {
+        /// The words and their settings, in order.
+        settings: Sequence<(Word, Setting<F>)>,
+    },
+    /// Ends the run, as `abort$(s > 3) "too many", s;`.
+    Abort {
+        /// The condition, where there is one.
+        condition: Option<Expr<F>>,
+        /// What is shown, in order.
+        items: Sequence<Show>,
+    },
+}
+
+/// What an assignment assigns.
+///
+/// In `x.lo(i,"a") = 3;` it is `x.lo(i,"a")`.
+#[derive(Drop)]
+pub struct Target<F> {
+    /// The place of its first character.
+    pub at: Place,
+    /// The name, by its number.
+    pub name: u32,
+    /// The suffix.
+    pub suffix: Suffix,
+    /// The indices, in order.
+    pub indices: Sequence<Index<F>>,
+}
+
+/// The right side of an assignment.
+#[derive(Drop)]
+pub enum Right<F> {
+    /// An expression, as in `s = 2 * q;`.
+    Value(Expr<F>),
+    /// No upper bound: `x.up(i) = inf;`.
+    PlusInf,
+    /// No lower bound: `x.lo(i) = -inf;`.
+    MinusInf,
+}
+
+/// How the two sides of an equation relate.
+#[derive(Clone, Copy, Debug, PartialEq, Eq)]
+pub enum Side {
+    /// `=e=`: they are equal.
+    E,
+    /// `=l=`: the left one is at most the right one.
+    L,
+    /// `=g=`: the left one is at least the right one.
+    G,
+    /// `=n=`: nothing is asked of them.
+    N,
+}
+
+/// What a `display` or an `abort` shows.
+#[derive(Debug, Drop)]
+pub enum Show {
+    /// A text, as in `display "costs";`.
+    Text(Word),
+    /// A symbol's values, as in `display x.l;`.
+    Symbol {
+        /// The symbol.
+        named: Named,
+        /// The suffix.
+        suffix: Suffix,
+    },
+}
+
+/// What an option is set to.
+#[derive(Debug, Drop)]
+pub enum Setting<F> {
+    /// A number, as in `option limrow = 0;`.
+    Number {
+        /// The place of its first character.
+        at: Place,
+        /// The number.
+        value: F,
+    },
+    /// A word, as in `option solprint = off;`.
+    Name(Word),
+}

@@ -1,0 +1,25 @@
+//! Names and words, each with its place in the source.
+use crate::sequence::Sequence;
+use gms_labels::Place;
+
+/// A name where it stands in the source: its number in the program's table of names.
+///
+/// In `set i /a/;` it is `i`.
+#[derive(Clone, Copy, Debug, PartialEq, Eq)]
+pub struct Named {
+    /// The place of its first character.
+    pub at: Place,
+    /// Its number in the table of names.
+    pub name: u32,
+}
+
+/// A word or a text where it stands in the source, which is in no table: its bytes as they were written.
+///
+/// In `solve m using lp minimizing z;` it is `lp`, and in `display "costs", c;` it is `costs`.
+#[derive(Debug, Drop)]
+pub struct Word {
+    /// The place of its first character.
+    pub at: Place,
+    /// Its bytes.
+    pub text: Sequence<u8>,
+}
