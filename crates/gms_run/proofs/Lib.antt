@@ -1,0 +1,17 @@
+pub mod CommandLines
+pub mod Continues
+pub mod Fronts
+pub mod DigitLemmas
+pub mod Expressions
+pub mod LexemeLemmas
+pub mod Meanings
+pub mod Numbers
+pub mod Parts
+pub mod Reports
+pub mod Runs
+pub mod Splits
+pub mod Statements
+pub mod TokenLemmas
+pub mod Transfers
+pub mod LineLemmas
+pub mod TextLemmas

@@ -1,0 +1,155 @@
+-- What a run did, put together from its steps.
+use Rattle.std.proofs.Common.{◌≡◌, ℕ, ◌+◌, ◌<◌, ◌≤◌, Bool, false, cond, List, [], ◌++◌, length, take, Option, Some, None, sym, ap, ◌∙◌, subst, ◌⊎◌, inl, inr, arith, length-take}
+use Rattle.std.specs.Prelude.{IfSome, option_map, nat_le, codes}
+use Rattle.std.specs.FinMap as files_map
+use Rattle.std.proofs.lemmas.List.{take_all}
+use Rattle.std.proofs.lemmas.Bool.{cases_lt}
+use Rattle.std.proofs.lemmas.Bool.Decides.{nat_tests}
+use Rattle.gms_host.specs.Meaning.{Meaning, Files, Rose}
+use Rattle.gms_host.specs.Rules.{Says, names_with, bytes_with}
+use Rattle.gms_run.specs.declared.status.Status.{Status}
+use Rattle.gms_run.specs.declared.status.Status.TheVariants.{Done, Usage, Compile, Execution, ReadFault, WriteFault}
+use Rattle.gms_run.specs.Statements.{most_bytes}
+use Rattle.gms_run.specs.ListingText.{refused_listing, echo_of, end_text, line_of, first_place}
+use Rattle.gms_run.specs.CommandLine.{output_name, closing_line}
+use Rattle.gms_run.specs.Answers.{IsListing, LeavesListing, ListsSource, IsReported, IsWriteFault, OfFile, ShowsRun, ShowsRefusal, status_code}
+use Rattle.gms_run.specs.Outside.{ReadsFile, Reports, LeavesReport, SaysOnly}
+use Rattle.gms_run.proofs.Fronts.{moved_front}
+
+-- the listing of a refused source, by the test of its length
+abbrev refused_by : List ℕ → Bool → List ℕ
+refused_by source fits =
+    cond fits (echo_of source) [] ++ (line_of (codes "*** Source error " ++ cond fits (codes "31 NotBuilt") (codes "9 TooLong") ++ first_place) ++ end_text 2)
+
+too_long : (source : List ℕ) → most_bytes < length source → refused_listing source ≡ refused_by [] false
+too_long source long =
+    let e : nat_le (length source) most_bytes ≡ false = grind (arith, nat_tests) in
+    ap (refused_by source) e
+
+-- What is listed of the first bytes of a source, one more than it may have, is listed of the source.
+pub listed_whole : (status : Status) (bytes text : List ℕ) → IsListing status (take (most_bytes + 1) bytes) text → IsListing status bytes text
+listed_whole status bytes text is = by_length (cases_lt (most_bytes + 1) (length bytes))
+  where
+    shorter : length bytes ≤ most_bytes + 1 → IsListing status bytes text
+    shorter h = subst (λ (b : List ℕ). IsListing status b text) (take_all (most_bytes + 1) bytes h) is
+
+    long_taken : most_bytes + 1 < length bytes → most_bytes < length (take (most_bytes + 1) bytes)
+    long_taken h = omega (arith, length-take (most_bytes + 1) bytes)
+
+    no_run : (s : Status) → most_bytes + 1 < length bytes → ShowsRun s (take (most_bytes + 1) bytes) text → ⊥
+    no_run s h run = let few : length (take (most_bytes + 1) bytes) ≤ most_bytes = run.means.0.0 in omega (arith, few, length-take (most_bytes + 1) bytes)
+
+    refusal : most_bytes + 1 < length bytes → ShowsRefusal (take (most_bytes + 1) bytes) text → ShowsRefusal bytes text
+    refusal h r =
+        record {
+          refused = λ program m. omega (arith, h, m.0);
+          listing = r.listing ∙ too_long (take (most_bytes + 1) bytes) (omega (arith, length-take (most_bytes + 1) bytes)) ∙ sym (too_long bytes (omega arith));
+        }
+
+    longer : (s : Status) → most_bytes + 1 < length bytes → IsListing s (take (most_bytes + 1) bytes) text → IsListing s bytes text
+    longer Done h run = absurd (no_run Done h run)
+    longer Execution h run = absurd (no_run Execution h run)
+    longer Compile h r = refusal h r
+    longer Usage h none = none
+    longer ReadFault h none = none
+    longer WriteFault h none = none
+
+    by_length : (most_bytes + 1 < length bytes) ⊎ (length bytes ≤ most_bytes + 1) → IsListing status bytes text
+    by_length (inl h) = longer status h is
+    by_length (inr h) = shorter h
+
+-- what was reported of a source, where the host tells its files
+lists_source : (status : Status) (old mid new : Meaning) (file source output : List ℕ) → ReadsFile old mid file source → Reports status mid new source output → ListsSource status old new file
+lists_source status old mid new file source output read report = of_files old.files read.taken
+  where
+    text : List ℕ
+    text = report.listing.0
+
+    told : new.output ≡ option_map (λ (_ : List ℕ). text) old.output
+    told = report.listing.2 ∙ ap (option_map (λ (_ : List ℕ). text)) read.output
+
+    of_files : (files : Option Files) → IfSome files (λ f. (bytes : List ℕ) × (files_map.get f file ≡ Some bytes) × (source ≡ take (most_bytes + 1) bytes)) → IfSome files (λ f. (bytes : List ℕ) × (files_map.get f file ≡ Some bytes) × ((t : List ℕ) × IsListing status bytes t × (new.output ≡ option_map (λ _. t) old.output)))
+    of_files None taken = tt
+    of_files (Some f) taken =
+        (taken.0, taken.1, (text, listed_whole status taken.0 text (subst (λ (s : List ℕ). IsListing status s text) taken.2 report.listing.1), told))
+
+-- what was reported, as the status says
+is_reported : (status : Status) (old mid new : Meaning) (file source output : List ℕ) → ReadsFile old mid file source → Reports status mid new source output → output ≡ output_name file → IsReported status old new file
+is_reported status old mid new file source output read report e =
+    record {
+      listing = lists_source status old mid new file source output read report;
+      asked = report.asked ∙ ap (λ (names : Option (List (List ℕ))). names_with names output) read.asked ∙ ap (names_with (names_with old.asked file)) e;
+      said = report.said ∙ ap (λ (said : Option (List ℕ)). bytes_with said (closing_line (status_code status) output)) read.said ∙ ap (λ (o : List ℕ). bytes_with old.said (closing_line (status_code status) o)) e;
+      closed = report.closed;
+    }
+
+-- A run that wrote a report did what its status says.
+pub reported : (status : Status) (old mid new : Meaning) (file source output : List ℕ) → ReadsFile old mid file source → Reports status mid new source output → output ≡ output_name file → OfFile status old new file
+reported Done old mid new file source output read report e = is_reported Done old mid new file source output read report e
+reported Compile old mid new file source output read report e = is_reported Compile old mid new file source output read report e
+reported Execution old mid new file source output read report e = is_reported Execution old mid new file source output read report e
+reported Usage old mid new file source output read report e = absurd report.listing.1
+reported ReadFault old mid new file source output read report e = absurd report.listing.1
+reported WriteFault old mid new file source output read report e = absurd report.listing.1
+
+-- What is listed of a source is listed of its first bytes, one more than it may have.
+listed_front : (status : Status) (bytes text : List ℕ) → IsListing status bytes text → IsListing status (take (most_bytes + 1) bytes) text
+listed_front status bytes text is = by_length (cases_lt (most_bytes + 1) (length bytes))
+  where
+    shorter : length bytes ≤ most_bytes + 1 → IsListing status (take (most_bytes + 1) bytes) text
+    shorter h = subst (λ (b : List ℕ). IsListing status b text) (sym (take_all (most_bytes + 1) bytes h)) is
+
+    no_run : (s : Status) → most_bytes + 1 < length bytes → ShowsRun s bytes text → ⊥
+    no_run s h run = let few : length bytes ≤ most_bytes = run.means.0.0 in omega (arith, few, h)
+
+    refusal : most_bytes + 1 < length bytes → ShowsRefusal bytes text → ShowsRefusal (take (most_bytes + 1) bytes) text
+    refusal h r =
+        record {
+          refused = λ program m. let few : length (take (most_bytes + 1) bytes) ≤ most_bytes = m.0 in omega (arith, h, few, length-take (most_bytes + 1) bytes);
+          listing = r.listing ∙ too_long bytes (omega arith) ∙ sym (too_long (take (most_bytes + 1) bytes) (omega (arith, length-take (most_bytes + 1) bytes)));
+        }
+
+    longer : (s : Status) → most_bytes + 1 < length bytes → IsListing s bytes text → IsListing s (take (most_bytes + 1) bytes) text
+    longer Done h run = absurd (no_run Done h run)
+    longer Execution h run = absurd (no_run Execution h run)
+    longer Compile h r = refusal h r
+    longer Usage h none = none
+    longer ReadFault h none = none
+    longer WriteFault h none = none
+
+    by_length : (most_bytes + 1 < length bytes) ⊎ (length bytes ≤ most_bytes + 1) → IsListing status (take (most_bytes + 1) bytes) text
+    by_length (inl h) = longer status h is
+    by_length (inr h) = shorter h
+
+-- A run that failed to write behind a source that was read.
+pub write_failed : (old mid new : Meaning) (file source output : List ℕ) → ReadsFile old mid file source → LeavesReport mid new source output → Rose mid.write_faults new.write_faults → output ≡ output_name file → IsWriteFault old new file
+write_failed old mid new file source output read left rose e =
+    record {
+      rose = let h : old.write_faults ≤ mid.write_faults = omega arith in omega (arith, h, rose);
+      front = of_files old.files read.taken;
+      asked = elim left.asked [
+        | inl same ↦ inl (same ∙ read.asked)
+        | inr more ↦ inr (more ∙ ap (λ (names : Option (List (List ℕ))). names_with names output) read.asked ∙ ap (names_with (names_with old.asked file)) e)
+      ];
+    }
+  where
+    leaves : (bytes : List ℕ) → source ≡ take (most_bytes + 1) bytes → LeavesListing old new bytes (output_name file)
+    leaves bytes cut status text is =
+        moved_front status old mid new output (output_name file) text read.output read.said e (left.front status text (subst (λ (s : List ℕ). IsListing status s text) (sym cut) (listed_front status bytes text is)))
+
+    of_files : (files : Option Files) → IfSome files (λ f. (bytes : List ℕ) × (files_map.get f file ≡ Some bytes) × (source ≡ take (most_bytes + 1) bytes)) → IfSome files (λ f. (bytes : List ℕ) × (files_map.get f file ≡ Some bytes) × LeavesListing old new bytes (output_name file))
+    of_files None taken = tt
+    of_files (Some f) taken = (taken.0, taken.1, leaves taken.0 taken.2)
+
+-- A line that was said whole.
+pub says_whole : (old new : Meaning) (line : List ℕ) → Says old new line → SaysOnly old new line
+says_whole old new line s =
+    record {
+      output = s.output;
+      asked = s.asked;
+      said = record {
+        front = (length line, s.said ∙ ap (bytes_with old.said) (sym (take_all (length line) line (omega arith))));
+        whole = inl s.said;
+      };
+      counts = s.counts;
+    }

@@ -1,0 +1,10 @@
+use Rattle.std.proofs.Common.{length}
+use Rattle.gms_host.specs.Rules.{Says}
+use Rattle.gms_run.proofs.Transfers.{SoFar}
+use Rattle.gms_run.proofs.transfer.say_line.Given as goal
+
+abbrev pub invariant-loop-rest : goal.invariant-loop-rest
+invariant-loop-rest g l = SoFar (Says (g.H.Host.meaning l.fn.host) (g.H.Host.meaning l.host)) l.line l.rest
+
+abbrev pub decreases-loop-rest : goal.decreases-loop-rest
+decreases-loop-rest g l = length l.rest

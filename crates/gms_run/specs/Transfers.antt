@@ -1,0 +1,19 @@
+-- What a whole transfer over a host leaves.
+use Rattle.std.specs.Prelude.{◌≡◌, ℕ, ◌+◌, List, take, IfSome}
+use Rattle.gms_host.specs.Meaning.{Meaning}
+use Rattle.gms_host.specs.Rules.{CountsStay}
+use Rattle.gms_run.specs.Statements.{most_bytes}
+
+-- all but the input stands, and no count of faults fell
+pub record KeepsOutside (old new : Meaning) : Type 0 where
+  pub files : new.files ≡ old.files
+  pub output : new.output ≡ old.output
+  pub said : new.said ≡ old.said
+  pub asked : new.asked ≡ old.asked
+  pub writing : new.writing ≡ old.writing
+  pub counts : CountsStay old new
+
+-- the input, where it is told, was these bytes, or began with them where they are one more than a source may have
+pub record TakesSource (old new : Meaning) (source : List ℕ) : Type 0 where
+  pub taken : IfSome old.input (λ bytes. source ≡ take (most_bytes + 1) bytes)
+  pub keeps : KeepsOutside old new

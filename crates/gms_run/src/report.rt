@@ -1,0 +1,81 @@
+//! The listing of a source, from its bytes.
+ghost use Rattle.std.specs.Prelude.{◌≡◌, ◌++◌, IfOk, IsErrOf};
+ghost use Rattle.gms_run.specs.Run.{run_of};
+ghost use Rattle.gms_run.specs.ListingText.{end_text, run_text, refused_text};
+ghost use Rattle.gms_run.specs.Answers.{status_code, EndsSo, MeansOnly, MeansNone, IsListing};
+
+use crate::execution::execute;
+use crate::lexer::tokens;
+use crate::listing;
+use crate::listing::MOST_BYTES;
+use crate::parser::program;
+use crate::status::Status;
+use crate::token::Refusal;
+use crate::tree::Program;
+use std::alloc::{AllocError, Global};
+
+/// The program that a source means.
+///
+/// `NotBuilt` comes exactly where it means none.
+fn program_of(alloc: Global, source: &[u8]) -> Result<Program, Refusal>
+    ensures accepted { IfOk result (λ program. MeansOnly source.now program) }
+    ensures refused { IsErrOf result Refusal.NotBuilt → MeansNone source.now }
+{
+    if source.len() > MOST_BYTES {
+        return Err(Refusal::NotBuilt);
+    }
+    let tokens = tokens(alloc, source)?;
+    program(alloc, tokens.as_slice())
+}
+
+/// A listing with its last line.
+fn ended(alloc: Global, mut text: Vec<u8>, status: Status) -> Result<(Status, Vec<u8>), AllocError>
+    ensures status { IfOk result (λ r. r.0 ≡ status) }
+    ensures text { IfOk result (λ r. r.1.items ≡ text.items ++ end_text (status_code status)) }
+{
+    listing::end(alloc, &mut text, status.code())?;
+    Ok((status, text))
+}
+
+/// A listing with the line of a refused source and the last line.
+fn refused(alloc: Global, source: &[u8], mut text: Vec<u8>) -> Result<(Status, Vec<u8>), AllocError>
+    ensures status { IfOk result (λ r. r.0 ≡ Status.Compile) }
+    ensures text { IfOk result (λ r. r.1.items ≡ text.items ++ refused_text source.now) }
+{
+    listing::refusal(alloc, &mut text, source)?;
+    ended(alloc, text, Status::Compile)
+}
+
+/// A listing with the lines of a program's run and the last line.
+fn executed(
+    alloc: Global,
+    program: &Program,
+    mut text: Vec<u8>,
+) -> Result<(Status, Vec<u8>), AllocError>
+    ensures status { IfOk result (λ r. EndsSo r.0 (run_of program.now).stopped) }
+    ensures text { IfOk result (λ r. r.1.items ≡ text.items ++ run_text (run_of program.now)) }
+{
+    match execute(alloc, &mut text, program)? {
+        None => ended(alloc, text, Status::Done),
+        Some(stop) => {
+            listing::fault(alloc, &mut text, stop)?;
+            ended(alloc, text, Status::Execution)
+        }
+    }
+}
+
+/// The listing of a source, and how its run ends.
+pub(crate) fn report(alloc: Global, source: &[u8]) -> Result<(Status, Vec<u8>), AllocError>
+    ensures { IfOk result (λ r. IsListing r.0 source.now r.1.items) }
+{
+    let mut text = Vec::new(alloc);
+    if source.len() > MOST_BYTES {
+        return refused(alloc, source, text);
+    }
+    listing::echo(alloc, &mut text, source)?;
+    match program_of(alloc, source) {
+        Ok(program) => executed(alloc, &program, text),
+        Err(Refusal::NotBuilt) => refused(alloc, source, text),
+        Err(Refusal::Memory) => Err(AllocError),
+    }
+}

@@ -1,0 +1,36 @@
+//! How a run ends.
+ghost use Rattle.std.specs.Prelude.{◌≡◌};
+ghost use Rattle.gms_run.specs.Answers.{status_code};
+
+/// How a run ends.
+#[derive(Clone, Copy)]
+pub(crate) enum Status {
+    /// Every statement was executed, and the whole listing was written.
+    Done,
+    /// The words are refused.
+    Usage,
+    /// The source is refused.
+    Compile,
+    /// An execution error stopped the run.
+    Execution,
+    /// The source could not be read.
+    ReadFault,
+    /// The listing or the closing line could not be written.
+    WriteFault,
+}
+
+impl Status {
+    /// The exit status of the program.
+    pub(crate) fn code(self) -> u8
+        ensures { result ≡ status_code self }
+    {
+        match self {
+            Status::Done => 0,
+            Status::Usage => 1,
+            Status::Compile => 2,
+            Status::Execution => 3,
+            Status::ReadFault => 4,
+            Status::WriteFault => 5,
+        }
+    }
+}
