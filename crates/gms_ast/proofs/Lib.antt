@@ -1,2 +1,3 @@
 pub mod Deepest
+mod SketchExamples
 pub mod TreeEquations

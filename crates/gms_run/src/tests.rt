@@ -314,3 +314,28 @@ fn answers_faults_of_the_host(rt: HostRuntime) -> Result<(), Fail> {
     }
     Ok(())
 }
+
+/// So many lines of 63 blanks.
+fn blank_lines(alloc: Global, lines: usize) -> Result<String, AllocError> {
+    let line = " ".repeat(alloc, 63)?;
+    let mut text = String::new(alloc);
+    for _ in 0..lines {
+        text.push_str(line.as_str())?;
+        text.push('\n')?;
+    }
+    Ok(text)
+}
+
+#[test]
+fn takes_a_source_of_the_greatest_length(rt: HostRuntime) -> Result<(), Fail> {
+    let alloc = rt.alloc();
+    let words = words_of(alloc, &["a.gms"])?;
+    // 16,384 lines of 64 bytes are 1,048,576 bytes.
+    let mut source = blank_lines(alloc, 16_384)?;
+    let mut host = host_of(alloc, &["a.gms"], source.as_str(), &[])?;
+    assert_eq!(rt; run(alloc, words.as_slice(), &mut host)?.status, 0);
+    source.push(' ')?;
+    let listing = "*** Source error 9 TooLong at line 1 column 1\nEND status 2 solves 0\n";
+    check_source(&rt, alloc, (source.as_str(), 2, listing))?;
+    Ok(())
+}
