@@ -1,5 +1,5 @@
 -- Laws of membership: what has which members, and that an ordered list is known by its members.
-use Rattle.std.proofs.Common.{◌≡◌, ℕ, Bool, true, false, not, ◌||◌, ◌&&◌, List, [], ◌∷◌, ◌++◌, filter, length, drop, insert, refl, sym, ap, ◌∙◌, cond, arith, ◌+◌, ◌<◌, ◌≤◌, suc, ltb, remove, Some, None}
+use Rattle.std.proofs.Common.{◌≡◌, ℕ, Bool, true, false, not, ◌||◌, ◌&&◌, List, [], ◌∷◌, ◌++◌, filter, fold, length, drop, insert, refl, sym, ap, ◌∙◌, cond, arith, ◌+◌, ◌<◌, ◌≤◌, suc, ltb, remove, Some, None}
 use Rattle.std.specs.declared.cmp.Ordering.{Ordering}
 use Rattle.std.specs.declared.cmp.Ordering.TheVariants.{Less, Equal, Greater}
 use Rattle.std.specs.Ordering.{is_lt}
@@ -14,7 +14,7 @@ use Rattle.std.proofs.lemmas.Cmp.{nat_list_eq_equiv, tied_itself}
 use Rattle.std.proofs.lemmas.List.Kept.{IsStrictlySortedBy-filter}
 use Rattle.gms_tuple.specs.TupleOrder.{tuple_cmp, is_before, same_tuple, IsOrdered}
 use Rattle.gms_tuple.specs.OrderLaws.{tuple_cmp-total}
-use Rattle.gms_tuple.specs.TupleSet.{has, place_of, inserted, removed, union, difference, intersection, count_before}
+use Rattle.gms_tuple.specs.TupleSet.{has, place_of, inserted, removed, difference, intersection, count_before}
 use Rattle.gms_tuple.proofs.Ordered.{same_tuple-Decides, same_tuple_refl, same_tuple-Greater, tuple_cmp-Equal, tuple_cmp-flip, first-before, rest-ordered, ordered-join, filter_agree_on, filter_all, cut-by}
 
 -- a list that lacks a tuple has none that is the same
@@ -91,9 +91,13 @@ has-difference xs ys t = has-filter (λ member. not (has ys member)) xs t
 pub has-intersection : (xs ys : List (List ℕ)) (t : List ℕ) → has (intersection xs ys) t ≡ (has xs t && has ys t)
 has-intersection xs ys t = has-filter (λ member. has ys member) xs t
 
-pub has-union : (xs ys : List (List ℕ)) (t : List ℕ) → has (union xs ys) t ≡ (has xs t || has ys t)
-has-union xs [] t = elim (has xs t) as (λ b. b ≡ (b || false)) [ true ↦ refl | false ↦ refl ]
-has-union xs (y ∷ ys) t = has-union (inserted xs y) ys t ∙ rw (has-inserted xs y t) (by (has xs t) (same_tuple y t) (has ys t))
+-- the members, with others put in one after another
+abbrev pub joined : List (List ℕ) → List (List ℕ) → List (List ℕ)
+joined members others = fold inserted members others
+
+pub has-joined : (xs ys : List (List ℕ)) (t : List ℕ) → has (joined xs ys) t ≡ (has xs t || has ys t)
+has-joined xs [] t = elim (has xs t) as (λ b. b ≡ (b || false)) [ true ↦ refl | false ↦ refl ]
+has-joined xs (y ∷ ys) t = has-joined (inserted xs y) ys t ∙ rw (has-inserted xs y t) (by (has xs t) (same_tuple y t) (has ys t))
   where
     by : (a b c : Bool) → ((b || a) || c) ≡ (a || (b || c))
     by true true c = refl
@@ -127,9 +131,9 @@ IsOrdered-inserted xs t ordered = by (has xs t)
         (IsOrdered-filter (λ member. is_before t member) xs ordered)
         (All-weaker (λ x. is_before t x ≡ true) (λ x. tuple_cmp t x ≡ Less) (λ x before. Less-from_before t x before) (filter (λ member. is_before t member) xs) (filter_passes (λ member. is_before t member) xs))
 
-pub IsOrdered-union : (xs ys : List (List ℕ)) → IsOrdered xs → IsOrdered (union xs ys)
-IsOrdered-union xs [] ordered = ordered
-IsOrdered-union xs (y ∷ ys) ordered = IsOrdered-union (inserted xs y) ys (IsOrdered-inserted xs y ordered)
+pub IsOrdered-joined : (xs ys : List (List ℕ)) → IsOrdered xs → IsOrdered (joined xs ys)
+IsOrdered-joined xs [] ordered = ordered
+IsOrdered-joined xs (y ∷ ys) ordered = IsOrdered-joined (inserted xs y) ys (IsOrdered-inserted xs y ordered)
 
 -- a list that a tuple is put into between two parts
 insert-between : (xs front back : List (List ℕ)) (t : List ℕ) (n : ℕ) → xs ≡ front ++ back → length front ≡ n → insert xs n t ≡ front ++ t ∷ back
@@ -192,17 +196,6 @@ same_from_members (x ∷ xs) (y ∷ ys) ordered others same =
     let others' : IsOrdered (x ∷ ys) = rw first others in
     let same' : (t : List ℕ) → has (x ∷ xs) t ≡ has (x ∷ ys) t = λ t. same t ∙ sym (ap (λ z. has (z ∷ ys) t) first) in
     λ i. first i ∷ same_from_members xs ys (rest-ordered x xs ordered) (rest-ordered y ys others) (same-rest x xs ys ordered others' same') i
-
--- a union is the same either way round
-pub union_comm : (xs ys : List (List ℕ)) → IsOrdered xs → IsOrdered ys → union xs ys ≡ union ys xs
-union_comm xs ys ordered others =
-    same_from_members (union xs ys) (union ys xs) (IsOrdered-union xs ys ordered) (IsOrdered-union ys xs others) (λ t. has-union xs ys t ∙ or-comm (has xs t) (has ys t) ∙ sym (has-union ys xs t))
-  where
-    or-comm : (a b : Bool) → (a || b) ≡ (b || a)
-    or-comm true true = refl
-    or-comm true false = refl
-    or-comm false true = refl
-    or-comm false false = refl
 
 -- what a test keeps of an ordered set by the members of another is in order
 pub IsOrdered-chosen : (there : Bool) (xs ys made : List (List ℕ)) → IsOrdered xs → made ≡ cond there (intersection xs ys) (difference xs ys) → IsOrdered made

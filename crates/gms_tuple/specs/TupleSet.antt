@@ -1,5 +1,5 @@
 -- Sets of tuples, each seen as the ordered list of its members.
-use Rattle.std.specs.Prelude.{ℕ, Bool, not, List, ◌∷◌, ◌++◌, filter, fold, count_by, Option, position, if◌then◌else◌}
+use Rattle.std.specs.Prelude.{ℕ, Bool, not, List, ◌∷◌, ◌++◌, filter, count_by, Option, position, if◌then◌else◌}
 use Rattle.std.specs.List.{list_any}
 use Rattle.gms_tuple.specs.TupleOrder.{is_before, same_tuple, begins_with}
 
@@ -19,10 +19,6 @@ inserted members tuple =
 -- the members other than the tuple
 abbrev pub removed : List (List ℕ) → List ℕ → List (List ℕ)
 removed members tuple = filter (λ member. not (same_tuple member tuple)) members
-
--- the members of either set
-abbrev pub union : List (List ℕ) → List (List ℕ) → List (List ℕ)
-union members others = fold inserted members others
 
 -- the members that the other set lacks
 abbrev pub difference : List (List ℕ) → List (List ℕ) → List (List ℕ)

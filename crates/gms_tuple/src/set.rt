@@ -1,7 +1,7 @@
 //! A set of tuples, kept as a list in order.
 ghost use Rattle.std.specs.Prelude.{◌≡◌, ◌<◌, ◌≤◌, ◌+◌, ◌^◌, ◌↔◌, ◌||◌, ◌&&◌, ℕ, List, [], length, not, slice_get, slice_range, if◌then◌else◌, Contains, IsTrue, IsOk, IfOk, OnOk, OnErr};
 ghost use Rattle.gms_tuple.specs.TupleOrder.{same_tuple, IsOrdered};
-ghost use Rattle.gms_tuple.specs.TupleSet.{has, place_of, inserted, removed, union, difference, intersection, count_before, count_with, those_with};
+ghost use Rattle.gms_tuple.specs.TupleSet.{has, place_of, inserted, removed, difference, intersection, count_before, count_with, those_with};
 
 use crate::tuple::Tuple;
 use std::alloc::{AllocError, Global};
@@ -148,11 +148,13 @@ impl TupleSet {
 
     /// The members of either set.
     pub fn union(&self, alloc: Global, o: &TupleSet) -> Result<TupleSet, AllocError>
-        ensures value { IfOk result (λ set. set ≡ union self.now o.now) }
         ensures members { IfOk result (λ set.
             (t : List ℕ) → has set t ≡ (has self.now t || has o.now t)) }
-        ensures either_way { OnOk result (union self.now o.now ≡ union o.now self.now) }
         ensures ordered { IfOk result IsOrdered }
+
+        // No other list in order has these members.
+        ensures only { IfOk result (λ set. (other : List (List ℕ)) → IsOrdered other →
+            ((t : List ℕ) → has other t ≡ (has self.now t || has o.now t)) → other ≡ set) }
     {
         let mut all = self.copy(alloc)?;
         for t in o.tuples.iter() {
