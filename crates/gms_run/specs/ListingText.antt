@@ -1,6 +1,6 @@
 -- The text of a listing: the echo of the source, then an error or what the run shows and its fault, then the last line.
 use Rattle.std.specs.Prelude.{ℕ, ◌+◌, ◌*◌, ◌/◌, ◌%◌, ◌-◌, Bool, true, false, ◌&&◌, ◌==◌, nat_lt, nat_le, if◌then◌else◌, List, [], ◌∷◌, ◌++◌, length, take, slice_index, replicate, flat_map, Option, Some, None, codes, decimal, ℤ, pos, negsuc, nat_abs}
-use Rattle.gq_number.specs.Number.{Number}
+use Rattle.gq_number.specs.Number.{Number, quotient_to_nearest}
 use Rattle.gms_run.specs.declared.execution.Fault.{Fault}
 use Rattle.gms_run.specs.declared.execution.Fault.TheVariants.{Limit, Divide}
 use Rattle.gms_run.specs.declared.execution.Stop.{Stop}
@@ -47,7 +47,7 @@ echo_of source = numbered_from 1 (lines_of source)
 
 -- how many thousandths are nearest to the magnitude of a number; from the middle of two, the greater
 abbrev pub thousandths : Number → ℕ
-thousandths x = (2 * (1000 * nat_abs x.numerator) + x.denominator) / (2 * x.denominator)
+thousandths x = nat_abs (quotient_to_nearest (pos (1000 * nat_abs x.numerator)) x.denominator)
 
 -- the whole number is below 0
 abbrev pub is_negative : ℤ → Bool
