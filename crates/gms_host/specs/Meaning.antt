@@ -28,6 +28,10 @@ pub record Meaning : Type 0 where
   pub read_faults : ℕ
   -- how many faults of writing there were
   pub write_faults : ℕ
+  -- no call fails of itself: only an `open_in` of a name that no file has is a fault
+  pub reliable : Bool
+  -- a fault is counted only in a call that answers it
+  pub precise : Bool
 
 -- the greatest number that a count of faults reaches, at which it stands still
 abbrev pub greatest_count : ℕ

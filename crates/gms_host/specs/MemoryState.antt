@@ -1,5 +1,5 @@
 -- A host of files in memory: what its caller may know of it, and what each of its calls leaves.
-use Rattle.std.specs.Prelude.{ℕ, Bool, true, false, List, [], ◌∷◌, ◌++◌, map, take, drop, unwrap_or, Some, Result, Ok, Err, String, Vec, string_bytes, Contains, refl}
+use Rattle.std.specs.Prelude.{ℕ, Bool, true, false, List, [], ◌∷◌, ◌++◌, length, ◌==◌, map, take, drop, unwrap_or, Some, Result, Ok, Err, String, Vec, string_bytes, Contains, refl}
 use Rattle.std.specs.declared.alloc.Global.{Global}
 use Rattle.std.specs.Coded.{Coded, code_by, coded×, coded_ℕ, coded_bool, coded_list}
 use Rattle.std.specs.FinMap as finite
@@ -79,7 +79,7 @@ at_start files failing = record {
   write_faults = 0;
 }
 
--- a host of files in memory tells all of itself
+-- a host of files in memory tells all of itself, counts precisely, and is reliable exactly where no call is to fail
 abbrev pub meaning_of : MemoryState → Meaning
 meaning_of m = record {
   files = Some m.files;
@@ -91,6 +91,8 @@ meaning_of m = record {
   writing = m.writing;
   read_faults = m.read_faults;
   write_faults = m.write_faults;
+  reliable = length m.failing == 0;
+  precise = true;
 }
 
 -- the call that comes now is among those that are to fail

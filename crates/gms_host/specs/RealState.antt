@@ -22,7 +22,7 @@ untouched = record {
   write_faults = 0;
 }
 
--- such a host tells no files, no names and no bytes
+-- such a host tells no files, no names and no bytes, any call can fail, and one that succeeds can count a fault
 abbrev pub meaning_of : RealState → Meaning
 meaning_of r = record {
   files = None;
@@ -34,4 +34,6 @@ meaning_of r = record {
   writing = r.writing;
   read_faults = r.read_faults;
   write_faults = r.write_faults;
+  reliable = false;
+  precise = false;
 }

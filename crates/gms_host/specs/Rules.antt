@@ -1,17 +1,38 @@
 -- The rules of a host's six calls: what each of them changes, and that it leaves all else.
-use Rattle.std.specs.Prelude.{◌≡◌, ℕ, ◌≤◌, ◌↔◌, ◌⊎◌, Bool, true, false, List, [], ◌∷◌, ◌++◌, take, drop, length, Option, Some, option_map, is_some, IfSome, IsSome}
+use Rattle.std.specs.Prelude.{◌≡◌, ℕ, ◌≤◌, ◌↔◌, ◌⊎◌, Bool, true, false, List, [], ◌∷◌, ◌++◌, take, drop, length, Option, Some, option_map, is_some, IfSome, IsSome, IsErrOf, Result}
 use Rattle.std.specs.FinMap as map
+use Rattle.gms_host.specs.declared.host.Failed.{Failed}
+use Rattle.gms_host.specs.declared.host.Failed.TheVariants.{Fault}
 use Rattle.gms_host.specs.Meaning.{Meaning}
 
--- no call lets a count of faults fall
+-- no call lets a count of faults fall, and a host is reliable, and precise, throughout or never
 pub record CountsStay (old new : Meaning) : Type 0 where
   pub read_faults : old.read_faults ≤ new.read_faults
   pub write_faults : old.write_faults ≤ new.write_faults
+  pub reliable : new.reliable ≡ old.reliable
+  pub precise : new.precise ≡ old.precise
 
 -- no fault was counted
 pub record SameCounts (old new : Meaning) : Type 0 where
   pub read_faults : new.read_faults ≡ old.read_faults
   pub write_faults : new.write_faults ≡ old.write_faults
+
+-- a call of a precise host that is done counts no fault
+abbrev pub Precise : Meaning → Meaning → Type 0
+Precise old new = old.precise ≡ true → SameCounts old new
+
+-- The call answered no fault, and counted none.
+pub record NoFault {A : Type 0} (old new : Meaning) (result : Result A Failed) : Type 0 where
+  pub answers : IsErrOf result Fault → ⊥
+  pub counts : SameCounts old new
+
+-- a call of a reliable host answers no fault, and counts none
+abbrev pub Steady : {A : Type 0} → Meaning → Meaning → Result A Failed → Type 0
+Steady old new result = old.reliable ≡ true → NoFault old new result
+
+-- the host has a file of that name, where it tells its files
+abbrev pub IsThere : Meaning → List ℕ → Type 0
+IsThere m name = IfSome m.files (λ files. IsSome (map.get files name))
 
 -- the names asked for, where they are told, with this name added at their end
 abbrev pub names_with : Option (List (List ℕ)) → List ℕ → Option (List (List ℕ))

@@ -10,8 +10,8 @@ use std::marker::Model;
 /// A host over files in memory, which tells all of itself.
 ///
 /// It numbers its calls from 0, and a call whose number was given to fail is a fault. So is an `open_in` of a
-/// name that no file has, and no other call is one. The number and both counts of faults stand still at the
-/// greatest number of their type.
+/// name that no file has, and no other call is one: the host is reliable exactly where no number was given. The
+/// number and both counts of faults stand still at the greatest number of their type.
 #[derive(Debug, Drop)]
 pub struct MemHost {
     alloc: Global,

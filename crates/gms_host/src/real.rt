@@ -16,8 +16,9 @@ const TRIES: u32 = 64;
 
 /// A host over real files and standard output.
 ///
-/// It tells no files, no names and no bytes. Each error of std is counted as a fault, but for want of memory,
-/// and so is a write that takes nothing. An interrupted read or write is made again, up to 64 times in all.
+/// It tells no files, no names and no bytes, and does not promise to be reliable. Each error of std is counted as
+/// a fault, but for want of memory, and so is a write that takes nothing. An interrupted read or write is made
+/// again, up to 64 times in all.
 #[derive(Drop)]
 pub struct RealHost<R: Files> {
     runtime: R,
