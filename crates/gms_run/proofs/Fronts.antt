@@ -9,10 +9,11 @@ use Rattle.gms_run.specs.declared.tree.Program.{Program}
 use Rattle.gms_run.specs.declared.status.Status.{Status}
 use Rattle.gms_run.specs.declared.status.Status.TheVariants.{Done, Usage, Compile, Execution, ReadFault, WriteFault}
 use Rattle.gms_run.specs.Run.{run_of}
-use Rattle.gms_run.specs.ListingText.{listing_of}
+use Rattle.gms_run.specs.ListingText.{listing_of, refused_listing}
 use Rattle.gms_run.specs.CommandLine.{closing_line}
 use Rattle.gms_run.specs.Answers.{IsListing, LeavesFront, SaysBehind, ShowsRun, status_code}
 use Rattle.gms_run.specs.Outside.{LeavesReport}
+use Rattle.gms_run.proofs.Meanings.{IsErrorPlace-unique}
 
 -- Two runs of a source are one.
 same_run : (s t : Status) (source a b : List ℕ) (p : ShowsRun s source a) (q : ShowsRun t source b) → (p.program ≡ q.program) × (a ≡ b)
@@ -29,7 +30,7 @@ not_both (Some stop) e h = let z : ⊥ = cc in z
 pub one_listing : (s t : Status) (source a b : List ℕ) → IsListing s source a → IsListing t source b → (s ≡ t) × (a ≡ b)
 one_listing Done Done source a b p q = (refl, (same_run Done Done source a b p q).1)
 one_listing Execution Execution source a b p q = (refl, (same_run Execution Execution source a b p q).1)
-one_listing Compile Compile source a b p q = (refl, p.listing ∙ sym q.listing)
+one_listing Compile Compile source a b p q = (refl, p.listing ∙ ap (refused_listing source) (IsErrorPlace-unique source p.at q.at p.place q.place) ∙ sym q.listing)
 one_listing Done Execution source a b p q =
     let e = (same_run Done Execution source a b p q).0 in
     absurd (not_both (run_of q.program).stopped (ap (λ (x : Program). (run_of x).stopped) (sym e) ∙ p.ends) q.ends)
@@ -64,6 +65,7 @@ front_opened old new source output opened asked =
     record {
       front = λ status text is. record { front = (0, opened.output); said = inl opened.said };
       asked = asked;
+      input = opened.input;
     }
 
 -- The front of the listing was written.
@@ -77,6 +79,7 @@ front_written old mid new source output listing bytes count status opened asked 
             said = inl (wrote.said ∙ opened.said);
           };
       asked = inr (wrote.asked ∙ asked);
+      input = wrote.input ∙ opened.input;
     }
 
 -- what stands in the output behind a listing that was written whole
@@ -99,6 +102,7 @@ front_closed old mid wrote new source output listing status opened asked is w cl
             said = inl (closed.said ∙ w.said ∙ opened.said);
           };
       asked = inr (closed.asked ∙ w.asked ∙ asked);
+      input = closed.input ∙ w.input ∙ opened.input;
     }
 
 -- The whole listing was written, and the front of the closing line was said.
@@ -117,6 +121,7 @@ front_said old mid wrote shut new source output listing line bytes count status 
             });
           };
       asked = inr (says.asked ∙ closed.asked ∙ w.asked ∙ asked);
+      input = says.input ∙ closed.input ∙ w.input ∙ opened.input;
     }
 
 -- The same front, of an output that stands as it stood before.

@@ -1,5 +1,5 @@
 -- What a run did, put together from its steps.
-use Rattle.std.proofs.Common.{◌≡◌, ℕ, ◌+◌, ◌<◌, ◌≤◌, Bool, false, cond, List, [], ◌++◌, length, take, Option, Some, None, sym, ap, ◌∙◌, subst, ◌⊎◌, inl, inr, arith, length-take}
+use Rattle.std.proofs.Common.{◌≡◌, ℕ, ◌+◌, ◌<◌, ◌≤◌, Bool, false, cond, List, [], ◌++◌, length, take, drop, Option, Some, None, sym, ap, ◌∙◌, subst, ◌⊎◌, inl, inr, arith, length-take}
 use Rattle.std.specs.Prelude.{IfSome, option_map, nat_le, codes}
 use Rattle.std.specs.FinMap as files_map
 use Rattle.std.proofs.lemmas.List.{take_all}
@@ -7,24 +7,32 @@ use Rattle.std.proofs.lemmas.Bool.{cases_lt}
 use Rattle.std.proofs.lemmas.Bool.Decides.{nat_tests}
 use Rattle.gms_host.specs.Meaning.{Meaning, Files, Rose}
 use Rattle.gms_host.specs.Rules.{Says, names_with, bytes_with}
+use Rattle.gms_labels.specs.declared.place.Place.{Place}
 use Rattle.gms_run.specs.declared.status.Status.{Status}
 use Rattle.gms_run.specs.declared.status.Status.TheVariants.{Done, Usage, Compile, Execution, ReadFault, WriteFault}
 use Rattle.gms_run.specs.Statements.{most_bytes}
-use Rattle.gms_run.specs.ListingText.{refused_listing, echo_of, end_text, line_of, first_place}
+use Rattle.gms_run.specs.Places.{IsErrorPlace}
+use Rattle.gms_run.specs.ListingText.{refused_listing, echo_of, end_text, line_of, place_text}
 use Rattle.gms_run.specs.CommandLine.{output_name, closing_line}
-use Rattle.gms_run.specs.Answers.{IsListing, LeavesListing, ListsSource, IsReported, IsWriteFault, OfFile, ShowsRun, ShowsRefusal, status_code}
+use Rattle.gms_run.specs.Answers.{IsListing, LeavesListing, LeavesRest, ListsSource, IsReported, IsWriteFault, OfFile, ShowsRun, ShowsRefusal, status_code}
 use Rattle.gms_run.specs.Outside.{ReadsFile, Reports, LeavesReport, SaysOnly}
+use Rattle.gms_run.proofs.Steadiness.{same_more}
 use Rattle.gms_run.proofs.Fronts.{moved_front}
 
--- the listing of a refused source, by the test of its length
-abbrev refused_by : List ℕ → Bool → List ℕ
-refused_by source fits =
-    cond fits (echo_of source) [] ++ (line_of (codes "*** Source error " ++ cond fits (codes "31 NotBuilt") (codes "9 TooLong") ++ first_place) ++ end_text 2)
+-- the listing of a source that is refused at a place, by the test of its length
+abbrev refused_by : List ℕ → Place → Bool → List ℕ
+refused_by source at fits =
+    cond fits (echo_of source) [] ++ (line_of (codes "*** Source error " ++ cond fits (codes "31 NotBuilt") (codes "9 TooLong") ++ place_text at) ++ end_text 2)
 
-too_long : (source : List ℕ) → most_bytes < length source → refused_listing source ≡ refused_by [] false
-too_long source long =
+too_long : (source : List ℕ) (at : Place) → most_bytes < length source → refused_listing source at ≡ refused_by [] at false
+too_long source at long =
     let e : nat_le (length source) most_bytes ≡ false = grind (arith, nat_tests) in
-    ap (refused_by source) e
+    ap (refused_by source at) e
+
+-- Two sources that are too long have the same place of their error.
+long_place : (a b : List ℕ) (at : Place) → most_bytes < length a → most_bytes < length b → IsErrorPlace a at → IsErrorPlace b at
+long_place a b at long more (inl p) = inl (more, p.1)
+long_place a b at long more (inr p) = absurd (omega (arith, long, p.0))
 
 -- What is listed of the first bytes of a source, one more than it may have, is listed of the source.
 pub listed_whole : (status : Status) (bytes text : List ℕ) → IsListing status (take (most_bytes + 1) bytes) text → IsListing status bytes text
@@ -43,7 +51,9 @@ listed_whole status bytes text is = by_length (cases_lt (most_bytes + 1) (length
     refusal h r =
         record {
           refused = λ program m. omega (arith, h, m.0);
-          listing = r.listing ∙ too_long (take (most_bytes + 1) bytes) (omega (arith, length-take (most_bytes + 1) bytes)) ∙ sym (too_long bytes (omega arith));
+          at = r.at;
+          place = long_place (take (most_bytes + 1) bytes) bytes r.at (omega (arith, length-take (most_bytes + 1) bytes)) (omega arith) r.place;
+          listing = r.listing ∙ too_long (take (most_bytes + 1) bytes) r.at (omega (arith, length-take (most_bytes + 1) bytes)) ∙ sym (too_long bytes r.at (omega arith));
         }
 
     longer : (s : Status) → most_bytes + 1 < length bytes → IsListing s (take (most_bytes + 1) bytes) text → IsListing s bytes text
@@ -57,6 +67,11 @@ listed_whole status bytes text is = by_length (cases_lt (most_bytes + 1) (length
     by_length : (most_bytes + 1 < length bytes) ⊎ (length bytes ≤ most_bytes + 1) → IsListing status bytes text
     by_length (inl h) = longer status h is
     by_length (inr h) = shorter h
+
+-- What is left of a file that was read is left behind all that keeps the input.
+keeps_rest : (old mid new : Meaning) (file : List ℕ) → LeavesRest old mid file → new.input ≡ mid.input → LeavesRest old new file
+keeps_rest old mid new file left same =
+    subst (λ (input : Option (List ℕ)). IfSome old.files (λ files. IfSome (files_map.get files file) (λ source. input ≡ Some (drop (most_bytes + 1) source)))) (sym same) left
 
 -- what was reported of a source, where the host tells its files
 lists_source : (status : Status) (old mid new : Meaning) (file source output : List ℕ) → ReadsFile old mid file source → Reports status mid new source output → ListsSource status old new file
@@ -81,6 +96,8 @@ is_reported status old mid new file source output read report e =
       asked = report.asked ∙ ap (λ (names : Option (List (List ℕ))). names_with names output) read.asked ∙ ap (names_with (names_with old.asked file)) e;
       said = report.said ∙ ap (λ (said : Option (List ℕ)). bytes_with said (closing_line (status_code status) output)) read.said ∙ ap (λ (o : List ℕ). bytes_with old.said (closing_line (status_code status) o)) e;
       closed = report.closed;
+      left = keeps_rest old mid new file read.left report.input;
+      precise = λ t. same_more (read.precise t) (report.precise (read.counts.precise ∙ t));
     }
 
 -- A run that wrote a report did what its status says.
@@ -106,7 +123,9 @@ listed_front status bytes text is = by_length (cases_lt (most_bytes + 1) (length
     refusal h r =
         record {
           refused = λ program m. let few : length (take (most_bytes + 1) bytes) ≤ most_bytes = m.0 in omega (arith, h, few, length-take (most_bytes + 1) bytes);
-          listing = r.listing ∙ too_long bytes (omega arith) ∙ sym (too_long (take (most_bytes + 1) bytes) (omega (arith, length-take (most_bytes + 1) bytes)));
+          at = r.at;
+          place = long_place bytes (take (most_bytes + 1) bytes) r.at (omega arith) (omega (arith, length-take (most_bytes + 1) bytes)) r.place;
+          listing = r.listing ∙ too_long bytes r.at (omega arith) ∙ sym (too_long (take (most_bytes + 1) bytes) r.at (omega (arith, length-take (most_bytes + 1) bytes)));
         }
 
     longer : (s : Status) → most_bytes + 1 < length bytes → IsListing s bytes text → IsListing s (take (most_bytes + 1) bytes) text
@@ -131,6 +150,7 @@ write_failed old mid new file source output read left rose e =
         | inl same ↦ inl (same ∙ read.asked)
         | inr more ↦ inr (more ∙ ap (λ (names : Option (List (List ℕ))). names_with names output) read.asked ∙ ap (names_with (names_with old.asked file)) e)
       ];
+      left = keeps_rest old mid new file read.left left.input;
     }
   where
     leaves : (bytes : List ℕ) → source ≡ take (most_bytes + 1) bytes → LeavesListing old new bytes (output_name file)

@@ -1,64 +1,96 @@
 -- A text has one list of tokens at most, and how reading one piece after another finds it.
-use Rattle.std.proofs.Common.{◌≡◌, ℕ, ◌+◌, ◌*◌, ◌<◌, ◌≤◌, true, false, List, [], ◌∷◌, ◌++◌, length, drop, Some, None, refl, sym, ap, ◌∙◌, subst, append_assoc, append-nil, arith}
+use Rattle.std.proofs.Common.{◌≡◌, ℕ, ◌+◌, ◌*◌, ◌<◌, ◌≤◌, true, List, [], ◌∷◌, ◌++◌, drop, Some, refl, sym, ap, ◌∙◌, subst, append_assoc, append-nil, arith}
 use Rattle.gms_labels.specs.declared.place.Place.{Place}
 use Rattle.gms_run.specs.declared.lexer.Lexeme.{Lexeme}
 use Rattle.gms_run.specs.Lexemes.{piece_seen, lexeme_seen, IsFirst}
-use Rattle.gms_run.specs.Tokens.{Piece, Blank, Tab, LineEnd, Single, Token, lexeme_at, place_after, is_allowed, IsMadeOf, token_of, tokens_of, HasTokens, HasNoTokens}
+use Rattle.gms_run.specs.Tokens.{Piece, Blank, Tab, LineEnd, Single, Token, lexeme_at, place_after, is_allowed, IsMadeOf, BeginsNone, token_of, tokens_of, Opens, HasTokens, GoesTo}
 
--- the pieces of a text are known by the text
-pub IsMadeOf-unique : (at : Place) (text : List ℕ) (ps qs : List (Piece × ℕ)) → IsMadeOf at text ps → IsMadeOf at text qs → ps ≡ qs
-IsMadeOf-unique at text [] [] m n = refl
-IsMadeOf-unique at text [] (q ∷ qs) m n = let e : lexeme_at [] ≡ Some q = subst (λ t. lexeme_at t ≡ Some q) m n.0 in cc
-IsMadeOf-unique at text (p ∷ ps) [] m n = let e : lexeme_at [] ≡ Some p = subst (λ t. lexeme_at t ≡ Some p) n m.0 in cc
-IsMadeOf-unique at text (p ∷ ps) (q ∷ qs) m n =
-    let e : q ≡ p = cc in
-    let rest : IsMadeOf (place_after at p.0 p.1) (drop p.1 text) qs = subst (λ r. IsMadeOf (place_after at r.0 r.1) (drop r.1 text) qs) e n.2 in
-    let same : ps ≡ qs = IsMadeOf-unique (place_after at p.0 p.1) (drop p.1 text) ps qs m.2 rest in
-    cc
+-- Pieces with nothing behind them that may stand there are known by the text, and so are their end and the rest.
+pub IsMadeOf-unique : (at : Place) (text : List ℕ) (ps qs : List (Piece × ℕ)) (e f : Place) (r s : List ℕ) → BeginsNone e r → BeginsNone f s → IsMadeOf at text ps e r → IsMadeOf at text qs f s → (ps ≡ qs) × (e ≡ f) × (r ≡ s)
+IsMadeOf-unique at text [] [] e f r s stops halts m n = (refl, m.0 ∙ sym n.0, m.1 ∙ sym n.1)
+IsMadeOf-unique at text [] (q ∷ qs) e f r s stops halts m n =
+    absurd (stops q (ap lexeme_at m.1 ∙ n.0) (ap (λ (p : Place). is_allowed p q.0) m.0 ∙ n.1))
+IsMadeOf-unique at text (p ∷ ps) [] e f r s stops halts m n =
+    absurd (halts p (ap lexeme_at n.1 ∙ m.0) (ap (λ (q : Place). is_allowed q p.0) n.0 ∙ m.1))
+IsMadeOf-unique at text (p ∷ ps) (q ∷ qs) e f r s stops halts m n =
+    let same : q ≡ p = cc in
+    let rest : IsMadeOf (place_after at p.0 p.1) (drop p.1 text) qs f s = subst (λ (x : Piece × ℕ). IsMadeOf (place_after at x.0 x.1) (drop x.1 text) qs f s) same n.2 in
+    let others = IsMadeOf-unique (place_after at p.0 p.1) (drop p.1 text) ps qs e f r s stops halts m.2 rest in
+    let pieces : ps ≡ qs = others.0 in
+    (let all : p ∷ ps ≡ q ∷ qs = cc in all, others.1, others.2)
 
--- a text has one list of tokens at most
+-- The tokens of a text as far as they go are known by the text, and so are their end and the rest.
+pub GoesTo-unique : (at : Place) (text : List ℕ) (ts us : List Token) (e f : Place) (r s : List ℕ) → GoesTo at text ts e r → GoesTo at text us f s → (ts ≡ us) × (e ≡ f) × (r ≡ s)
+GoesTo-unique at text ts us e f r s g h =
+    let same = IsMadeOf-unique at text g.opens.pieces h.opens.pieces e f r s g.stops h.stops g.opens.made h.opens.made in
+    (sym g.opens.tokens_are ∙ ap (tokens_of at) same.0 ∙ h.opens.tokens_are, same.1, same.2)
+
+-- No piece stands first in nothing.
+BeginsNone-nothing : (at : Place) → BeginsNone at []
+BeginsNone-nothing at piece e allowed = let z : ⊥ = cc in z
+
+-- A text that has tokens goes to its end.
+pub HasTokens-goes : (at : Place) (text : List ℕ) (tokens : List Token) → HasTokens at text tokens → (end : Place) × GoesTo at text tokens end []
+HasTokens-goes at text tokens has = (has.0, record { opens = has.1; stops = BeginsNone-nothing has.0 })
+
+-- A text that goes to its end has its tokens.
+pub GoesTo-has : (at : Place) (text : List ℕ) (tokens : List Token) (end : Place) → GoesTo at text tokens end [] → HasTokens at text tokens
+GoesTo-has at text tokens end goes = (end, goes.opens)
+
+-- A text has one list of tokens at most.
 pub HasTokens-unique : (at : Place) (text : List ℕ) (ts us : List Token) → HasTokens at text ts → HasTokens at text us → ts ≡ us
-HasTokens-unique at text ts us (ps, m, e) (qs, n, f) = sym e ∙ ap (tokens_of at) (IsMadeOf-unique at text ps qs m n) ∙ f
+HasTokens-unique at text ts us has too =
+    let g = HasTokens-goes at text ts has in
+    let h = HasTokens-goes at text us too in
+    (GoesTo-unique at text ts us g.0 h.0 [] [] g.1 h.1).0
 
--- the tokens of a text are these, and then those of the rest, which begins at the place `then`
-pub record IsRead (at : Place) (text : List ℕ) (tokens : List Token) (then : Place) (rest : List ℕ) : Type 0 where
-  pub sound : (ts : List Token) → HasTokens then rest ts → HasTokens at text (tokens ++ ts)
-  pub complete : (ts : List Token) → HasTokens at text ts → (us : List Token) × (ts ≡ tokens ++ us) × HasTokens then rest us
+-- The tokens that a text has are those to which it goes.
+pub HasTokens-same : (at : Place) (text : List ℕ) (ts us : List Token) (end : Place) (rest : List ℕ) → GoesTo at text ts end rest → HasTokens at text us → us ≡ ts
+HasTokens-same at text ts us end rest goes has = let h = HasTokens-goes at text us has in (GoesTo-unique at text us ts h.0 end [] rest h.1 goes).0
 
--- the tokens behind a piece
-tokens_behind : (at : Place) (text : List ℕ) (piece : Piece × ℕ) (ts : List Token) → 0 < length text → lexeme_at text ≡ Some piece → HasTokens at text ts → (is_allowed at piece.0 ≡ true) × ((us : List Token) × (ts ≡ token_of at piece.0 ++ us) × HasTokens (place_after at piece.0 piece.1) (drop piece.1 text) us)
-tokens_behind at text piece ts some e ([], m, f) = absurd (let none : length text ≡ 0 = ap length m in omega arith)
-tokens_behind at text piece ts some e (p ∷ ps, m, f) =
-    let same : p ≡ piece = cc in
-    subst (λ r. (is_allowed at r.0 ≡ true) × ((us : List Token) × (ts ≡ token_of at r.0 ++ us) × HasTokens (place_after at r.0 r.1) (drop r.1 text) us)) same (m.1, (tokens_of (place_after at p.0 p.1) ps, sym f, (ps, m.2, refl)))
+-- A text with something behind its tokens that begins no token has no tokens.
+pub HasTokens-none : (at : Place) (text : List ℕ) (ts us : List Token) (end : Place) (byte : ℕ) (rest : List ℕ) → GoesTo at text ts end (byte ∷ rest) → HasTokens at text us → ⊥
+HasTokens-none at text ts us end byte rest goes has =
+    let h = HasTokens-goes at text us has in
+    let e : [] ≡ byte ∷ rest = (GoesTo-unique at text us ts h.0 end [] (byte ∷ rest) h.1 goes).2 in
+    let z : ⊥ = cc in z
 
--- nothing stands in a text that begins with no piece
-pub HasNoTokens-none : (at : Place) (text : List ℕ) → 0 < length text → lexeme_at text ≡ None → HasNoTokens at text
-HasNoTokens-none at text some e ts ([], m, f) = let none : length text ≡ 0 = ap length m in omega arith
-HasNoTokens-none at text some e ts (p ∷ ps, m, f) = let h = m.0 in cc
+-- One piece more.
+IsMadeOf-step : (at : Place) (text : List ℕ) (pieces : List (Piece × ℕ)) (end : Place) (rest : List ℕ) (piece : Piece × ℕ) → lexeme_at rest ≡ Some piece → is_allowed end piece.0 ≡ true → IsMadeOf at text pieces end rest → IsMadeOf at text (pieces ++ piece ∷ []) (place_after end piece.0 piece.1) (drop piece.1 rest)
+IsMadeOf-step at text [] end rest piece there allowed made = (
+  ap lexeme_at (sym made.1) ∙ there,
+  ap (λ (p : Place). is_allowed p piece.0) (sym made.0) ∙ allowed,
+  (ap (λ (p : Place). place_after p piece.0 piece.1) made.0, ap (drop piece.1) made.1),
+)
+IsMadeOf-step at text (p ∷ pieces) end rest piece there allowed made =
+    (made.0, made.1, IsMadeOf-step (place_after at p.0 p.1) (drop p.1 text) pieces end rest piece there allowed made.2)
 
-pub IsRead-start : (at : Place) (text : List ℕ) → IsRead at text [] at text
-IsRead-start at text = record { sound = λ ts h. h; complete = λ ts h. (ts, refl, h) }
+-- The tokens of one piece more.
+tokens_of-step : (at : Place) (text : List ℕ) (pieces : List (Piece × ℕ)) (end : Place) (rest : List ℕ) (piece : Piece × ℕ) → IsMadeOf at text pieces end rest → tokens_of at (pieces ++ piece ∷ []) ≡ tokens_of at pieces ++ token_of end piece.0
+tokens_of-step at text [] end rest piece made = append-nil (token_of at piece.0) ∙ ap (λ (p : Place). token_of p piece.0) (sym made.0)
+tokens_of-step at text (p ∷ pieces) end rest piece made =
+    ap (λ (ts : List Token). token_of at p.0 ++ ts) (tokens_of-step (place_after at p.0 p.1) (drop p.1 text) pieces end rest piece made.2) ∙ sym (append_assoc (token_of at p.0) (tokens_of (place_after at p.0 p.1) pieces) (token_of end piece.0))
 
-pub IsRead-step : (at : Place) (text : List ℕ) (tokens : List Token) (then : Place) (rest : List ℕ) (piece : Piece × ℕ) → 0 < length rest → lexeme_at rest ≡ Some piece → is_allowed then piece.0 ≡ true → IsRead at text tokens then rest → IsRead at text (tokens ++ token_of then piece.0) (place_after then piece.0 piece.1) (drop piece.1 rest)
-IsRead-step at text tokens then rest piece some e allowed read = record {
-  sound = λ ts h. subst (λ all. HasTokens at text all) (sym (append_assoc tokens (token_of then piece.0) ts)) (read.sound (token_of then piece.0 ++ ts) (piece ∷ h.0, (e, allowed, h.1), ap (λ us. token_of then piece.0 ++ us) h.2));
-  complete = λ ts h.
-      let before = read.complete ts h in
-      let behind = (tokens_behind then rest piece before.0 some e before.2).1 in
-      (behind.0, before.1 ∙ ap (λ us. tokens ++ us) behind.1 ∙ sym (append_assoc tokens (token_of then piece.0) behind.0), behind.2);
+Opens-step : (at : Place) (text : List ℕ) (tokens : List Token) (end : Place) (rest : List ℕ) (piece : Piece × ℕ) → lexeme_at rest ≡ Some piece → is_allowed end piece.0 ≡ true → Opens at text tokens end rest → Opens at text (tokens ++ token_of end piece.0) (place_after end piece.0 piece.1) (drop piece.1 rest)
+Opens-step at text tokens end rest piece there allowed opens = record {
+  pieces = opens.pieces ++ piece ∷ [];
+  made = IsMadeOf-step at text opens.pieces end rest piece there allowed opens.made;
+  tokens_are = tokens_of-step at text opens.pieces end rest piece opens.made ∙ ap (λ (ts : List Token). ts ++ token_of end piece.0) opens.tokens_are;
 }
 
-pub IsRead-end : (at : Place) (text : List ℕ) (tokens : List Token) (then : Place) → IsRead at text tokens then [] → HasTokens at text tokens
-IsRead-end at text tokens then read = subst (λ ts. HasTokens at text ts) (append-nil tokens) (read.sound [] ([], refl, refl))
+-- what is left once a piece was taken
+pub record IsBehind (at : Place) (text : List ℕ) (lexeme : Lexeme) (tokens : List Token) (end : Place) (rest : List ℕ) (all : List Token) : Type 0 where
+  pub tokens_are : all ≡ tokens ++ token_of at (piece_seen lexeme.piece)
+  pub end_is : end ≡ place_after at (piece_seen lexeme.piece) lexeme.length
+  pub rest_is : rest ≡ drop lexeme.length text
 
--- where the rest has no tokens, the text has none
-pub IsRead-none : (at : Place) (text : List ℕ) (tokens : List Token) (then : Place) (rest : List ℕ) → HasNoTokens then rest → IsRead at text tokens then rest → HasNoTokens at text
-IsRead-none at text tokens then rest none read ts h = let before = read.complete ts h in none before.0 before.2
-
--- where a piece stands first that may not stand there, a text has no tokens
-pub HasNoTokens-barred : (at : Place) (text : List ℕ) (piece : Piece × ℕ) → 0 < length text → lexeme_at text ≡ Some piece → is_allowed at piece.0 ≡ false → HasNoTokens at text
-HasNoTokens-barred at text piece some e barred ts h = let allowed = (tokens_behind at text piece ts some e h).0 in cc
+-- One piece more was read.
+pub Opens-next : (at : Place) (text : List ℕ) (tokens : List Token) (then : Place) (rest : List ℕ) (lexeme : Lexeme) (end : Place) (behind : List ℕ) (all : List Token) → Opens at text tokens then rest → IsFirst then rest lexeme → IsBehind then rest lexeme tokens end behind all → Opens at text all end behind
+Opens-next at text tokens then rest lexeme end behind all opens first next =
+    subst (λ (ts : List Token). Opens at text ts end behind) (sym next.tokens_are)
+    (subst (λ (p : Place). Opens at text (tokens ++ token_of then (piece_seen lexeme.piece)) p behind) (sym next.end_is)
+    (subst (λ (r : List ℕ). Opens at text (tokens ++ token_of then (piece_seen lexeme.piece)) (place_after then (piece_seen lexeme.piece) lexeme.length) r) (sym next.rest_is)
+    (Opens-step at text tokens then rest (lexeme_seen lexeme) first.there first.allowed opens)))
 
 -- the place behind a piece, which is so many bytes further
 pub line-place_after : (at : Place) (piece : Piece) (bytes : ℕ) → 0 < bytes → (place_after at piece bytes).line ≤ at.line + bytes
@@ -72,17 +104,3 @@ column-place_after at Blank bytes some = omega arith
 column-place_after at Tab bytes some = omega arith
 column-place_after at LineEnd bytes some = omega arith
 column-place_after at (Single kind) bytes some = omega arith
-
--- what is left once a piece was taken
-pub record IsBehind (at : Place) (text : List ℕ) (lexeme : Lexeme) (tokens : List Token) (end : Place) (rest : List ℕ) (all : List Token) : Type 0 where
-  pub tokens_are : all ≡ tokens ++ token_of at (piece_seen lexeme.piece)
-  pub end_is : end ≡ place_after at (piece_seen lexeme.piece) lexeme.length
-  pub rest_is : rest ≡ drop lexeme.length text
-
-pub IsRead-next : (at : Place) (text : List ℕ) (tokens : List Token) (then : Place) (rest : List ℕ) (lexeme : Lexeme) (end : Place) (behind : List ℕ) (all : List Token) → IsRead at text tokens then rest → IsFirst then rest lexeme → IsBehind then rest lexeme tokens end behind all → IsRead at text all end behind
-IsRead-next at text tokens then rest lexeme end behind all read first next =
-    let some : 0 < length rest = omega (arith, first.some, first.within) in
-    subst (λ ts. IsRead at text ts end behind) (sym next.tokens_are)
-    (subst (λ p. IsRead at text (tokens ++ token_of then (piece_seen lexeme.piece)) p behind) (sym next.end_is)
-    (subst (λ r. IsRead at text (tokens ++ token_of then (piece_seen lexeme.piece)) (place_after then (piece_seen lexeme.piece) lexeme.length) r) (sym next.rest_is)
-    (IsRead-step at text tokens then rest (lexeme_seen lexeme) some first.there first.allowed read)))

@@ -1,20 +1,25 @@
 -- One transfer over a host behind another.
-use Rattle.std.proofs.Common.{◌≡◌, ℕ, ◌+◌, ◌-◌, ◌<◌, ◌≤◌, true, List, [], ◌++◌, length, take, drop, Option, Some, None, refl, sym, ap, ◌∙◌, subst, append_assoc, append-nil, arith, length-drop, length-append, length-take}
+use Rattle.std.proofs.Common.{◌≡◌, ℕ, ◌+◌, ◌-◌, ◌<◌, ◌≤◌, true, List, [], ◌++◌, length, take, drop, Option, Some, None, Result, refl, sym, ap, ◌∙◌, subst, append_assoc, append-nil, arith, length-drop, length-append, length-take}
 use Rattle.std.proofs.Math.Seq.{take-add}
-use Rattle.std.proofs.lemmas.List.{take_all, drop-drop, take-append-le}
+use Rattle.std.proofs.lemmas.List.{take_all, drop_all, drop-drop, take-append-le}
 use Rattle.std.specs.Prelude.{IfSome}
+use Rattle.gms_host.specs.declared.host.Failed.{Failed}
 use Rattle.gms_host.specs.Meaning.{Meaning}
-use Rattle.gms_host.specs.Rules.{Writes, Says, Reads, TakesOff, CountsStay, bytes_with}
+use Rattle.gms_host.specs.Rules.{Writes, Says, Reads, TakesOff, CountsStay, Steady, Precise, bytes_with}
 use Rattle.gms_run.specs.Transfers.{KeepsOutside, TakesSource}
 use Rattle.gms_run.specs.Statements.{most_bytes}
-use Rattle.gms_run.proofs.Splits.{rest_from}
+use Rattle.gms_run.proofs.Steadiness.{Calm, calm_call, calm_more, same_more}
+
+-- what stands behind a place, taken as a slice
+rest_from : {X : Type 0} (xs : List X) (k : ℕ) → take (length xs - k) (drop k xs) ≡ drop k xs
+rest_from xs k = take_all (length xs - k) (drop k xs) (simp length-drop (omega arith))
 
 -- Counts that did not fall twice did not fall.
 pub CountsStay-more : {a b c : Meaning} → CountsStay a b → CountsStay b c → CountsStay a c
-CountsStay-more p q = record { read_faults = omega arith; write_faults = omega arith }
+CountsStay-more p q = record { read_faults = omega arith; write_faults = omega arith; reliable = q.reliable ∙ p.reliable; precise = q.precise ∙ p.precise }
 
 pub CountsStay-none : (a : Meaning) → CountsStay a a
-CountsStay-none a = record { read_faults = omega arith; write_faults = omega arith }
+CountsStay-none a = record { read_faults = omega arith; write_faults = omega arith; reliable = refl; precise = refl }
 
 bytes_with-none : (o : Option (List ℕ)) → o ≡ bytes_with o []
 bytes_with-none None = refl
@@ -105,6 +110,7 @@ pub record ReadSoFar (old now : Meaning) (taken : List ℕ) : Type 0 where
   pub taken_off : IfSome old.input (IsLeft now taken)
   pub reading : now.reading ≡ true
   pub keeps : KeepsOutside old now
+  pub calm : Calm old now
 
 KeepsOutside-more : {a b c : Meaning} {count : ℕ} {buffer : List ℕ} → KeepsOutside a b → Reads b c count buffer → KeepsOutside a c
 KeepsOutside-more p q =
@@ -133,33 +139,53 @@ left_more (Some bytes) now next taken items buffer count so r e =
     }
 
 -- More was read: the count's bytes of a buffer with more behind it.
-pub read_more : (old now next : Meaning) (taken items buffer rest : List ℕ) (count : ℕ) → ReadSoFar old now taken → Reads now next count buffer → items ≡ taken ++ take count (buffer ++ rest) → length buffer + length taken ≤ most_bytes + 1 → ReadSoFar old next items
-read_more old now next taken items buffer rest count so r e few =
+pub read_more : {r : Result ℕ Failed} (old now next : Meaning) (taken items buffer rest : List ℕ) (count : ℕ) → ReadSoFar old now taken → Reads now next count buffer → Steady now next r → Precise now next → items ≡ taken ++ take count (buffer ++ rest) → length buffer + length taken ≤ most_bytes + 1 → ReadSoFar old next items
+read_more old now next taken items buffer rest count so r steady precise e few =
     let e' : items ≡ taken ++ take count buffer = e ∙ ap (λ (x : List ℕ). taken ++ x) (take-append-le count buffer rest r.room) in
     record {
       few = let n : length items ≡ length (taken ++ take count buffer) = ap length e' in omega (arith, length-append taken (take count buffer), length-take count buffer, r.room);
       taken_off = left_more old.input now next taken items buffer count so.taken_off r e';
       reading = r.reading ∙ so.reading;
       keeps = KeepsOutside-more so.keeps r;
+      calm = calm_more so.calm (calm_call r.counts steady precise);
     }
 
 -- The input is at its end.
-pub read_end : (old now next : Meaning) (taken buffer : List ℕ) (count : ℕ) → ReadSoFar old now taken → Reads now next count buffer → count ≡ 0 → TakesSource old next taken
-read_end old now next taken buffer count so r e =
-    record { taken = at_end old.input so.taken_off; keeps = KeepsOutside-more so.keeps r }
+pub read_end : (old now next : Meaning) (taken buffer : List ℕ) (count : ℕ) → ReadSoFar old now taken → Reads now next count buffer → Precise now next → count ≡ 0 → TakesSource old next taken
+read_end old now next taken buffer count so r precise e =
+    record { taken = at_end old.input so.taken_off; left = none_left old.input so.taken_off; keeps = KeepsOutside-more so.keeps r; precise = λ t. same_more (so.calm.precisely t) (precise (so.calm.precise ∙ t)) }
   where
+    -- nothing is left of the bytes, and they are no more than were taken
+    ends : (bytes : List ℕ) → IsLeft now taken bytes → (next.input ≡ Some []) × (length bytes ≤ length taken)
+    ends bytes l =
+        let t : TakesOff (drop (length taken) bytes) next.input count buffer = took now next (drop (length taken) bytes) count buffer r l.left in
+        let none : drop (length taken) bytes ≡ [] = t.end.0 e in
+        let n : length (drop (length taken) bytes) ≡ length {A = ℕ} [] = ap length none in
+        (t.left ∙ ap Some (ap (λ (k : ℕ). drop k (drop (length taken) bytes)) e ∙ none), omega (arith, length-drop (length taken) bytes))
+
     at_end : (input : Option (List ℕ)) → IfSome input (IsLeft now taken) → IfSome input (λ bytes. taken ≡ take (most_bytes + 1) bytes)
     at_end None l = tt
     at_end (Some bytes) l =
-        let t : TakesOff (drop (length taken) bytes) next.input count buffer = took now next (drop (length taken) bytes) count buffer r l.left in
-        let none : drop (length taken) bytes ≡ [] = t.end.0 e in
-        let short : length bytes ≤ length taken = (let n : length (drop (length taken) bytes) ≡ length {A = ℕ} [] = ap length none in omega (arith, length-drop (length taken) bytes)) in
+        let short : length bytes ≤ length taken = (ends bytes l).1 in
         l.front ∙ take_all (length taken) bytes short ∙ sym (take_all (most_bytes + 1) bytes (omega (arith, so.few)))
+
+    none_left : (input : Option (List ℕ)) → IfSome input (IsLeft now taken) → IfSome input (λ bytes. next.input ≡ Some (drop (most_bytes + 1) bytes))
+    none_left None l = tt
+    none_left (Some bytes) l =
+        let end = ends bytes l in
+        end.0 ∙ ap Some (sym (drop_all (most_bytes + 1) bytes (omega (arith, so.few, end.1))))
 
 -- One byte more than a source may have was taken.
 pub read_full : (old now : Meaning) (taken : List ℕ) → ReadSoFar old now taken → most_bytes < length taken → TakesSource old now taken
-read_full old now taken so full = record { taken = at_full old.input so.taken_off; keeps = so.keeps }
+read_full old now taken so full = record { taken = at_full old.input so.taken_off; left = rest_left old.input so.taken_off; keeps = so.keeps; precise = so.calm.precisely }
   where
+    all : length taken ≡ most_bytes + 1
+    all = omega (arith, so.few)
+
+    rest_left : (input : Option (List ℕ)) → IfSome input (IsLeft now taken) → IfSome input (λ bytes. now.input ≡ Some (drop (most_bytes + 1) bytes))
+    rest_left None l = tt
+    rest_left (Some bytes) l = l.left ∙ ap (λ (k : ℕ). Some (drop k bytes)) all
+
     at_full : (input : Option (List ℕ)) → IfSome input (IsLeft now taken) → IfSome input (λ bytes. taken ≡ take (most_bytes + 1) bytes)
     at_full None l = tt
-    at_full (Some bytes) l = let n : length taken ≡ most_bytes + 1 = omega (arith, so.few) in l.front ∙ ap (λ (k : ℕ). take k bytes) n
+    at_full (Some bytes) l = l.front ∙ ap (λ (k : ℕ). take k bytes) all

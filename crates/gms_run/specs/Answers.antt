@@ -1,14 +1,16 @@
 -- What each status of a run says: its cause, and what stands in the output, in the names asked for and on standard output.
-use Rattle.std.specs.Prelude.{◌≡◌, ℕ, ◌⊎◌, false, List, take, map, string_bytes, Option, Some, None, option_map, IfSome, IsSome}
+use Rattle.std.specs.Prelude.{◌≡◌, ℕ, ◌+◌, ◌⊎◌, true, false, List, take, drop, map, string_bytes, Option, Some, None, option_map, IfSome, IsSome}
 use Rattle.std.specs.declared.string.String.{String}
 use Rattle.std.specs.FinMap as files_map
-use Rattle.gms_host.specs.Meaning.{Meaning, Rose}
-use Rattle.gms_host.specs.Rules.{names_with, bytes_with}
+use Rattle.gms_host.specs.Meaning.{Meaning, Files, Rose}
+use Rattle.gms_host.specs.Rules.{IsThere, Precise, names_with, bytes_with}
+use Rattle.gms_labels.specs.declared.place.Place.{Place}
 use Rattle.gms_run.specs.declared.execution.Stop.{Stop}
 use Rattle.gms_run.specs.declared.status.Status.{Status}
 use Rattle.gms_run.specs.declared.status.Status.TheVariants.{Done, Usage, Compile, Execution, ReadFault, WriteFault}
 use Rattle.gms_run.specs.declared.tree.Program.{Program}
-use Rattle.gms_run.specs.Statements.{Means}
+use Rattle.gms_run.specs.Statements.{Means, most_bytes}
+use Rattle.gms_run.specs.Places.{IsErrorPlace}
 use Rattle.gms_run.specs.Run.{run_of}
 use Rattle.gms_run.specs.ListingText.{listing_of, refused_listing}
 use Rattle.gms_run.specs.CommandLine.{file_of, output_name, usage_line, read_fault_line, closing_line}
@@ -47,10 +49,12 @@ pub record ShowsRun (status : Status) (source text : List ℕ) : Type 0 where
   pub ends : EndsSo status (run_of program).stopped
   pub listing : text ≡ listing_of source (run_of program)
 
--- The source means no program, and the text is the listing that says so.
+-- The source means no program, and the text is the listing that says so, with the place of the error.
 pub record ShowsRefusal (source text : List ℕ) : Type 0 where
   pub refused : MeansNone source
-  pub listing : text ≡ refused_listing source
+  pub at : Place
+  pub place : IsErrorPlace source at
+  pub listing : text ≡ refused_listing source at
 
 -- what the text of a listing is, where a run ends with this status
 abbrev pub IsListing : Status → List ℕ → List ℕ → Type 0
@@ -64,17 +68,27 @@ abbrev pub ListsSource : Status → Meaning → Meaning → List ℕ → Type 0
 ListsSource status old new file =
     IfSome old.files (λ files. (source : List ℕ) × (files_map.get files file ≡ Some source) × ((text : List ℕ) × IsListing status source text × (new.output ≡ option_map (λ _. text) old.output)))
 
+-- Where the host tells its files, what is left of the input is what stands behind the 1,048,577th byte of the file, which is one more
+-- than a source may have: nothing of a shorter file.
+abbrev pub LeavesRest : Meaning → Meaning → List ℕ → Type 0
+LeavesRest old new file =
+    IfSome old.files (λ files. IfSome (files_map.get files file) (λ source. new.input ≡ Some (drop (most_bytes + 1) source)))
+
 -- Standard output, where it is told, has the line behind it, or the front of the line where a fault of writing was counted.
 pub record SaysLine (old new : Meaning) (line : List ℕ) : Type 0 where
   pub front : (count : ℕ) × (new.said ≡ bytes_with old.said (take count line))
   pub whole : (new.said ≡ bytes_with old.said line) ⊎ Rose old.write_faults new.write_faults
 
--- The listing of the file was written to the output named after it, which is closed, and the closing line was said.
+-- The file was read, and no more of it than one byte more than a source may have. Its listing was written to the output named after it,
+-- which is closed, and the closing line was said.
 pub record IsReported (status : Status) (old new : Meaning) (file : List ℕ) : Type 0 where
   pub listing : ListsSource status old new file
   pub asked : new.asked ≡ names_with (names_with old.asked file) (output_name file)
   pub said : new.said ≡ bytes_with old.said (closing_line (status_code status) (output_name file))
   pub closed : new.writing ≡ false
+  pub left : LeavesRest old new file
+  -- no fault was counted, where the host counts no more than it answers
+  pub precise : Precise old new
 
 -- The words are refused: no file is asked for, the output stays, and the usage line is said.
 pub record IsUsage (old new : Meaning) (words : List (List ℕ)) : Type 0 where
@@ -105,12 +119,13 @@ abbrev pub LeavesListing : Meaning → Meaning → List ℕ → List ℕ → Typ
 LeavesListing old new source output =
     (status : Status) → (text : List ℕ) → IsListing status source text → LeavesFront status old new output text
 
--- The source was read, and a fault of writing was counted: the output is the front of the listing, and no name but those of the
--- file and of the output was asked for.
+-- The file was read, and no more of it than one byte more than a source may have, and a fault of writing was counted: the output is the
+-- front of the listing, and no name but those of the file and of the output was asked for.
 pub record IsWriteFault (old new : Meaning) (file : List ℕ) : Type 0 where
   pub rose : Rose old.write_faults new.write_faults
   pub front : IfSome old.files (λ files. (source : List ℕ) × (files_map.get files file ≡ Some source) × LeavesListing old new source (output_name file))
   pub asked : (new.asked ≡ names_with old.asked file) ⊎ (new.asked ≡ names_with (names_with old.asked file) (output_name file))
+  pub left : LeavesRest old new file
 
 -- what a run that answers this status did, for the file that the words name
 abbrev pub OfFile : Status → Meaning → Meaning → List ℕ → Type 0
@@ -129,3 +144,24 @@ OfNamed words P = (file : List ℕ) × (file_of words ≡ Some file) × P file
 abbrev pub Answers : Status → List (List ℕ) → Meaning → Meaning → Type 0
 Answers Usage words old new = IsUsage old new words
 Answers status words old new = OfNamed words (OfFile status old new)
+
+-- The host is reliable, and the file that the words name, where they name one, is there where the host tells its files.
+pub record IsReadyFor (old : Meaning) (words : List (List ℕ)) : Type 0 where
+  pub reliable : old.reliable ≡ true
+  pub there : IfSome (file_of words) (IsThere old)
+
+-- The words name a file, the host tells its files, and the bytes of that file mean a program.
+pub record NamesProgram (old : Meaning) (words : List (List ℕ)) : Type 0 where
+  pub file : List ℕ
+  pub named : file_of words ≡ Some file
+  pub files : Files
+  pub told : old.files ≡ Some files
+  pub source : List ℕ
+  pub found : files_map.get files file ≡ Some source
+  pub program : Program
+  pub means : Means source program
+
+-- no fault was met: the host is reliable, or neither count of faults rose
+abbrev pub MeetsNoFault : Meaning → Meaning → Type 0
+MeetsNoFault old new =
+    (old.reliable ≡ true) ⊎ ((Rose old.read_faults new.read_faults → ⊥) × (Rose old.write_faults new.write_faults → ⊥))

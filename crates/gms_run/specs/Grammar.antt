@@ -13,6 +13,7 @@ use Rattle.gms_run.specs.declared.tree.Step.{Step}
 use Rattle.gms_run.specs.declared.tree.Product.{Product}
 use Rattle.gms_run.specs.declared.tree.Term.{Term}
 use Rattle.gms_run.specs.declared.tree.Expression.{Expression}
+use Rattle.gq_number.specs.Number.{Number, neg_ℚ}
 use Rattle.gq_field.specs.Values.{half_value}
 use Rattle.gms_run.specs.Tokens.{Kind, Word, Literal, Mark, Token}
 
@@ -39,6 +40,11 @@ abbrev pub sign_for : Kind → Option Sign
 sign_for (Mark Plus) = Some sign.Plus
 sign_for (Mark Minus) = Some sign.Minus
 sign_for _ = None
+
+-- the number with a sign before it
+abbrev pub with_sign : Sign → Number → Number
+with_sign sign.Plus x = x
+with_sign sign.Minus x = neg_ℚ x
 
 -- a sign, which is plus where none is written, and what follows it
 abbrev pub signed_by : Option Sign → Token → List Token → Sign × List Token
@@ -82,12 +88,17 @@ abbrev pub IsTerm : List (List ℕ) → List Token → Term → List Token → T
 IsTerm names [] term rest = ⊥
 IsTerm names (token ∷ tokens) term rest = (sign_for token.0 ≡ Some term.sign) × IsProduct names tokens term.product rest
 
--- tokens are terms, one behind another
-abbrev pub AreTerms : List (List ℕ) → List Token → List Term → Type 0
-AreTerms names tokens [] = tokens ≡ []
-AreTerms names tokens (term ∷ terms) = (rest : List Token) × IsTerm names tokens term rest × AreTerms names rest terms
+-- tokens begin with terms, one behind another, and this is the rest
+abbrev pub AreTerms : List (List ℕ) → List Token → List Term → List Token → Type 0
+AreTerms names tokens [] rest = rest ≡ tokens
+AreTerms names tokens (term ∷ terms) rest = (next : List Token) × IsTerm names tokens term next × AreTerms names next terms rest
 
--- tokens are a product with an optional sign, and terms behind it
-abbrev pub IsExpression : List (List ℕ) → List Token → Expression → Type 0
-IsExpression names tokens expression =
-    (expression.sign ≡ (signed tokens).0) × ((rest : List Token) × IsProduct names (signed tokens).1 expression.first rest × AreTerms names rest expression.terms)
+-- no `+` or `-` begins the tokens
+abbrev pub ends_sum : List Token → Bool
+ends_sum [] = true
+ends_sum (token ∷ tokens) = is_none (sign_for token.0)
+
+-- Tokens begin with a product with an optional sign and the terms behind it, as far as they go, and this is the rest.
+abbrev pub IsExpression : List (List ℕ) → List Token → Expression → List Token → Type 0
+IsExpression names tokens expression rest =
+    (expression.sign ≡ (signed tokens).0) × ((next : List Token) × IsProduct names (signed tokens).1 expression.first next × AreTerms names next expression.terms rest × (ends_sum rest ≡ true))

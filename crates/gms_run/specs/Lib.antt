@@ -1,6 +1,8 @@
 pub mod Tokens
 pub mod Grammar
 pub mod Statements
+pub mod Places
+pub mod Nexts
 pub mod Drafts
 pub mod Run
 pub mod ListingText

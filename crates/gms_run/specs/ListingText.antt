@@ -81,10 +81,6 @@ abbrev pub fault_name : Fault → List ℕ
 fault_name Limit = codes "Limit"
 fault_name Divide = codes "Divide"
 
--- where every error of a source is said to be
-abbrev pub first_place : List ℕ
-first_place = codes " at line 1 column 1"
-
 -- where something is
 abbrev pub place_text : Place → List ℕ
 place_text at = codes " at line " ++ decimal at.line ++ codes " column " ++ decimal at.column
@@ -111,15 +107,15 @@ run_text outcome = flat_map shown_text outcome.shown ++ fault_text outcome.stopp
 abbrev pub listing_of : List ℕ → Outcome → List ℕ
 listing_of source outcome = echo_of source ++ run_text outcome
 
--- the error of a refused source: too long, or outside the language
-abbrev pub error_text : List ℕ → List ℕ
-error_text source =
-    line_of (codes "*** Source error " ++ (if nat_le (length source) most_bytes then codes "31 NotBuilt" else codes "9 TooLong") ++ first_place)
+-- the error of a refused source at a place: too long, or outside the language
+abbrev pub error_text : List ℕ → Place → List ℕ
+error_text source at =
+    line_of (codes "*** Source error " ++ (if nat_le (length source) most_bytes then codes "31 NotBuilt" else codes "9 TooLong") ++ place_text at)
 
--- the lines of a refused source: its error, and the last line
-abbrev pub refused_text : List ℕ → List ℕ
-refused_text source = error_text source ++ end_text 2
+-- the lines of a source that is refused at a place: its error, and the last line
+abbrev pub refused_text : List ℕ → Place → List ℕ
+refused_text source at = error_text source at ++ end_text 2
 
--- the listing of a refused source; one that is too long has no echo
-abbrev pub refused_listing : List ℕ → List ℕ
-refused_listing source = (if nat_le (length source) most_bytes then echo_of source else []) ++ refused_text source
+-- the listing of a source that is refused at a place; one that is too long has no echo
+abbrev pub refused_listing : List ℕ → Place → List ℕ
+refused_listing source at = (if nat_le (length source) most_bytes then echo_of source else []) ++ refused_text source at

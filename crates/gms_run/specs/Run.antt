@@ -19,6 +19,7 @@ use Rattle.gms_run.specs.declared.tree.Product.{Product}
 use Rattle.gms_run.specs.declared.tree.Statement.{Statement}
 use Rattle.gms_run.specs.declared.tree.Statement.TheVariants.{Assign, Display}
 use Rattle.gms_run.specs.declared.tree.Program.{Program}
+use Rattle.gms_run.specs.Grammar.{with_sign}
 use Rattle.gms_run.specs.declared.execution.Fault.{Fault}
 use Rattle.gms_run.specs.declared.execution.Fault.TheVariants as fault
 use Rattle.gms_run.specs.declared.execution.Stop.{Stop}
@@ -40,14 +41,9 @@ abbrev pub factor_value : State → Factor → Number
 factor_value state (factor.Number h) = half_value h
 factor_value state (factor.Scalar k) = scalar_value state k
 
--- the number with a sign before it
-abbrev pub signed_value : Sign → Number → Number
-signed_value sign.Plus x = x
-signed_value sign.Minus x = neg_ℚ x
-
 -- the value of an operand
 abbrev pub operand_value : State → Operand → Number
-operand_value state operand = signed_value operand.sign (factor_value state operand.factor)
+operand_value state operand = with_sign operand.sign (factor_value state operand.factor)
 
 -- a fault at a place
 abbrev pub fault_at : Fault → Place → Stop
@@ -101,7 +97,7 @@ sum_after state x (term ∷ terms) =
 -- the value of an expression, or its first fault
 abbrev pub expression_value : State → Expression → Result Number Stop
 expression_value state expression =
-    product_value state expression.first >>= λ x. sum_after state (signed_value expression.sign x) expression.terms
+    product_value state expression.first >>= λ x. sum_after state (with_sign expression.sign x) expression.terms
 
 -- what a display shows of one scalar: the line of its statement, the name as declared, and the value at that point
 pub record Shown : Type 0 where

@@ -1,19 +1,22 @@
 -- Statements, as derivations over tokens, and which sources are programs (GAMS User's Guide, "GAMS Programs").
-use Rattle.std.specs.Prelude.{◌≡◌, ℕ, ◌≤◌, Bool, true, false, cond, List, [], ◌∷◌, ◌++◌, length, map, flat_map, Option, Some, None, MatchOption, option_map, codes, pos, ⊤}
-use Rattle.std.specs.List.{slice_split, list_any}
+use Rattle.std.specs.Prelude.{◌≡◌, ◌⊎◌, ℕ, ◌≤◌, Bool, false, if◌then◌else◌, List, [], ◌∷◌, ◌++◌, length, map, flat_map, Option, Some, None, codes, pos}
+use Rattle.std.specs.List.{list_any}
 use Rattle.std.specs.Str.{str_eq_ignore_ascii_case}
 use Rattle.gms_labels.specs.declared.place.Place.{Place}
-use Rattle.gms_run.specs.declared.token.Symbol.TheVariants.{Slash, Comma, Semicolon, Equals, Plus, Minus}
+use Rattle.gms_run.specs.declared.token.Symbol.{Symbol}
+use Rattle.gms_run.specs.declared.token.Symbol.TheVariants.{Slash, Comma, Semicolon, Equals}
 use Rattle.gms_run.specs.declared.token.TheConstants.{RESERVED}
 use Rattle.gms_run.specs.declared.tree.Statement.{Statement}
-use Rattle.gms_run.specs.declared.tree.Statement.TheVariants.{Assign, Display}
+use Rattle.gms_run.specs.declared.tree.Statement.TheVariants as statement
+use Rattle.gms_run.specs.declared.tree.Expression.{Expression}
+use Rattle.gms_run.specs.declared.parser.Keyword.{Keyword}
+use Rattle.gms_run.specs.declared.parser.Keyword.TheVariants.{Scalar, Display}
 use Rattle.gms_run.specs.declared.tree.Program.{Program}
-use Rattle.gq_number.specs.Number.{Number, whole, neg_ℚ}
+use Rattle.gq_number.specs.Number.{Number, whole}
 use Rattle.gq_field.specs.declared.half.Half.{Half}
 use Rattle.gq_field.specs.Values.{half_value}
-use Rattle.gms_run.specs.declared.token.Token.{Token as CodeToken}
-use Rattle.gms_run.specs.Tokens.{Kind, Word, Literal, Mark, Token, HasTokens, start, tokens_seen}
-use Rattle.gms_run.specs.Grammar.{place_of, IsExpression}
+use Rattle.gms_run.specs.Tokens.{Word, Literal, Mark, Token, HasTokens, start}
+use Rattle.gms_run.specs.Grammar.{place_of, signed, with_sign, IsExpression}
 
 -- how many bytes a source may have
 abbrev pub most_bytes : ℕ
@@ -23,109 +26,96 @@ most_bytes = 1048576
 abbrev pub is_reserved : List ℕ → Bool
 is_reserved name = list_any (λ word. str_eq_ignore_ascii_case name word.now) RESERVED
 
--- What stands between two semicolons: declared scalars with their first values, or a statement that acts.
+-- What a statement gives: declared scalars with their first values, or what acts.
 pub data Part : Type 0 where
   Declares : List (List ℕ × Half) → Part
   Acts : Statement → Part
 
--- what tokens are
-abbrev pub kinds : List Token → List Kind
-kinds tokens = map (λ t. t.0) tokens
+-- tokens begin with this symbol, and this is the rest
+abbrev pub IsMark : Symbol → List Token → List Token → Type 0
+IsMark symbol [] rest = ⊥
+IsMark symbol (token ∷ tokens) rest = (token.0 ≡ Mark symbol) × (rest ≡ tokens)
 
--- the token is a slash
-abbrev pub is_slash : Kind → Bool
-is_slash (Mark Slash) = true
-is_slash _ = false
+-- tokens begin with a number of this value with an optional sign, and this is the rest
+pub record IsValue (tokens : List Token) (x : Number) (rest : List Token) : Type 0 where
+  pub number : Number
+  pub at : Place
+  pub written : (signed tokens).1 ≡ (Literal number, at) ∷ rest
+  pub value : x ≡ with_sign (signed tokens).0 number
 
--- one slash is all there is
-abbrev pub is_slash_alone : List Kind → Bool
-is_slash_alone (kind ∷ []) = is_slash kind
-is_slash_alone _ = false
+-- tokens begin with a value between slashes, and this is the rest
+pub record IsGiven (tokens : List Token) (x : Number) (rest : List Token) : Type 0 where
+  pub inner : List Token
+  pub behind : List Token
+  pub opened : IsMark Slash tokens inner
+  pub value : IsValue inner x behind
+  pub closed : IsMark Slash behind rest
 
--- a number before a last slash
-abbrev pub closed_value : List Kind → Option Number
-closed_value (Literal x ∷ rest) = cond (is_slash_alone rest) (Some x) None
-closed_value _ = None
+-- the first value of a scalar, behind its name: one between slashes, or nothing, which is 0
+abbrev pub IsFirstValue : List Token → Number → List Token → Type 0
+IsFirstValue tokens x rest = IsGiven tokens x rest ⊎ ((x ≡ whole (pos 0)) × (rest ≡ tokens))
 
--- a number with an optional sign before a last slash
-abbrev pub signed_value : List Kind → Option Number
-signed_value (Mark Plus ∷ rest) = closed_value rest
-signed_value (Mark Minus ∷ rest) = option_map neg_ℚ (closed_value rest)
-signed_value other = closed_value other
+-- tokens begin with a name that is new and no reserved word, and its first value, and this is the rest
+abbrev pub IsItem : List (List ℕ) → List Token → (List ℕ × Half) → List Token → Type 0
+IsItem declared [] item rest = ⊥
+IsItem declared (token ∷ tokens) item rest =
+    (token.0 ≡ Word item.0) × (is_reserved item.0 ≡ false) × (place_of declared item.0 ≡ None) × IsFirstValue tokens (half_value item.1) rest
 
--- the first value, behind a declared name: a number with an optional sign between slashes, or nothing, which is 0
-abbrev pub first_value : List Kind → Option Number
-first_value [] = Some (whole (pos 0))
-first_value (Mark Slash ∷ rest) = signed_value rest
-first_value _ = None
+-- tokens begin with items, each behind a comma and with the names before it declared, and a semicolon, and this is the rest
+abbrev pub MoreItems : List (List ℕ) → List Token → List (List ℕ × Half) → List Token → Type 0
+MoreItems declared tokens [] rest = IsMark Semicolon tokens rest
+MoreItems declared tokens (item ∷ items) rest =
+    (begin : List Token) × IsMark Comma tokens begin × ((next : List Token) × IsItem declared begin item next × MoreItems (declared ++ item.0 ∷ []) next items rest)
 
--- a name that is new and no reserved word, and its first value
-abbrev pub IsItem : List (List ℕ) → List Token → (List ℕ × Half) → Type 0
-IsItem declared ((Word name, at) ∷ rest) item =
-    (item.0 ≡ name) × (is_reserved name ≡ false) × (place_of declared name ≡ None) × (first_value (kinds rest) ≡ Some (half_value item.1))
-IsItem declared _ item = ⊥
+-- tokens begin with items between commas, one at least, and a semicolon, and this is the rest
+abbrev pub AreItems : List (List ℕ) → List Token → List (List ℕ × Half) → List Token → Type 0
+AreItems declared tokens [] rest = ⊥
+AreItems declared tokens (item ∷ items) rest =
+    (next : List Token) × IsItem declared tokens item next × MoreItems (declared ++ item.0 ∷ []) next items rest
 
--- items, each with the names before it declared
-abbrev pub AreItems : List (List ℕ) → List (List Token) → List (List ℕ × Half) → Type 0
-AreItems declared [] [] = ⊤
-AreItems declared (tokens ∷ more) (item ∷ items) = IsItem declared tokens item × AreItems (declared ++ item.0 ∷ []) more items
-AreItems declared [] (item ∷ items) = ⊥
-AreItems declared (tokens ∷ more) [] = ⊥
+-- tokens begin with the declared name at this place among those declared, and this is the rest
+abbrev pub IsShown : List (List ℕ) → List Token → ℕ → List Token → Type 0
+IsShown declared [] place rest = ⊥
+IsShown declared (token ∷ tokens) place rest =
+    ((name : List ℕ) × (token.0 ≡ Word name) × (place_of declared name ≡ Some place)) × (rest ≡ tokens)
 
--- the declared name that one token is, as its place among those declared
-abbrev pub shown_place : List (List ℕ) → List Token → Option ℕ
-shown_place declared ((Word name, at) ∷ []) = place_of declared name
-shown_place declared _ = None
+-- tokens begin with declared names, each behind a comma, and a semicolon, and this is the rest
+abbrev pub MoreShown : List (List ℕ) → List Token → List ℕ → List Token → Type 0
+MoreShown declared tokens [] rest = IsMark Semicolon tokens rest
+MoreShown declared tokens (place ∷ places) rest =
+    (begin : List Token) × IsMark Comma tokens begin × ((next : List Token) × IsShown declared begin place next × MoreShown declared next places rest)
 
--- declared names, one each
-abbrev pub AreNames : List (List ℕ) → List (List Token) → List ℕ → Type 0
-AreNames declared [] [] = ⊤
-AreNames declared (tokens ∷ more) (k ∷ ks) = (shown_place declared tokens ≡ Some k) × AreNames declared more ks
-AreNames declared [] (k ∷ ks) = ⊥
-AreNames declared (tokens ∷ more) [] = ⊥
+-- tokens begin with declared names between commas, one at least, and a semicolon, and this is the rest
+abbrev pub AreShown : List (List ℕ) → List Token → List ℕ → List Token → Type 0
+AreShown declared tokens [] rest = ⊥
+AreShown declared tokens (place ∷ places) rest = (next : List Token) × IsShown declared tokens place next × MoreShown declared next places rest
 
--- the token is this symbol
-abbrev pub is_comma : Token → Bool
-is_comma (Mark Comma, at) = true
-is_comma _ = false
+-- the keyword that a word is, letter case ignored
+abbrev pub keyword_of : List ℕ → Option Keyword
+keyword_of word =
+    if str_eq_ignore_ascii_case word (codes "scalar") then Some Scalar else (if str_eq_ignore_ascii_case word (codes "display") then Some Display else None)
 
--- the token is a semicolon
-abbrev pub is_semicolon : Token → Bool
-is_semicolon (Mark Semicolon, at) = true
-is_semicolon _ = false
+-- tokens begin with `=`, an expression and a semicolon, and this is the rest
+pub record IsRightSide (declared : List (List ℕ)) (tokens : List Token) (value : Expression) (rest : List Token) : Type 0 where
+  pub right : List Token
+  pub behind : List Token
+  pub equals : IsMark Equals tokens right
+  pub expression : IsExpression declared right value behind
+  pub closed : IsMark Semicolon behind rest
 
--- the parts between commas of what is left, if there is something left
-abbrev pub parts_left : Option (List CodeToken) → List (List Token)
-parts_left None = []
-parts_left (Some tokens) = slice_split is_comma (tokens_seen tokens)
+-- What stands behind the first word of a statement, by the keyword that this word is: behind `scalar` items, behind `display`
+-- declared names, and behind any other word, which is the name of a declared scalar, its new value.
+abbrev pub IsBehind : Option Keyword → List (List ℕ) → List ℕ → Place → List Token → Part → List Token → Type 0
+IsBehind (Some Scalar) declared word at tokens (Declares items) rest = AreItems declared tokens items rest
+IsBehind (Some Display) declared word at tokens (Acts (statement.Display line places)) rest = (line ≡ at.line) × AreShown declared tokens places rest
+IsBehind None declared word at tokens (Acts (statement.Assign target value)) rest = (place_of declared word ≡ Some target) × IsRightSide declared tokens value rest
+IsBehind keyword declared word at tokens part rest = ⊥
 
--- the word is this keyword, letter case ignored
-abbrev pub IsKeyword : List ℕ → List ℕ → Type 0
-IsKeyword word keyword = str_eq_ignore_ascii_case word keyword ≡ true
-
--- what stands behind a first `=`
-abbrev pub after_equals : List Token → Option (List Token)
-after_equals ((Mark Equals, at) ∷ tokens) = Some tokens
-after_equals _ = None
-
--- an assignment of the expression that the tokens are to the declared scalar of a name
-abbrev pub IsAssignment : List (List ℕ) → List ℕ → List Token → Statement → Type 0
-IsAssignment declared name tokens (Assign target value) = (place_of declared name ≡ Some target) × IsExpression declared tokens value
-IsAssignment declared name tokens (Display line names) = ⊥
-
--- a display of declared names between commas, with the line of its first word
-abbrev pub IsDisplay : List (List ℕ) → Place → List Token → Statement → Type 0
-IsDisplay declared at tokens (Display line names) = (line ≡ at.line) × AreNames declared (slice_split is_comma tokens) names
-IsDisplay declared at tokens (Assign target value) = ⊥
-
--- A declaration is `scalar` and items between commas. A statement that acts is a declared name, `=` and an expression, or
--- `display` and declared names between commas.
-abbrev pub IsPart : List (List ℕ) → List Token → Part → Type 0
-IsPart declared ((Word word, at) ∷ tokens) (Declares items) =
-    IsKeyword word (codes "scalar") × AreItems declared (slice_split is_comma tokens) items
-IsPart declared ((Word word, at) ∷ tokens) (Acts statement) =
-    MatchOption (after_equals tokens) (IsKeyword word (codes "display") × IsDisplay declared at tokens statement) (λ right. IsAssignment declared word right statement)
-IsPart declared _ part = ⊥
+-- tokens begin with a statement, its semicolon included, and this is the rest
+abbrev pub IsPart : List (List ℕ) → List Token → Part → List Token → Type 0
+IsPart declared [] part rest = ⊥
+IsPart declared (token ∷ tokens) part rest =
+    (word : List ℕ) × (token.0 ≡ Word word) × IsBehind (keyword_of word) declared word token.1 tokens part rest
 
 -- the names that a part declares
 abbrev pub names_in : Part → List (List ℕ)
@@ -142,11 +132,10 @@ abbrev pub statements_in : Part → List Statement
 statements_in (Declares items) = []
 statements_in (Acts statement) = statement ∷ []
 
--- Parts, each ended by a semicolon, each with the names before it declared; nothing stands behind the last semicolon.
-abbrev pub AreParts : List (List ℕ) → List (List Token) → List Part → Type 0
-AreParts declared rest [] = rest ≡ [] ∷ []
-AreParts declared (tokens ∷ rest) (part ∷ parts) = IsPart declared tokens part × AreParts (declared ++ names_in part) rest parts
-AreParts declared [] (part ∷ parts) = ⊥
+-- tokens are statements, each with the names before it declared
+abbrev pub AreParts : List (List ℕ) → List Token → List Part → Type 0
+AreParts declared tokens [] = tokens ≡ []
+AreParts declared tokens (part ∷ parts) = (rest : List Token) × IsPart declared tokens part rest × AreParts (declared ++ names_in part) rest parts
 
 -- the program of these parts: what is declared in order, with first values, and what acts in order
 abbrev pub IsProgramOf : List Part → Program → Type 0
@@ -155,7 +144,7 @@ IsProgramOf parts program =
 
 -- the tokens are those of the program
 abbrev pub Derives : List Token → Program → Type 0
-Derives tokens program = (parts : List Part) × AreParts [] (slice_split is_semicolon tokens) parts × IsProgramOf parts program
+Derives tokens program = (parts : List Part) × AreParts [] tokens parts × IsProgramOf parts program
 
 -- the source means the program
 abbrev pub Means : List ℕ → Program → Type 0

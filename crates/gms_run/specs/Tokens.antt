@@ -125,11 +125,16 @@ abbrev pub is_allowed : Place → Piece → Bool
 is_allowed at (Single (Mark Star)) = not (at.column == 1)
 is_allowed at piece = true
 
--- the text is these pieces, with how many bytes each takes, one after another from the place on
-abbrev pub IsMadeOf : Place → List ℕ → List (Piece × ℕ) → Type 0
-IsMadeOf at text [] = text ≡ []
-IsMadeOf at text (piece ∷ pieces) =
-    (lexeme_at text ≡ Some piece) × (is_allowed at piece.0 ≡ true) × IsMadeOf (place_after at piece.0 piece.1) (drop piece.1 text) pieces
+-- The text, from the place on, begins with these pieces, with how many bytes each takes, one after another. Behind them, at
+-- the place `end`, stands the rest.
+abbrev pub IsMadeOf : Place → List ℕ → List (Piece × ℕ) → Place → List ℕ → Type 0
+IsMadeOf at text [] end rest = (end ≡ at) × (rest ≡ text)
+IsMadeOf at text (piece ∷ pieces) end rest =
+    (lexeme_at text ≡ Some piece) × (is_allowed at piece.0 ≡ true) × IsMadeOf (place_after at piece.0 piece.1) (drop piece.1 text) pieces end rest
+
+-- no piece may stand first in the text, from the place on
+abbrev pub BeginsNone : Place → List ℕ → Type 0
+BeginsNone at text = (piece : Piece × ℕ) → lexeme_at text ≡ Some piece → is_allowed at piece.0 ≡ true → ⊥
 
 -- the token that a piece is
 abbrev pub token_of : Place → Piece → List Token
@@ -141,13 +146,20 @@ abbrev pub tokens_of : Place → List (Piece × ℕ) → List Token
 tokens_of at [] = []
 tokens_of at (piece ∷ pieces) = token_of at piece.0 ++ tokens_of (place_after at piece.0 piece.1) pieces
 
--- the text, from the place on, has these tokens
-abbrev pub HasTokens : Place → List ℕ → List Token → Type 0
-HasTokens at text tokens = (pieces : List (Piece × ℕ)) × IsMadeOf at text pieces × (tokens_of at pieces ≡ tokens)
+-- The text, from the place on, begins with these tokens. Behind them, at the place `end`, stands the rest.
+pub record Opens (at : Place) (text : List ℕ) (tokens : List Token) (end : Place) (rest : List ℕ) : Type 0 where
+  pub pieces : List (Piece × ℕ)
+  pub made : IsMadeOf at text pieces end rest
+  pub tokens_are : tokens_of at pieces ≡ tokens
 
--- the text, from the place on, has no tokens
-abbrev pub HasNoTokens : Place → List ℕ → Type 0
-HasNoTokens at text = (tokens : List Token) → HasTokens at text tokens → ⊥
+-- the text, from the place on, has these tokens and nothing behind them
+abbrev pub HasTokens : Place → List ℕ → List Token → Type 0
+HasTokens at text tokens = (end : Place) × Opens at text tokens end []
+
+-- The tokens of a text, as far as they go: it ends at the place `end`, or no token begins with the rest there.
+pub record GoesTo (at : Place) (text : List ℕ) (tokens : List Token) (end : Place) (rest : List ℕ) : Type 0 where
+  pub opens : Opens at text tokens end rest
+  pub stops : BeginsNone end rest
 
 -- what a token of the program is, its number seen as the number that it means
 abbrev pub kind_seen : CodeKind → Kind

@@ -2,7 +2,7 @@
 ghost use Rattle.std.specs.Prelude.{◌≡◌, ◌++◌, ℕ, List, [], map, IfOk, IfErr, IsErr, OnOk, flat_map, slice_set, slice_index_or};
 ghost use Rattle.std.specs.Result.{result_map_both};
 ghost use Rattle.gq_field.specs.Values.{half_value};
-ghost use Rattle.gms_run.specs.Run.{scalar_value, factor_value, signed_value, limit_at, step_value, sum_value, product_value, expression_value, shown_by, run_of};
+ghost use Rattle.gms_run.specs.Run.{scalar_value, factor_value, limit_at, step_value, sum_value, product_value, expression_value, shown_by, run_of};
 ghost use Rattle.gms_run.specs.ListingText.{shown_text};
 
 use crate::listing;
@@ -54,16 +54,6 @@ fn factor(values: &[Half], factor: Factor) -> Half
     match factor {
         Factor::Number(value) => value,
         Factor::Scalar(place) => value_at(values, place),
-    }
-}
-
-/// The value with a sign before it.
-fn with_sign(sign: Sign, value: Half) -> Half
-    ensures { half_value result ≡ signed_value sign (half_value value) }
-{
-    match sign {
-        Sign::Plus => value,
-        Sign::Minus => value.neg(),
     }
 }
 
@@ -120,7 +110,7 @@ fn product(values: &[Half], product: &Product) -> Result<Half, Stop>
 {
     let mut value = factor(values, product.first);
     for next in product.steps.as_slice() {
-        let operand = with_sign(next.operand.sign, factor(values, next.operand.factor));
+        let operand = next.operand.sign.apply(factor(values, next.operand.factor));
         value = step(next.operator, next.operand.at, value, operand)?;
     }
     Ok(value)
@@ -130,7 +120,7 @@ fn product(values: &[Half], product: &Product) -> Result<Half, Stop>
 fn expression(values: &[Half], expression: &Expression) -> Result<Half, Stop>
     ensures { result_map_both half_value (λ stop. stop) result ≡ expression_value (map half_value values.now) expression.now }
 {
-    let mut value = with_sign(expression.sign, product(values, &expression.first)?);
+    let mut value = expression.sign.apply(product(values, &expression.first)?);
     for term in expression.terms.as_slice() {
         let operand = product(values, &term.product)?;
         value = sum(term.sign, term.product.at, value, operand)?;

@@ -1,20 +1,16 @@
 //! Expressions, read from tokens.
-ghost use Rattle.std.specs.Prelude.{◌≡◌, ◌<◌, ◌≤◌, ◌∷◌, true, Some, List, length, option_map, option_copied, IfSome, IfNone, IfOk, IsErrOf};
+ghost use Rattle.std.specs.Prelude.{◌≡◌, ◌<◌, ◌≤◌, ◌∷◌, true, Some, length, IfSome, IfNone, IfOk, IfErr};
 ghost use Rattle.std.specs.Str.{str_eq_ignore_ascii_case};
 ghost use Rattle.gms_run.specs.declared.tree.Factor.{Factor};
-ghost use Rattle.gms_run.specs.declared.tree.Operand.{Operand};
-ghost use Rattle.gms_run.specs.declared.tree.Step.{Step};
-ghost use Rattle.gms_run.specs.declared.tree.Product.{Product};
-ghost use Rattle.gms_run.specs.declared.tree.Term.{Term};
-ghost use Rattle.gms_run.specs.declared.tree.Expression.{Expression};
 ghost use Rattle.gms_run.specs.Tokens.{Token as SeenToken, kind_seen, token_seen, tokens_seen};
-ghost use Rattle.gms_run.specs.Grammar.{place_of, IsFactor, operator_of, sign_for, signed, IsOperand, AreSteps, ends_product, IsProduct, IsTerm, AreTerms, IsExpression};
+ghost use Rattle.gms_run.specs.Grammar.{place_of, IsFactor, operator_of, sign_for, signed, IsOperand, AreSteps, ends_product, IsProduct, AreTerms, ends_sum, IsExpression};
+ghost use Rattle.gms_run.specs.Nexts.{Next, stuck_at, RefusedAt};
 
 use crate::name::Name;
+use crate::reader::Reader;
 use crate::token::{Kind, Refusal, Symbol, Token};
 use crate::tree::{Expression, Factor, Operand, Operator, Product, Sign, Step, Term};
 use gms_ast::Sequence;
-use std::alloc::Global;
 
 /// Whether two names are one, letter case ignored.
 pub(crate) fn same_name(a: &[u8], b: &[u8]) -> bool
@@ -32,7 +28,8 @@ pub(crate) fn place_of_name(names: &[Name], name: &[u8]) -> Option<usize>
         .position(|other| same_name(other.as_bytes(), name))
 }
 
-fn factor(names: &[Name], kind: &Kind) -> Option<Factor>
+/// The factor that a token is.
+fn factor_of(names: &[Name], kind: &Kind) -> Option<Factor>
     ensures found { IfSome result (λ f. IsFactor names.now (kind_seen kind.now) f) }
     ensures none { IfNone result ((f : Factor) → IsFactor names.now (kind_seen kind.now) f → ⊥) }
 {
@@ -43,6 +40,7 @@ fn factor(names: &[Name], kind: &Kind) -> Option<Factor>
     }
 }
 
+/// The operator that a token is.
 fn operator(kind: &Kind) -> Option<Operator>
     ensures { result ≡ operator_of (kind_seen kind.now) }
 {
@@ -53,6 +51,7 @@ fn operator(kind: &Kind) -> Option<Operator>
     }
 }
 
+/// The sign that a token is.
 fn sign_of(kind: &Kind) -> Option<Sign>
     ensures { result ≡ sign_for (kind_seen kind.now) }
 {
@@ -60,19 +59,6 @@ fn sign_of(kind: &Kind) -> Option<Sign>
         Kind::Symbol(Symbol::Plus) => Some(Sign::Plus),
         Kind::Symbol(Symbol::Minus) => Some(Sign::Minus),
         _ => None,
-    }
-}
-
-/// The sign that the tokens begin with, plus where there is none, and what follows it.
-fn signed(tokens: &[Token]) -> (Sign, &[Token])
-    ensures { (result.0, tokens_seen result.1.now) ≡ signed (tokens_seen tokens.now) }
-{
-    let Some((first, rest)) = tokens.split_first() else {
-        return (Sign::Plus, tokens);
-    };
-    match sign_of(&first.kind) {
-        Some(sign) => (sign, rest),
-        None => (Sign::Plus, tokens),
     }
 }
 
@@ -86,117 +72,157 @@ fn operator_at(tokens: &[Token]) -> Option<(Operator, &[Token])>
     Some((operator(&first.kind)?, rest))
 }
 
-/// The operand that the tokens begin with, and what follows it.
-fn operand<'a>(names: &[Name], tokens: &'a [Token]) -> Option<(Operand, &'a [Token])>
-    ensures found { IfSome result (λ r. IsOperand names.now (tokens_seen tokens.now) r.0 (tokens_seen r.1.now)) }
+/// The sign that the tokens begin with, and what follows it.
+fn sign_at(tokens: &[Token]) -> Option<(Sign, &[Token])>
+    ensures found { IfSome result (λ r. (first : SeenToken) × (tokens_seen tokens.now ≡ first ∷ tokens_seen r.1.now) × (sign_for first.0 ≡ Some r.0)) }
     ensures shorter { IfSome result (λ r. length r.1.now < length tokens.now) }
-    ensures none { IfNone result ((operand : Operand) (rest : List SeenToken) → IsOperand names.now (tokens_seen tokens.now) operand rest → ⊥) }
+    ensures none { IfNone result (ends_sum (tokens_seen tokens.now) ≡ true) }
 {
-    let (first, _) = tokens.split_first()?;
-    let (sign, rest) = signed(tokens);
-    let (last, rest) = rest.split_first()?;
-    let operand = Operand {
-        at: first.at,
-        sign,
-        factor: factor(names, &last.kind)?,
-    };
-    Some((operand, rest))
+    let (first, rest) = tokens.split_first()?;
+    Some((sign_of(&first.kind)?, rest))
 }
 
-/// The steps that the tokens begin with, as far as they go, and what follows them.
-fn steps<'a>(
-    alloc: Global,
-    names: &[Name],
-    tokens: &'a [Token],
-) -> Result<(Vec<Step>, &'a [Token]), Refusal>
-    ensures accepted { IfOk result (λ r. AreSteps names.now (tokens_seen tokens.now) r.0.items (tokens_seen r.1.now)) }
-    ensures whole { IfOk result (λ r. ends_product (tokens_seen r.1.now) ≡ true) }
-    ensures shorter { IfOk result (λ r. length r.1.now ≤ length tokens.now) }
-    ensures refused { IsErrOf result Refusal.NotBuilt → (steps : List Step) (rest : List SeenToken) → ends_product rest ≡ true → AreSteps names.now (tokens_seen tokens.now) steps rest → ⊥ }
+/// The sign that the tokens begin with, plus where there is none, and what follows it.
+pub(crate) fn signed(tokens: &[Token]) -> (Sign, &[Token])
+    ensures value { (result.0, tokens_seen result.1.now) ≡ signed (tokens_seen tokens.now) }
+    ensures shorter { length result.1.now ≤ length tokens.now }
 {
-    let mut steps = Vec::new(alloc);
-    let mut rest = tokens;
-    while let Some((operator, after)) = operator_at(rest) {
-        let Some((operand, more)) = operand(names, after) else {
-            return Err(Refusal::NotBuilt);
+    sign_at(tokens).unwrap_or((Sign::Plus, tokens))
+}
+
+impl Reader {
+    /// The factor that the tokens begin with, and what follows it.
+    fn factor<'a>(
+        self,
+        names: &[Name],
+        tokens: &'a [Token],
+    ) -> Result<(Factor, &'a [Token]), Refusal>
+        ensures accepted { IfOk result (λ r. (first : SeenToken) × (tokens_seen tokens.now ≡ first ∷ tokens_seen r.1.now) × IsFactor names.now first.0 r.0) }
+        ensures shorter { IfOk result (λ r. length r.1.now < length tokens.now) }
+        ensures goes_on { IfOk result (λ r. stuck_at names.now Next.Factor (tokens_seen tokens.now) self.end ≡ stuck_at names.now Next.Operator (tokens_seen r.1.now) self.end) }
+        ensures refused { IfErr result (λ refusal. RefusedAt refusal (stuck_at names.now Next.Factor (tokens_seen tokens.now) self.end)) }
+    {
+        let Some((first, rest)) = tokens.split_first() else {
+            return Err(self.unexpected(tokens));
         };
-        steps.push(Step { operator, operand })?;
-        rest = more;
-    }
-    Ok((steps, rest))
-}
-
-/// The product that the tokens begin with, and what follows it.
-fn product<'a>(
-    alloc: Global,
-    names: &[Name],
-    tokens: &'a [Token],
-) -> Result<(Product, &'a [Token]), Refusal>
-    ensures accepted { IfOk result (λ r. IsProduct names.now (tokens_seen tokens.now) r.0 (tokens_seen r.1.now)) }
-    ensures shorter { IfOk result (λ r. length r.1.now < length tokens.now) }
-    ensures refused { IsErrOf result Refusal.NotBuilt → (product : Product) (rest : List SeenToken) → IsProduct names.now (tokens_seen tokens.now) product rest → ⊥ }
-{
-    let Some((first, rest)) = tokens.split_first() else {
-        return Err(Refusal::NotBuilt);
-    };
-    let Some(factor) = factor(names, &first.kind) else {
-        return Err(Refusal::NotBuilt);
-    };
-    match steps(alloc, names, rest) {
-        Ok((steps, rest)) => {
-            let product = Product {
-                at: first.at,
-                first: factor,
-                steps: Sequence::new(steps),
-            };
-            Ok((product, rest))
-        }
-        Err(refusal) => Err(refusal),
-    }
-}
-
-/// The terms that the tokens are.
-fn terms(alloc: Global, names: &[Name], tokens: &[Token]) -> Result<Vec<Term>, Refusal>
-    ensures accepted { IfOk result (λ terms. AreTerms names.now (tokens_seen tokens.now) terms.items) }
-    ensures refused { IsErrOf result Refusal.NotBuilt → (terms : List Term) → AreTerms names.now (tokens_seen tokens.now) terms → ⊥ }
-{
-    let mut terms = Vec::new(alloc);
-    let mut rest = tokens;
-    while let Some((first, after)) = rest.split_first() {
-        let Some(sign) = sign_of(&first.kind) else {
-            return Err(Refusal::NotBuilt);
-        };
-        match product(alloc, names, after) {
-            Ok((product, more)) => {
-                terms.push(Term { sign, product })?;
-                rest = more;
-            }
-            Err(refusal) => return Err(refusal),
+        match factor_of(names, &first.kind) {
+            Some(factor) => Ok((factor, rest)),
+            None => Err(self.unexpected(tokens)),
         }
     }
-    Ok(terms)
-}
 
-/// The expression that the tokens are.
-///
-/// `NotBuilt` comes exactly where they are none.
-pub(crate) fn expression(
-    alloc: Global,
-    names: &[Name],
-    tokens: &[Token],
-) -> Result<Expression, Refusal>
-    ensures accepted { IfOk result (λ expression. IsExpression names.now (tokens_seen tokens.now) expression) }
-    ensures refused { IsErrOf result Refusal.NotBuilt → (expression : Expression) → IsExpression names.now (tokens_seen tokens.now) expression → ⊥ }
-{
-    let (sign, unsigned) = signed(tokens);
-    let (first, rest) = match product(alloc, names, unsigned) {
-        Ok(read) => read,
-        Err(refusal) => return Err(refusal),
-    };
-    let terms = terms(alloc, names, rest)?;
-    Ok(Expression {
-        sign,
-        first,
-        terms: Sequence::new(terms),
-    })
+    /// The operand that the tokens begin with, and what follows it.
+    fn operand<'a>(
+        self,
+        names: &[Name],
+        tokens: &'a [Token],
+    ) -> Result<(Operand, &'a [Token]), Refusal>
+        ensures accepted { IfOk result (λ r. IsOperand names.now (tokens_seen tokens.now) r.0 (tokens_seen r.1.now)) }
+        ensures shorter { IfOk result (λ r. length r.1.now < length tokens.now) }
+        ensures goes_on { IfOk result (λ r. stuck_at names.now Next.Operand (tokens_seen tokens.now) self.end ≡ stuck_at names.now Next.Operator (tokens_seen r.1.now) self.end) }
+        ensures refused { IfErr result (λ refusal. RefusedAt refusal (stuck_at names.now Next.Operand (tokens_seen tokens.now) self.end)) }
+    {
+        let Some(first) = tokens.first() else {
+            return Err(self.unexpected(tokens));
+        };
+        let (sign, unsigned) = signed(tokens);
+        let (factor, rest) = self.factor(names, unsigned)?;
+        let at = first.at;
+        Ok((Operand { at, sign, factor }, rest))
+    }
+
+    /// The steps that the tokens begin with, as far as they go, and what follows them.
+    fn steps<'a>(
+        self,
+        names: &[Name],
+        tokens: &'a [Token],
+    ) -> Result<(Vec<Step>, &'a [Token]), Refusal>
+        ensures accepted { IfOk result (λ r. AreSteps names.now (tokens_seen tokens.now) r.0.items (tokens_seen r.1.now)) }
+        ensures whole { IfOk result (λ r. ends_product (tokens_seen r.1.now) ≡ true) }
+        ensures shorter { IfOk result (λ r. length r.1.now ≤ length tokens.now) }
+        ensures goes_on { IfOk result (λ r. stuck_at names.now Next.Operator (tokens_seen tokens.now) self.end ≡ stuck_at names.now Next.Operator (tokens_seen r.1.now) self.end) }
+        ensures refused { IfErr result (λ refusal. RefusedAt refusal (stuck_at names.now Next.Operator (tokens_seen tokens.now) self.end)) }
+    {
+        let mut steps = Vec::new(self.alloc);
+        let mut rest = tokens;
+        while let Some((operator, after)) = operator_at(rest) {
+            let (operand, more) = self.operand(names, after)?;
+            steps.push(Step { operator, operand })?;
+            rest = more;
+        }
+        Ok((steps, rest))
+    }
+
+    /// The product that the tokens begin with, and what follows it.
+    fn product<'a>(
+        self,
+        names: &[Name],
+        tokens: &'a [Token],
+    ) -> Result<(Product, &'a [Token]), Refusal>
+        ensures accepted { IfOk result (λ r. IsProduct names.now (tokens_seen tokens.now) r.0 (tokens_seen r.1.now)) }
+        ensures whole { IfOk result (λ r. ends_product (tokens_seen r.1.now) ≡ true) }
+        ensures shorter { IfOk result (λ r. length r.1.now < length tokens.now) }
+        ensures goes_on { IfOk result (λ r. stuck_at names.now Next.Factor (tokens_seen tokens.now) self.end ≡ stuck_at names.now Next.Operator (tokens_seen r.1.now) self.end) }
+        ensures refused { IfErr result (λ refusal. RefusedAt refusal (stuck_at names.now Next.Factor (tokens_seen tokens.now) self.end)) }
+    {
+        let Some(token) = tokens.first() else {
+            return Err(self.unexpected(tokens));
+        };
+        let (first, behind) = self.factor(names, tokens)?;
+        let (steps, rest) = self.steps(names, behind)?;
+        let product = Product {
+            at: token.at,
+            first,
+            steps: Sequence::new(steps),
+        };
+        Ok((product, rest))
+    }
+
+    /// The terms that the tokens behind a product begin with, as far as they go, and what follows them.
+    fn terms<'a>(
+        self,
+        names: &[Name],
+        tokens: &'a [Token],
+    ) -> Result<(Vec<Term>, &'a [Token]), Refusal>
+        requires { ends_product (tokens_seen tokens.now) ≡ true }
+        ensures accepted { IfOk result (λ r. AreTerms names.now (tokens_seen tokens.now) r.0.items (tokens_seen r.1.now)) }
+        ensures whole { IfOk result (λ r. ends_sum (tokens_seen r.1.now) ≡ true) }
+        ensures product { IfOk result (λ r. ends_product (tokens_seen r.1.now) ≡ true) }
+        ensures shorter { IfOk result (λ r. length r.1.now ≤ length tokens.now) }
+        ensures goes_on { IfOk result (λ r. stuck_at names.now Next.Operator (tokens_seen tokens.now) self.end ≡ stuck_at names.now Next.Operator (tokens_seen r.1.now) self.end) }
+        ensures refused { IfErr result (λ refusal. RefusedAt refusal (stuck_at names.now Next.Operator (tokens_seen tokens.now) self.end)) }
+    {
+        let mut terms = Vec::new(self.alloc);
+        let mut rest = tokens;
+        while let Some((sign, after)) = sign_at(rest) {
+            let (product, more) = self.product(names, after)?;
+            terms.push(Term { sign, product })?;
+            rest = more;
+        }
+        Ok((terms, rest))
+    }
+
+    /// The expression that the tokens begin with, and what follows it.
+    pub(crate) fn expression<'a>(
+        self,
+        names: &[Name],
+        tokens: &'a [Token],
+    ) -> Result<(Expression, &'a [Token]), Refusal>
+        ensures accepted { IfOk result (λ r. IsExpression names.now (tokens_seen tokens.now) r.0 (tokens_seen r.1.now)) }
+        ensures product { IfOk result (λ r. ends_product (tokens_seen r.1.now) ≡ true) }
+        ensures whole { IfOk result (λ r. ends_sum (tokens_seen r.1.now) ≡ true) }
+        ensures shorter { IfOk result (λ r. length r.1.now < length tokens.now) }
+        ensures goes_on { IfOk result (λ r. stuck_at names.now Next.Operand (tokens_seen tokens.now) self.end ≡ stuck_at names.now Next.Operator (tokens_seen r.1.now) self.end) }
+        ensures refused { IfErr result (λ refusal. RefusedAt refusal (stuck_at names.now Next.Operand (tokens_seen tokens.now) self.end)) }
+    {
+        let (sign, unsigned) = signed(tokens);
+        let (first, behind) = self.product(names, unsigned)?;
+        let (terms, rest) = self.terms(names, behind)?;
+        let expression = Expression {
+            sign,
+            first,
+            terms: Sequence::new(terms),
+        };
+        Ok((expression, rest))
+    }
 }

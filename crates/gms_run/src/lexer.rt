@@ -1,15 +1,15 @@
 //! The tokens of a source, taken one after another from its front.
-ghost use Rattle.std.specs.Prelude.{◌≡◌, ℕ, ◌+◌, ◌*◌, ◌<◌, ◌≤◌, ◌^◌, ◌++◌, length, fold, option_map, Some, None, true, not, pos, IfOk, OnOk, IsErrOf};
+ghost use Rattle.std.specs.Prelude.{◌≡◌, ℕ, ◌+◌, ◌*◌, ◌<◌, ◌≤◌, ◌^◌, ◌++◌, length, fold, option_map, Some, true, not, pos, IfOk, IfSome, IfNone, OnOk};
 ghost use Rattle.std.specs.List.{prefix_len, take_while};
 ghost use Rattle.std.specs.Char.{is_ascii_digit};
 ghost use Rattle.gq_number.specs.Number.{ratio};
 ghost use Rattle.gq_field.specs.Values.{half_value};
-ghost use Rattle.gms_run.specs.Tokens.{is_name_byte, symbol_of, gap_at, symbol_at, begins_number, is_dotted, fraction_digits, number_at, with_digit, digits_value, most_digits, Single, Literal, lexeme_at, place_after, is_allowed, token_of, start, HasTokens, HasNoTokens, tokens_seen};
+ghost use Rattle.gms_run.specs.Tokens.{is_name_byte, symbol_of, gap_at, symbol_at, begins_number, is_dotted, fraction_digits, number_at, with_digit, digits_value, most_digits, Single, Literal, lexeme_at, place_after, is_allowed, token_of, BeginsNone, tokens_seen};
 ghost use Rattle.gms_run.specs.Statements.{most_bytes};
-ghost use Rattle.gms_run.specs.Lexemes.{piece_seen, lexeme_seen, AreDigits, Reads, IsFirst};
+ghost use Rattle.gms_run.specs.Lexemes.{piece_seen, lexeme_seen, AreDigits, IsFirst, IsLexed};
 
 use crate::name::Name;
-use crate::token::{Kind, Refusal, Symbol, Token};
+use crate::token::{Kind, Symbol, Token};
 use gms_labels::Place;
 use gq_field::{ExactField, Half};
 use std::alloc::{AllocError, Global};
@@ -31,6 +31,16 @@ enum Piece {
 struct Lexeme {
     piece: Piece,
     length: usize,
+}
+
+/// The tokens that a source begins with, as far as they go.
+#[derive(Drop)]
+pub(crate) struct Lexed {
+    pub(crate) tokens: Vec<Token>,
+    /// Where the source ends, or where what begins no token stands.
+    pub(crate) end: Place,
+    /// Whether the source ends behind these tokens.
+    pub(crate) whole: bool,
 }
 
 /// Whether a name goes on with the byte.
@@ -192,22 +202,22 @@ fn number(text: &[u8]) -> Option<Lexeme>
     })
 }
 
-/// What the text begins with, the longest that can stand there.
-fn first_lexeme(alloc: Global, text: &[u8]) -> Result<Lexeme, Refusal>
-    ensures { Reads result (lexeme_at text.now) }
+/// What the text begins with, the longest that can stand there, if it begins with a piece.
+fn first_lexeme(alloc: Global, text: &[u8]) -> Result<Option<Lexeme>, AllocError>
+    ensures { IfOk result (λ found. option_map lexeme_seen found ≡ lexeme_at text.now) }
 {
     if matches!(text, [first, ..] if first.is_ascii_alphabetic()) {
         let name = word(alloc, text)?;
         let length = name.as_bytes().len();
         let piece = Piece::Token(Kind::Word(name));
-        return Ok(Lexeme { piece, length });
+        return Ok(Some(Lexeme { piece, length }));
     }
     if begins_number(text) {
-        return number(text).ok_or(Refusal::NotBuilt);
+        return Ok(number(text));
     }
     match gap(text) {
-        Some(gap) => Ok(gap),
-        None => mark(text).ok_or(Refusal::NotBuilt),
+        Some(gap) => Ok(Some(gap)),
+        None => Ok(mark(text)),
     }
 }
 
@@ -242,17 +252,16 @@ impl Lexeme {
     }
 }
 
-/// What the text begins with, which stands at `at`.
-fn next_lexeme(alloc: Global, text: &[u8], at: Place) -> Result<Lexeme, Refusal>
-    requires { 0 < length text.now }
-    ensures first { IfOk result (λ lexeme. IsFirst at text.now lexeme) }
-    ensures refused { IsErrOf result Refusal.NotBuilt → HasNoTokens at text.now }
+/// What the text begins with, which stands at `at`, if a piece may stand there.
+fn next_lexeme(alloc: Global, text: &[u8], at: Place) -> Result<Option<Lexeme>, AllocError>
+    ensures first { IfOk result (λ found. IfSome found (λ lexeme. IsFirst at text.now lexeme)) }
+    ensures none { IfOk result (λ found. IfNone found (BeginsNone at text.now)) }
 {
-    let lexeme = first_lexeme(alloc, text)?;
-    if lexeme.is_comment(at) {
-        return Err(Refusal::NotBuilt);
+    let found = first_lexeme(alloc, text)?;
+    match found {
+        Some(lexeme) if !lexeme.is_comment(at) => Ok(Some(lexeme)),
+        _ => Ok(None),
     }
-    Ok(lexeme)
 }
 
 /// Appends the token that a piece is, if it is one.
@@ -266,21 +275,23 @@ fn push_token(tokens: &mut Vec<Token>, piece: Piece, at: Place) -> Result<(), Al
     Ok(())
 }
 
-/// The tokens of the source, each with its place. `NotBuilt` exactly where it has none, as the language stands.
-pub(crate) fn tokens(alloc: Global, source: &[u8]) -> Result<Vec<Token>, Refusal>
+/// The tokens that the source begins with, each with its place, up to its end or to what begins no token.
+pub(crate) fn tokens(alloc: Global, source: &[u8]) -> Result<Lexed, AllocError>
     requires { length source.now ≤ most_bytes }
-    ensures accepted { IfOk result (λ tokens. HasTokens start source.now (tokens_seen tokens.items)) }
-    ensures refused { IsErrOf result Refusal.NotBuilt → HasNoTokens start source.now }
+    ensures { IfOk result (λ lexed. IsLexed source.now lexed) }
 {
     let mut tokens = Vec::new(alloc);
-    let mut at = Place { line: 1, column: 1 };
+    let mut end = Place { line: 1, column: 1 };
     let mut rest = source;
-    while !rest.is_empty() {
-        let lexeme = next_lexeme(alloc, rest, at)?;
-        let end = lexeme.end(at);
+    while let Some(lexeme) = next_lexeme(alloc, rest, end)? {
+        let at = end;
+        end = lexeme.end(at);
         rest = &rest[lexeme.length..];
         push_token(&mut tokens, lexeme.piece, at)?;
-        at = end;
     }
-    Ok(tokens)
+    Ok(Lexed {
+        tokens,
+        end,
+        whole: rest.is_empty(),
+    })
 }

@@ -8,6 +8,7 @@ mod lexer;
 mod listing;
 mod name;
 mod parser;
+mod reader;
 mod report;
 mod status;
 mod token;

@@ -7,6 +7,7 @@ ghost use Rattle.gms_run.specs.Statements.{most_bytes};
 ghost use Rattle.gms_run.specs.ListingText.{line_of, lines_of, without_return, numbered_line, echo_of, thousandths, sign_text, value_text, shown_text, fault_code, fault_name, fault_text, error_text, end_text};
 
 use crate::execution::{Fault, Stop};
+use gms_labels::Place;
 use gq_field::{ExactField, Half};
 use std::alloc::{AllocError, Global};
 
@@ -164,16 +165,23 @@ pub(crate) fn fault(alloc: Global, listing: &mut Vec<u8>, stop: Stop) -> Result<
     listing.extend_from_slice(line.as_bytes())
 }
 
-/// Appends the line of a source that was refused.
-pub(crate) fn refusal(alloc: Global, listing: &mut Vec<u8>, source: &[u8]) -> Result<(), AllocError>
-    ensures { OnOk result (listing.new.items ≡ listing.old.items ++ error_text source.now) }
+/// Appends the line of a source that was refused at a place.
+pub(crate) fn refusal(
+    alloc: Global,
+    listing: &mut Vec<u8>,
+    source: &[u8],
+    at: Place,
+) -> Result<(), AllocError>
+    ensures { OnOk result (listing.new.items ≡ listing.old.items ++ error_text source.now at) }
 {
     let error = if source.len() <= MOST_BYTES {
         "31 NotBuilt"
     } else {
         "9 TooLong"
     };
-    let line = format!(in alloc; "*** Source error {error} at line 1 column 1\n")?;
+    let row = at.line;
+    let column = at.column;
+    let line = format!(in alloc; "*** Source error {error} at line {row} column {column}\n")?;
     listing.extend_from_slice(line.as_bytes())
 }
 

@@ -1,23 +1,39 @@
 //! Programs, read from tokens.
-ghost use Rattle.std.specs.Prelude.{◌≡◌, ◌<◌, ◌++◌, ◌∷◌, [], List, ℕ, map, length, Some, option_map, option_copied, position, IfSome, IfNone, IfOk, OnOk, IsErrOf, codes};
-ghost use Rattle.std.specs.List.{slice_split, list_any};
+ghost use Rattle.std.specs.Prelude.{◌≡◌, ◌<◌, ◌≤◌, ◌++◌, ◌∷◌, [], List, ℕ, length, IfSome, IfNone, IfOk, IfErr};
+ghost use Rattle.std.specs.List.{list_any};
 ghost use Rattle.std.specs.Str.{str_eq_ignore_ascii_case};
 ghost use Rattle.gq_field.specs.Values.{half_value};
-ghost use Rattle.gms_run.specs.Tokens.{kind_seen, token_seen, tokens_seen};
-ghost use Rattle.gms_run.specs.Statements.{is_reserved, is_slash, is_slash_alone, kinds, first_value, signed_value, closed_value, is_comma, is_semicolon, parts_left, IsItem, shown_place, AreNames, AreItems, after_equals, IsAssignment, IsDisplay, IsPart, Part, Derives};
-ghost use Rattle.gms_run.specs.Drafts.{Grows};
 ghost use Rattle.gms_run.specs.declared.tree.Statement.{Statement};
-ghost use Rattle.gms_run.specs.declared.tree.Program.{Program};
+ghost use Rattle.gms_run.specs.declared.tree.Expression.{Expression};
 ghost use Rattle.gq_field.specs.declared.half.Half.{Half};
+ghost use Rattle.gms_labels.specs.declared.place.Place.{Place};
+ghost use Rattle.gms_run.specs.Tokens.{Literal, tokens_seen};
+ghost use Rattle.gms_run.specs.Statements.{is_reserved, IsMark, IsValue, IsFirstValue, IsItem, AreItems, IsShown, AreShown, keyword_of, IsRightSide, IsPart, Part, Derives};
+ghost use Rattle.gms_run.specs.Places.{place_in, IsRefusal};
+ghost use Rattle.gms_run.specs.Nexts.{Next, stuck_at, RefusedAt};
+ghost use Rattle.gms_run.specs.Drafts.{Grows, LacksMark, symbol_of};
 
-use crate::expression::{expression, place_of_name, same_name};
+use crate::expression::{place_of_name, same_name, signed};
 use crate::name::Name;
+use crate::reader::{Reader, behind_mark};
 use crate::token::{Kind, RESERVED, Refusal, Symbol, Token};
-use crate::tree::{Program, Statement};
+use crate::tree::{Expression, Program, Statement};
 use gms_ast::Sequence;
-use gms_labels::Place;
 use gq_field::{ExactField, Half};
-use std::alloc::Global;
+
+/// The words that a statement can begin with, beside declared names.
+#[derive(Clone, Copy)]
+enum Keyword {
+    Scalar,
+    Display,
+}
+
+/// What stands behind each part of a list.
+#[derive(Clone, Copy)]
+enum Separator {
+    Comma,
+    Semicolon,
+}
 
 /// What was read of a program so far: what is declared, with first values, and the statements that act.
 #[derive(Drop)]
@@ -27,50 +43,18 @@ struct Draft {
     statements: Vec<Statement>,
 }
 
-fn is_comma_token(token: &Token) -> bool
-    ensures { result ≡ is_comma (token_seen token.now) }
-{
-    matches!(token.kind, Kind::Symbol(Symbol::Comma))
-}
-
-fn is_semicolon_token(token: &Token) -> bool
-    ensures { result ≡ is_semicolon (token_seen token.now) }
-{
-    matches!(token.kind, Kind::Symbol(Symbol::Semicolon))
-}
-
-fn comma_place(tokens: &[Token]) -> Option<usize>
-    ensures { result ≡ position (λ t. is_comma (token_seen t)) tokens.now }
-{
-    tokens.iter().position(|token| is_comma_token(token))
-}
-
-fn semicolon_place(tokens: &[Token]) -> Option<usize>
-    ensures { result ≡ position (λ t. is_semicolon (token_seen t)) tokens.now }
-{
-    tokens.iter().position(|token| is_semicolon_token(token))
-}
-
-/// The tokens before the first comma, and those behind it, if there is one.
-fn before_comma(tokens: &[Token]) -> (&[Token], Option<&[Token]>)
-    ensures parts { slice_split is_comma (tokens_seen tokens.now) ≡ tokens_seen result.0.now ∷ parts_left (option_copied result.1) }
-    ensures shorter { IfSome result.1 (λ rest. length rest.now < length tokens.now) }
-{
-    match comma_place(tokens) {
-        Some(end) => (&tokens[..end], Some(&tokens[end + 1..])),
-        None => (tokens, None),
-    }
-}
-
-/// The tokens before the first semicolon, and those behind it.
-fn before_semicolon(tokens: &[Token]) -> Option<(&[Token], &[Token])>
-    ensures found { IfSome result (λ r. slice_split is_semicolon (tokens_seen tokens.now) ≡ tokens_seen r.0.now ∷ slice_split is_semicolon (tokens_seen r.1.now)) }
-    ensures shorter { IfSome result (λ r. length r.1.now < length tokens.now) }
-    ensures none { IfNone result (slice_split is_semicolon (tokens_seen tokens.now) ≡ tokens_seen tokens.now ∷ []) }
-{
-    match semicolon_place(tokens) {
-        Some(end) => Some((&tokens[..end], &tokens[end + 1..])),
-        None => None,
+impl Keyword {
+    /// The keyword that a word is.
+    fn of(word: &[u8]) -> Option<Self>
+        ensures { result ≡ keyword_of word.now }
+    {
+        if same_name(word, b"scalar") {
+            Some(Keyword::Scalar)
+        } else if same_name(word, b"display") {
+            Some(Keyword::Display)
+        } else {
+            None
+        }
     }
 }
 
@@ -86,223 +70,248 @@ fn is_reserved_word(name: &[u8]) -> bool
     is_one_of(name, &RESERVED)
 }
 
-fn is_slash_token(token: &Token) -> bool
-    ensures { result ≡ is_slash (kind_seen token.now.kind) }
-{
-    matches!(token.kind, Kind::Symbol(Symbol::Slash))
-}
-
-/// Whether one slash is all there is.
-fn is_last_slash(tokens: &[Token]) -> bool
-    ensures { result ≡ is_slash_alone (kinds (tokens_seen tokens.now)) }
-{
-    match tokens.split_first() {
-        Some((token, rest)) => is_slash_token(token) && rest.is_empty(),
-        None => false,
+impl Reader {
+    /// The comma or semicolon that the tokens are to begin with, and what follows it.
+    fn separator<'a>(self, tokens: &'a [Token]) -> Result<(Separator, &'a [Token]), Refusal>
+        ensures accepted { IfOk result (λ r. IsMark (symbol_of r.0) (tokens_seen tokens.now) (tokens_seen r.1.now)) }
+        ensures shorter { IfOk result (λ r. length r.1.now < length tokens.now) }
+        ensures no_comma { IfErr result (λ refusal. LacksMark Symbol.Comma (tokens_seen tokens.now)) }
+        ensures no_semicolon { IfErr result (λ refusal. LacksMark Symbol.Semicolon (tokens_seen tokens.now)) }
+        ensures refused { IfErr result (λ refusal. refusal ≡ Refusal.NotBuilt (place_in (tokens_seen tokens.now) self.end)) }
+    {
+        if let Some(rest) = behind_mark(Symbol::Comma, tokens) {
+            return Ok((Separator::Comma, rest));
+        }
+        let rest = self.mark(Symbol::Semicolon, tokens)?;
+        Ok((Separator::Semicolon, rest))
     }
-}
 
-/// The number before a last slash.
-fn closed_value_of(tokens: &[Token]) -> Option<Half>
-    ensures { option_map half_value result ≡ closed_value (kinds (tokens_seen tokens.now)) }
-{
-    let (number, rest) = tokens.split_first()?;
-    match number.kind {
-        Kind::Number(value) => {
-            if is_last_slash(rest) {
-                Some(value)
-            } else {
-                None
+    /// The number that the tokens are to begin with, and what follows it.
+    fn number<'a>(self, tokens: &'a [Token]) -> Result<(Half, &'a [Token]), Refusal>
+        ensures accepted { IfOk result (λ r. (at : Place) × (tokens_seen tokens.now ≡ (Literal (half_value r.0), at) ∷ tokens_seen r.1.now)) }
+        ensures shorter { IfOk result (λ r. length r.1.now < length tokens.now) }
+        ensures goes_on { (names : List (List ℕ)) → IfOk result (λ r. stuck_at names Next.Unsigned (tokens_seen tokens.now) self.end ≡ stuck_at names Next.Closing (tokens_seen r.1.now) self.end) }
+        ensures refused { (names : List (List ℕ)) → IfErr result (λ refusal. RefusedAt refusal (stuck_at names Next.Unsigned (tokens_seen tokens.now) self.end)) }
+    {
+        let Some((first, rest)) = tokens.split_first() else {
+            return Err(self.unexpected(tokens));
+        };
+        match first.kind {
+            Kind::Number(value) => Ok((value, rest)),
+            _ => Err(self.unexpected(tokens)),
+        }
+    }
+
+    /// The number with an optional sign that the tokens are to begin with, and what follows it.
+    fn value<'a>(self, tokens: &'a [Token]) -> Result<(Half, &'a [Token]), Refusal>
+        ensures accepted { IfOk result (λ r. IsValue (tokens_seen tokens.now) (half_value r.0) (tokens_seen r.1.now)) }
+        ensures shorter { IfOk result (λ r. length r.1.now < length tokens.now) }
+        ensures goes_on { (names : List (List ℕ)) → IfOk result (λ r. stuck_at names Next.Value (tokens_seen tokens.now) self.end ≡ stuck_at names Next.Closing (tokens_seen r.1.now) self.end) }
+        ensures refused { (names : List (List ℕ)) → IfErr result (λ refusal. RefusedAt refusal (stuck_at names Next.Value (tokens_seen tokens.now) self.end)) }
+    {
+        let (sign, unsigned) = signed(tokens);
+        let (number, rest) = self.number(unsigned)?;
+        Ok((sign.apply(number), rest))
+    }
+
+    /// The first value behind a declared name, and what follows it.
+    fn first_value<'a>(self, tokens: &'a [Token]) -> Result<(Half, &'a [Token]), Refusal>
+        ensures accepted { IfOk result (λ r. IsFirstValue (tokens_seen tokens.now) (half_value r.0) (tokens_seen r.1.now)) }
+        ensures shorter { IfOk result (λ r. length r.1.now ≤ length tokens.now) }
+        ensures goes_on { (names : List (List ℕ)) → IfOk result (λ r. stuck_at names Next.Opening (tokens_seen tokens.now) self.end ≡ stuck_at names Next.Behind (tokens_seen r.1.now) self.end) }
+        ensures refused { (names : List (List ℕ)) → IfErr result (λ refusal. RefusedAt refusal (stuck_at names Next.Opening (tokens_seen tokens.now) self.end)) }
+    {
+        let Some(inner) = behind_mark(Symbol::Slash, tokens) else {
+            return Ok((Half::zero(), tokens));
+        };
+        let (value, behind) = self.value(inner)?;
+        let rest = self.mark(Symbol::Slash, behind)?;
+        Ok((value, rest))
+    }
+
+    /// The new name and its first value that the tokens are to begin with, and what follows them.
+    fn item<'a>(
+        self,
+        names: &[Name],
+        tokens: &'a [Token],
+    ) -> Result<((Name, Half), &'a [Token]), Refusal>
+        ensures accepted { IfOk result (λ r. IsItem names.now (tokens_seen tokens.now) r.0 (tokens_seen r.1.now)) }
+        ensures shorter { IfOk result (λ r. length r.1.now < length tokens.now) }
+        ensures goes_on { IfOk result (λ r. stuck_at names.now Next.Item (tokens_seen tokens.now) self.end ≡ stuck_at (names.now ++ r.0.0 ∷ []) Next.Behind (tokens_seen r.1.now) self.end) }
+        ensures refused { IfErr result (λ refusal. RefusedAt refusal (stuck_at names.now Next.Item (tokens_seen tokens.now) self.end)) }
+    {
+        let Some((first, behind)) = tokens.split_first() else {
+            return Err(self.unexpected(tokens));
+        };
+        let Kind::Word(name) = &first.kind else {
+            return Err(self.unexpected(tokens));
+        };
+        if is_reserved_word(name.as_bytes()) || place_of_name(names, name.as_bytes()).is_some() {
+            return Err(self.unexpected(tokens));
+        }
+        let (value, rest) = self.first_value(behind)?;
+        Ok(((Name::new(self.alloc, name.as_bytes())?, value), rest))
+    }
+
+    /// Adds the scalars that the tokens behind `scalar` declare. The answer is what follows their semicolon.
+    fn declaration<'a>(self, draft: &mut Draft, tokens: &'a [Token]) -> Result<&'a [Token], Refusal>
+        ensures accepted { IfOk result (λ rest. (items : List (List ℕ × Half)) × AreItems draft.old.names.items (tokens_seen tokens.now) items (tokens_seen rest.now) × Grows draft.old draft.new (Part.Declares items)) }
+        ensures shorter { IfOk result (λ rest. length rest.now < length tokens.now) }
+        ensures goes_on { IfOk result (λ rest. stuck_at draft.old.names.items Next.Item (tokens_seen tokens.now) self.end ≡ stuck_at draft.new.names.items Next.Statement (tokens_seen rest.now) self.end) }
+        ensures refused { IfErr result (λ refusal. RefusedAt refusal (stuck_at draft.old.names.items Next.Item (tokens_seen tokens.now) self.end)) }
+    {
+        let mut rest = tokens;
+        loop {
+            let ((name, value), behind) = self.item(draft.names.as_slice(), rest)?;
+            draft.names.push(name)?;
+            draft.values.push(value)?;
+            match self.separator(behind)? {
+                (Separator::Comma, more) => rest = more,
+                (Separator::Semicolon, more) => return Ok(more),
             }
         }
-        _ => None,
     }
-}
 
-/// The number with an optional sign before a last slash.
-fn signed_value_of(tokens: &[Token]) -> Option<Half>
-    ensures { option_map half_value result ≡ signed_value (kinds (tokens_seen tokens.now)) }
-{
-    let (sign, rest) = tokens.split_first()?;
-    match sign.kind {
-        Kind::Symbol(Symbol::Plus) => closed_value_of(rest),
-        Kind::Symbol(Symbol::Minus) => Some(closed_value_of(rest)?.neg()),
-        _ => closed_value_of(tokens),
-    }
-}
-
-/// The value between slashes behind a declared name, 0 where nothing stands there.
-fn first_value_of(tokens: &[Token]) -> Option<Half>
-    ensures { option_map half_value result ≡ first_value (kinds (tokens_seen tokens.now)) }
-{
-    let Some((slash, rest)) = tokens.split_first() else {
-        return Some(Half::zero());
-    };
-    match slash.kind {
-        Kind::Symbol(Symbol::Slash) => signed_value_of(rest),
-        _ => None,
-    }
-}
-
-/// A declared name and its first value.
-fn item(alloc: Global, names: &[Name], tokens: &[Token]) -> Result<(Name, Half), Refusal>
-    ensures accepted { IfOk result (λ item. IsItem names.now (tokens_seen tokens.now) item) }
-    ensures refused { IsErrOf result Refusal.NotBuilt → (item : List ℕ × Half) → IsItem names.now (tokens_seen tokens.now) item → ⊥ }
-{
-    let Some((first, rest)) = tokens.split_first() else {
-        return Err(Refusal::NotBuilt);
-    };
-    let Kind::Word(name) = &first.kind else {
-        return Err(Refusal::NotBuilt);
-    };
-    if is_reserved_word(name.as_bytes()) {
-        return Err(Refusal::NotBuilt);
-    }
-    if place_of_name(names, name.as_bytes()).is_some() {
-        return Err(Refusal::NotBuilt);
-    }
-    let Some(value) = first_value_of(rest) else {
-        return Err(Refusal::NotBuilt);
-    };
-    Ok((Name::new(alloc, name.as_bytes())?, value))
-}
-
-/// The declared name that one token is, as its place among those declared.
-fn display_item(names: &[Name], tokens: &[Token]) -> Option<usize>
-    ensures { result ≡ shown_place names.now (tokens_seen tokens.now) }
-{
-    let (first, rest) = tokens.split_first()?;
-    if !rest.is_empty() {
-        return None;
-    }
-    match &first.kind {
-        Kind::Word(name) => place_of_name(names, name.as_bytes()),
-        _ => None,
-    }
-}
-
-/// The declared names between commas.
-fn display_items(alloc: Global, names: &[Name], tokens: &[Token]) -> Result<Vec<usize>, Refusal>
-    ensures accepted { IfOk result (λ items. AreNames names.now (slice_split is_comma (tokens_seen tokens.now)) items.items) }
-    ensures refused { IsErrOf result Refusal.NotBuilt → (items : List ℕ) → AreNames names.now (slice_split is_comma (tokens_seen tokens.now)) items → ⊥ }
-{
-    let mut items = Vec::new(alloc);
-    let mut rest = Some(tokens);
-    while let Some(tokens) = rest {
-        let (front, more) = before_comma(tokens);
-        let Some(place) = display_item(names, front) else {
-            return Err(Refusal::NotBuilt);
+    /// The place of the declared name that the tokens are to begin with, and what follows it.
+    fn shown<'a>(self, names: &[Name], tokens: &'a [Token]) -> Result<(usize, &'a [Token]), Refusal>
+        ensures accepted { IfOk result (λ r. IsShown names.now (tokens_seen tokens.now) r.0 (tokens_seen r.1.now)) }
+        ensures shorter { IfOk result (λ r. length r.1.now < length tokens.now) }
+        ensures goes_on { IfOk result (λ r. stuck_at names.now Next.Shown (tokens_seen tokens.now) self.end ≡ stuck_at names.now Next.Showing (tokens_seen r.1.now) self.end) }
+        ensures refused { IfErr result (λ refusal. RefusedAt refusal (stuck_at names.now Next.Shown (tokens_seen tokens.now) self.end)) }
+    {
+        let Some((first, rest)) = tokens.split_first() else {
+            return Err(self.unexpected(tokens));
         };
-        items.push(place)?;
-        rest = more;
-    }
-    Ok(items)
-}
-
-/// Adds the declared names between commas, with their first values.
-fn declaration(alloc: Global, draft: &mut Draft, tokens: &[Token]) -> Result<(), Refusal>
-    ensures accepted { OnOk result ((items : List (List ℕ × Half)) × AreItems draft.old.names.items (slice_split is_comma (tokens_seen tokens.now)) items × Grows draft.old draft.new (Part.Declares items)) }
-    ensures refused { IsErrOf result Refusal.NotBuilt → (items : List (List ℕ × Half)) → AreItems draft.old.names.items (slice_split is_comma (tokens_seen tokens.now)) items → ⊥ }
-{
-    let mut rest = Some(tokens);
-    while let Some(tokens) = rest {
-        let (front, more) = before_comma(tokens);
-        let (name, value) = item(alloc, draft.names.as_slice(), front)?;
-        draft.names.push(name)?;
-        draft.values.push(value)?;
-        rest = more;
-    }
-    Ok(())
-}
-
-/// Adds the statement that the tokens before a semicolon are.
-fn statement(alloc: Global, draft: &mut Draft, tokens: &[Token]) -> Result<(), Refusal>
-    ensures accepted { OnOk result ((part : Part) × IsPart draft.old.names.items (tokens_seen tokens.now) part × Grows draft.old draft.new part) }
-    ensures refused { IsErrOf result Refusal.NotBuilt → (part : Part) → IsPart draft.old.names.items (tokens_seen tokens.now) part → ⊥ }
-{
-    let Some((first, rest)) = tokens.split_first() else {
-        return Err(Refusal::NotBuilt);
-    };
-    let Kind::Word(word) = &first.kind else {
-        return Err(Refusal::NotBuilt);
-    };
-    if let Some(tokens) = behind_equals(rest) {
-        return assignment(alloc, draft, word.as_bytes(), tokens);
-    }
-    if same_name(word.as_bytes(), b"scalar") {
-        return declaration(alloc, draft, rest);
-    }
-    if same_name(word.as_bytes(), b"display") {
-        return display(alloc, draft, first.at, rest);
-    }
-    Err(Refusal::NotBuilt)
-}
-
-/// What stands behind a first `=`.
-fn behind_equals(tokens: &[Token]) -> Option<&[Token]>
-    ensures { option_map tokens_seen (option_copied result) ≡ after_equals (tokens_seen tokens.now) }
-{
-    let (first, rest) = tokens.split_first()?;
-    match first.kind {
-        Kind::Symbol(Symbol::Equals) => Some(rest),
-        _ => None,
-    }
-}
-
-/// Adds an assignment of the expression that the tokens are to the scalar of a name.
-fn assignment(
-    alloc: Global,
-    draft: &mut Draft,
-    name: &[u8],
-    tokens: &[Token],
-) -> Result<(), Refusal>
-    ensures accepted { OnOk result ((s : Statement) × IsAssignment draft.old.names.items name.now (tokens_seen tokens.now) s × Grows draft.old draft.new (Part.Acts s)) }
-    ensures refused { IsErrOf result Refusal.NotBuilt → (s : Statement) → IsAssignment draft.old.names.items name.now (tokens_seen tokens.now) s → ⊥ }
-{
-    let Some(target) = place_of_name(draft.names.as_slice(), name) else {
-        return Err(Refusal::NotBuilt);
-    };
-    let value = expression(alloc, draft.names.as_slice(), tokens)?;
-    draft.statements.push(Statement::Assign { target, value })?;
-    Ok(())
-}
-
-/// Adds a display of the declared names between commas, whose first word stands at a place.
-fn display(alloc: Global, draft: &mut Draft, at: Place, tokens: &[Token]) -> Result<(), Refusal>
-    ensures accepted { OnOk result ((s : Statement) × IsDisplay draft.old.names.items at (tokens_seen tokens.now) s × Grows draft.old draft.new (Part.Acts s)) }
-    ensures refused { IsErrOf result Refusal.NotBuilt → (s : Statement) → IsDisplay draft.old.names.items at (tokens_seen tokens.now) s → ⊥ }
-{
-    let names = display_items(alloc, draft.names.as_slice(), tokens)?;
-    draft.statements.push(Statement::Display {
-        line: at.line,
-        names: Sequence::new(names),
-    })?;
-    Ok(())
-}
-
-/// The program that the tokens are.
-///
-/// `NotBuilt` comes exactly where they are none.
-pub(crate) fn program(alloc: Global, tokens: &[Token]) -> Result<Program, Refusal>
-    ensures accepted { IfOk result (λ program. Derives (tokens_seen tokens.now) program) }
-    ensures refused { IsErrOf result Refusal.NotBuilt → (program : Program) → Derives (tokens_seen tokens.now) program → ⊥ }
-{
-    let mut draft = Draft {
-        names: Vec::new(alloc),
-        values: Vec::new(alloc),
-        statements: Vec::new(alloc),
-    };
-    let mut rest = tokens;
-    while !rest.is_empty() {
-        let Some((front, more)) = before_semicolon(rest) else {
-            return Err(Refusal::NotBuilt);
+        let Kind::Word(name) = &first.kind else {
+            return Err(self.unexpected(tokens));
         };
-        statement(alloc, &mut draft, front)?;
-        rest = more;
+        match place_of_name(names, name.as_bytes()) {
+            Some(place) => Ok((place, rest)),
+            None => Err(self.unexpected(tokens)),
+        }
     }
-    Ok(Program {
-        names: Sequence::new(draft.names),
-        values: Sequence::new(draft.values),
-        statements: Sequence::new(draft.statements),
-    })
+
+    /// The places of the names that the tokens behind `display` are, and what follows their semicolon.
+    fn shown_names<'a>(
+        self,
+        names: &[Name],
+        tokens: &'a [Token],
+    ) -> Result<(Vec<usize>, &'a [Token]), Refusal>
+        ensures accepted { IfOk result (λ r. AreShown names.now (tokens_seen tokens.now) r.0.items (tokens_seen r.1.now)) }
+        ensures shorter { IfOk result (λ r. length r.1.now < length tokens.now) }
+        ensures goes_on { IfOk result (λ r. stuck_at names.now Next.Shown (tokens_seen tokens.now) self.end ≡ stuck_at names.now Next.Statement (tokens_seen r.1.now) self.end) }
+        ensures refused { IfErr result (λ refusal. RefusedAt refusal (stuck_at names.now Next.Shown (tokens_seen tokens.now) self.end)) }
+    {
+        let mut places = Vec::new(self.alloc);
+        let mut rest = tokens;
+        loop {
+            let (place, behind) = self.shown(names, rest)?;
+            places.push(place)?;
+            match self.separator(behind)? {
+                (Separator::Comma, more) => rest = more,
+                (Separator::Semicolon, more) => return Ok((places, more)),
+            }
+        }
+    }
+
+    /// Adds a display, whose first word stands on a line, of the names that the tokens are. The answer is what follows.
+    fn display<'a>(
+        self,
+        draft: &mut Draft,
+        line: u32,
+        tokens: &'a [Token],
+    ) -> Result<&'a [Token], Refusal>
+        ensures accepted { IfOk result (λ rest. (places : List ℕ) × AreShown draft.old.names.items (tokens_seen tokens.now) places (tokens_seen rest.now) × Grows draft.old draft.new (Part.Acts (Statement.Display line places))) }
+        ensures shorter { IfOk result (λ rest. length rest.now < length tokens.now) }
+        ensures goes_on { IfOk result (λ rest. stuck_at draft.old.names.items Next.Shown (tokens_seen tokens.now) self.end ≡ stuck_at draft.new.names.items Next.Statement (tokens_seen rest.now) self.end) }
+        ensures refused { IfErr result (λ refusal. RefusedAt refusal (stuck_at draft.old.names.items Next.Shown (tokens_seen tokens.now) self.end)) }
+    {
+        let (names, rest) = self.shown_names(draft.names.as_slice(), tokens)?;
+        let names = Sequence::new(names);
+        draft.statements.push(Statement::Display { line, names })?;
+        Ok(rest)
+    }
+
+    /// The expression between `=` and `;` with which the tokens are to begin, and what follows.
+    fn right_side<'a>(
+        self,
+        names: &[Name],
+        tokens: &'a [Token],
+    ) -> Result<(Expression, &'a [Token]), Refusal>
+        ensures accepted { IfOk result (λ r. IsRightSide names.now (tokens_seen tokens.now) r.0 (tokens_seen r.1.now)) }
+        ensures shorter { IfOk result (λ r. length r.1.now < length tokens.now) }
+        ensures goes_on { IfOk result (λ r. stuck_at names.now Next.Right (tokens_seen tokens.now) self.end ≡ stuck_at names.now Next.Statement (tokens_seen r.1.now) self.end) }
+        ensures refused { IfErr result (λ refusal. RefusedAt refusal (stuck_at names.now Next.Right (tokens_seen tokens.now) self.end)) }
+    {
+        let right = self.mark(Symbol::Equals, tokens)?;
+        let (value, behind) = self.expression(names, right)?;
+        let rest = self.mark(Symbol::Semicolon, behind)?;
+        Ok((value, rest))
+    }
+
+    /// Adds an assignment to the scalar at the place `target` of what the tokens give. The answer is what follows.
+    fn assignment<'a>(
+        self,
+        draft: &mut Draft,
+        target: usize,
+        tokens: &'a [Token],
+    ) -> Result<&'a [Token], Refusal>
+        ensures accepted { IfOk result (λ rest. (value : Expression) × IsRightSide draft.old.names.items (tokens_seen tokens.now) value (tokens_seen rest.now) × Grows draft.old draft.new (Part.Acts (Statement.Assign target value))) }
+        ensures shorter { IfOk result (λ rest. length rest.now < length tokens.now) }
+        ensures goes_on { IfOk result (λ rest. stuck_at draft.old.names.items Next.Right (tokens_seen tokens.now) self.end ≡ stuck_at draft.new.names.items Next.Statement (tokens_seen rest.now) self.end) }
+        ensures refused { IfErr result (λ refusal. RefusedAt refusal (stuck_at draft.old.names.items Next.Right (tokens_seen tokens.now) self.end)) }
+    {
+        let (value, rest) = self.right_side(draft.names.as_slice(), tokens)?;
+        draft.statements.push(Statement::Assign { target, value })?;
+        Ok(rest)
+    }
+
+    /// Adds the statement that the tokens are to begin with. The answer is what follows its semicolon.
+    fn statement<'a>(self, draft: &mut Draft, tokens: &'a [Token]) -> Result<&'a [Token], Refusal>
+        ensures accepted { IfOk result (λ rest. (part : Part) × IsPart draft.old.names.items (tokens_seen tokens.now) part (tokens_seen rest.now) × Grows draft.old draft.new part) }
+        ensures shorter { IfOk result (λ rest. length rest.now < length tokens.now) }
+        ensures goes_on { IfOk result (λ rest. stuck_at draft.old.names.items Next.Statement (tokens_seen tokens.now) self.end ≡ stuck_at draft.new.names.items Next.Statement (tokens_seen rest.now) self.end) }
+        ensures refused { 0 < length tokens.now → IfErr result (λ refusal. RefusedAt refusal (stuck_at draft.old.names.items Next.Statement (tokens_seen tokens.now) self.end)) }
+    {
+        let Some((first, behind)) = tokens.split_first() else {
+            return Err(self.unexpected(tokens));
+        };
+        let Kind::Word(word) = &first.kind else {
+            return Err(self.unexpected(tokens));
+        };
+        match Keyword::of(word.as_bytes()) {
+            Some(Keyword::Scalar) => self.declaration(draft, behind),
+            Some(Keyword::Display) if !draft.names.is_empty() => {
+                self.display(draft, first.at.line, behind)
+            }
+            Some(Keyword::Display) => Err(self.unexpected(tokens)),
+            None => match place_of_name(draft.names.as_slice(), word.as_bytes()) {
+                Some(target) => self.assignment(draft, target, behind),
+                None => Err(self.unexpected(tokens)),
+            },
+        }
+    }
+
+    /// The program that the tokens are.
+    ///
+    /// `NotBuilt` comes exactly where they are none, with the place of the first token that is unexpected.
+    pub(crate) fn program(self, tokens: &[Token]) -> Result<Program, Refusal>
+        ensures accepted { IfOk result (λ program. Derives (tokens_seen tokens.now) program) }
+        ensures refused { IfErr result (λ refusal. IsRefusal refusal (tokens_seen tokens.now) self.end) }
+    {
+        let mut draft = Draft {
+            names: Vec::new(self.alloc),
+            values: Vec::new(self.alloc),
+            statements: Vec::new(self.alloc),
+        };
+        let mut rest = tokens;
+        while !rest.is_empty() {
+            rest = self.statement(&mut draft, rest)?;
+        }
+        Ok(Program {
+            names: Sequence::new(draft.names),
+            values: Sequence::new(draft.values),
+            statements: Sequence::new(draft.statements),
+        })
+    }
 }

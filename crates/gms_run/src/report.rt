@@ -1,31 +1,41 @@
 //! The listing of a source, from its bytes.
-ghost use Rattle.std.specs.Prelude.{◌≡◌, ◌++◌, IfOk, IsErrOf};
+ghost use Rattle.std.specs.Prelude.{◌≡◌, ◌≤◌, ◌++◌, length, IfOk, IfErr};
 ghost use Rattle.gms_run.specs.Run.{run_of};
 ghost use Rattle.gms_run.specs.ListingText.{end_text, run_text, refused_text};
-ghost use Rattle.gms_run.specs.Answers.{status_code, EndsSo, MeansOnly, MeansNone, IsListing};
+ghost use Rattle.gms_run.specs.Statements.{most_bytes};
+ghost use Rattle.gms_run.specs.Answers.{status_code, EndsSo, MeansOnly, IsListing};
+ghost use Rattle.gms_run.specs.Outside.{Refuses};
 
 use crate::execution::execute;
 use crate::lexer::tokens;
 use crate::listing;
 use crate::listing::MOST_BYTES;
-use crate::parser::program;
+use crate::reader::Reader;
 use crate::status::Status;
 use crate::token::Refusal;
 use crate::tree::Program;
+use gms_labels::Place;
 use std::alloc::{AllocError, Global};
+
+/// Where a source begins.
+const START: Place = Place { line: 1, column: 1 };
 
 /// The program that a source means.
 ///
-/// `NotBuilt` comes exactly where it means none.
+/// `NotBuilt` comes exactly where it means none, with the place of the error.
 fn program_of(alloc: Global, source: &[u8]) -> Result<Program, Refusal>
+    requires { length source.now ≤ most_bytes }
     ensures accepted { IfOk result (λ program. MeansOnly source.now program) }
-    ensures refused { IsErrOf result Refusal.NotBuilt → MeansNone source.now }
+    ensures refused { IfErr result (λ refusal. Refuses refusal source.now) }
 {
-    if source.len() > MOST_BYTES {
-        return Err(Refusal::NotBuilt);
+    let lexed = tokens(alloc, source)?;
+    let end = lexed.end;
+    let program = Reader { alloc, end }.program(lexed.tokens.as_slice())?;
+    if lexed.whole {
+        Ok(program)
+    } else {
+        Err(Refusal::NotBuilt(end))
     }
-    let tokens = tokens(alloc, source)?;
-    program(alloc, tokens.as_slice())
 }
 
 /// A listing with its last line.
@@ -37,12 +47,17 @@ fn ended(alloc: Global, mut text: Vec<u8>, status: Status) -> Result<(Status, Ve
     Ok((status, text))
 }
 
-/// A listing with the line of a refused source and the last line.
-fn refused(alloc: Global, source: &[u8], mut text: Vec<u8>) -> Result<(Status, Vec<u8>), AllocError>
+/// A listing with the line of a source that is refused at a place, and the last line.
+fn refused(
+    alloc: Global,
+    source: &[u8],
+    at: Place,
+    mut text: Vec<u8>,
+) -> Result<(Status, Vec<u8>), AllocError>
     ensures status { IfOk result (λ r. r.0 ≡ Status.Compile) }
-    ensures text { IfOk result (λ r. r.1.items ≡ text.items ++ refused_text source.now) }
+    ensures text { IfOk result (λ r. r.1.items ≡ text.items ++ refused_text source.now at) }
 {
-    listing::refusal(alloc, &mut text, source)?;
+    listing::refusal(alloc, &mut text, source, at)?;
     ended(alloc, text, Status::Compile)
 }
 
@@ -70,12 +85,12 @@ pub(crate) fn report(alloc: Global, source: &[u8]) -> Result<(Status, Vec<u8>), 
 {
     let mut text = Vec::new(alloc);
     if source.len() > MOST_BYTES {
-        return refused(alloc, source, text);
+        return refused(alloc, source, START, text);
     }
     listing::echo(alloc, &mut text, source)?;
     match program_of(alloc, source) {
         Ok(program) => executed(alloc, &program, text),
-        Err(Refusal::NotBuilt) => refused(alloc, source, text),
+        Err(Refusal::NotBuilt(at)) => refused(alloc, source, at, text),
         Err(Refusal::Memory) => Err(AllocError),
     }
 }

@@ -147,26 +147,144 @@ const STOPPED: [Row<'static>; 5] = [
     ),
 ];
 
-/// Sources of one line that are refused.
-const REFUSED: [&str; 16] = [
-    "set i /a/;",
-    "* a comment",
-    "a = 1; scalar a;",
-    "scalar a, A;",
-    "scalar Sum;",
-    "scalar a; display b;",
-    "scalar a",
-    "scalar a;;",
-    "scalar a; a = 2 3;",
-    "scalar a; a = /2;",
-    "scalar a; a = 2*-3 - -1;",
-    "scalar a /2/ /3/;",
+/// A source that is refused, its echo, and where its first unexpected token stands.
+type Refused<'a> = (&'a str, &'a str, &'a str);
+
+/// Sources that are refused at a token, or at their end where more has to come.
+const REFUSED: [Refused<'static>; 34] = [
+    ("set i;", "     1  set i;\n", "line 1 column 1"),
+    ("* a comment", "     1  * a comment\n", "line 1 column 1"),
+    ("display a;", "     1  display a;\n", "line 1 column 1"),
+    // A name stands before its declaration.
+    (
+        "a = 1; scalar a;",
+        "     1  a = 1; scalar a;\n",
+        "line 1 column 1",
+    ),
+    (
+        "scalar a; display b;",
+        "     1  scalar a; display b;\n",
+        "line 1 column 19",
+    ),
+    (
+        "scalar a;\na = 1 + b;\nscalar b;\n",
+        "     1  scalar a;\n     2  a = 1 + b;\n     3  scalar b;\n",
+        "line 2 column 9",
+    ),
+    // A name is declared twice, letter case ignored.
+    ("scalar a, A;", "     1  scalar a, A;\n", "line 1 column 11"),
+    ("scalar Sum;", "     1  scalar Sum;\n", "line 1 column 8"),
+    ("scalar 2;", "     1  scalar 2;\n", "line 1 column 8"),
+    (
+        "scalar a; scalar = 1;",
+        "     1  scalar a; scalar = 1;\n",
+        "line 1 column 18",
+    ),
+    // The text ends inside a statement.
+    ("scalar a", "     1  scalar a\n", "line 1 column 9"),
+    (
+        "scalar a; display a",
+        "     1  scalar a; display a\n",
+        "line 1 column 20",
+    ),
+    (
+        "scalar a;\na = 1 +\n",
+        "     1  scalar a;\n     2  a = 1 +\n",
+        "line 3 column 1",
+    ),
+    ("scalar a;;", "     1  scalar a;;\n", "line 1 column 10"),
+    (
+        "scalar a; a + 1;",
+        "     1  scalar a; a + 1;\n",
+        "line 1 column 13",
+    ),
+    (
+        "scalar a; a = 2 3;",
+        "     1  scalar a; a = 2 3;\n",
+        "line 1 column 17",
+    ),
+    (
+        "scalar a; a = /2;",
+        "     1  scalar a; a = /2;\n",
+        "line 1 column 15",
+    ),
+    (
+        "scalar a; a = (1);",
+        "     1  scalar a; a = (1);\n",
+        "line 1 column 15",
+    ),
+    (
+        "scalar a; a = 2*-3 - -1;",
+        "     1  scalar a; a = 2*-3 - -1;\n",
+        "line 1 column 22",
+    ),
+    (
+        "scalar a /2/ /3/;",
+        "     1  scalar a /2/ /3/;\n",
+        "line 1 column 14",
+    ),
+    (
+        "scalar a /2, b;",
+        "     1  scalar a /2, b;\n",
+        "line 1 column 12",
+    ),
     // 19 digits
-    "scalar a /1000000000000000000/;",
-    "scalar a /0.000000000000000001/;",
-    "scalar a /1e3/;",
-    // a carriage return that no line feed follows
-    "scalar a;\r",
+    (
+        "scalar a /1000000000000000000/;",
+        "     1  scalar a /1000000000000000000/;\n",
+        "line 1 column 11",
+    ),
+    (
+        "scalar a /0.000000000000000001/;",
+        "     1  scalar a /0.000000000000000001/;\n",
+        "line 1 column 11",
+    ),
+    (
+        "scalar a /1e3/;",
+        "     1  scalar a /1e3/;\n",
+        "line 1 column 12",
+    ),
+    // Later lines, behind a tab, and behind two line ends of two bytes.
+    (
+        "scalar a;\n\tdisplay a b;",
+        "     1  scalar a;\n     2  \tdisplay a b;\n",
+        "line 2 column 19",
+    ),
+    (
+        "scalar a;\r\na = 1;\r\nb = 2;\r\n",
+        "     1  scalar a;\n     2  a = 1;\n     3  b = 2;\n",
+        "line 3 column 1",
+    ),
+    // A star in column 1, which in another column would be a product.
+    (
+        "scalar a;\n* a\n",
+        "     1  scalar a;\n     2  * a\n",
+        "line 2 column 1",
+    ),
+    (
+        "scalar a; a = a\n* 2;",
+        "     1  scalar a; a = a\n     2  * 2;\n",
+        "line 2 column 1",
+    ),
+    // Bytes that begin no token: NUL, 127, two above 127, a carriage return that no line feed follows.
+    ("scalar a;\0", "     1  scalar a;\0\n", "line 1 column 10"),
+    (
+        "scalar a\u{7f};",
+        "     1  scalar a\u{7f};\n",
+        "line 1 column 9",
+    ),
+    (
+        "scalar \u{e9};",
+        "     1  scalar \u{e9};\n",
+        "line 1 column 8",
+    ),
+    (
+        "scalar a;\n\u{e9}",
+        "     1  scalar a;\n     2  \u{e9}\n",
+        "line 2 column 1",
+    ),
+    ("scalar a;\r", "     1  scalar a;\r\n", "line 1 column 10"),
+    ("\r", "     1  \r\n", "line 1 column 1"),
 ];
 
 /// Words, the status that their run ends with, what is said, and how many calls of the host there are.
@@ -249,9 +367,9 @@ fn lists_what_a_source_means(rt: HostRuntime) -> Result<(), Fail> {
     for row in DONE {
         check_source(&rt, alloc, row)?;
     }
-    for source in REFUSED {
+    for (source, echo, place) in REFUSED {
         let listing = format!(in alloc;
-            "     1  {source}\n*** Source error 31 NotBuilt at line 1 column 1\nEND status 2 solves 0\n"
+            "{echo}*** Source error 31 NotBuilt at {place}\nEND status 2 solves 0\n"
         )?;
         check_source(&rt, alloc, (source, 2, listing.as_str()))?;
     }

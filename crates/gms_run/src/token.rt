@@ -8,7 +8,7 @@ use gq_field::Half;
 use std::alloc::{AllocError, AllocFailed};
 
 /// A symbol of the language.
-#[derive(Clone, Copy)]
+#[derive(Clone, Copy, PartialEq, Eq)]
 pub(crate) enum Symbol {
     Slash,
     Comma,
@@ -36,13 +36,13 @@ pub(crate) struct Token {
     pub(crate) at: Place,
 }
 
-/// Why a source was not read.
+/// Why tokens were not read as a program.
 #[derive(Clone, Copy)]
 pub(crate) enum Refusal {
     /// A growth found no memory.
     Memory,
-    /// The source is outside the language that is built.
-    NotBuilt,
+    /// The source is outside the language that is built. No program goes on with the token at this place.
+    NotBuilt(Place),
 }
 
 impl From<AllocError> for Refusal {

@@ -1,8 +1,10 @@
 //! The top call: from the words of the command line to the bytes of the listing.
-ghost use Rattle.std.specs.Prelude.{◌≡◌, ◌≤◌, ◌↔◌, IfOk, OnOk, OnErr, IsErrOf};
+ghost use Rattle.std.specs.Prelude.{◌≡◌, ◌≢◌, ◌≤◌, ◌↔◌, ◌⊎◌, true, IfOk, OnOk, OnErr, IsErrOf};
 ghost use Rattle.gms_host.specs.Meaning.{Rose};
+ghost use Rattle.gms_host.specs.Rules.{SameCounts, Steady, IsThere};
 ghost use Rattle.gms_run.specs.CommandLine.{file_of, read_fault_line};
-ghost use Rattle.gms_run.specs.Answers.{texts, Answers, OfFile, OfNamed, IsUsage, IsReported, IsReadFault, IsWriteFault};
+ghost use Rattle.gms_run.specs.Answers.{texts, Answers, OfFile, OfNamed, IsUsage, IsReported, IsReadFault, IsWriteFault, IsReadyFor, NamesProgram, MeetsNoFault};
+ghost use Rattle.gms_run.specs.Transfers.{SteadyCounts};
 ghost use Rattle.gms_run.specs.Outside.{ReadsFile, AsksNoMore, Reports, LeavesReport, SaysOnly};
 
 use crate::command_line;
@@ -25,6 +27,7 @@ fn read_file<H: Host>(alloc: Global, host: &mut H, file: &str) -> Result<Vec<u8>
     ensures taken { IfOk result (λ source. ReadsFile (H.meaning host.old) (H.meaning host.new) file.now source.items) }
     ensures failed { OnErr result (AsksNoMore (H.meaning host.old) (H.meaning host.new) file.now) }
     ensures fault { IsErrOf result Failed.Fault → Rose (H.meaning host.old).read_faults (H.meaning host.new).read_faults }
+    ensures steady { IsThere (H.meaning host.old) file.now → Steady (H.meaning host.old) (H.meaning host.new) result }
 {
     host.open_in(file)?;
     read_source(alloc, host)
@@ -40,6 +43,7 @@ fn write_report<H: Host>(
     ensures reported { IfOk result (λ status. Reports status (H.meaning host.old) (H.meaning host.new) source.now output.now) }
     ensures failed { OnErr result (LeavesReport (H.meaning host.old) (H.meaning host.new) source.now output.now) }
     ensures fault { IsErrOf result Failed.Fault → Rose (H.meaning host.old).write_faults (H.meaning host.new).write_faults }
+    ensures steady { Steady (H.meaning host.old) (H.meaning host.new) result }
 {
     host.open_out(output)?;
     let (status, listing) = report(alloc, source)?;
@@ -52,7 +56,8 @@ fn write_report<H: Host>(
 
 /// Says a line. A fault in saying it changes nothing else.
 fn mention<H: Host>(host: &mut H, line: &str) -> Result<(), AllocError>
-    ensures { OnOk result (SaysOnly (H.meaning host.old) (H.meaning host.new) line.now) }
+    ensures said { OnOk result (SaysOnly (H.meaning host.old) (H.meaning host.new) line.now) }
+    ensures steady { SteadyCounts (H.meaning host.old) (H.meaning host.new) }
 {
     match say_line(host, line.as_bytes()) {
         Ok(()) => Ok(()),
@@ -65,6 +70,7 @@ fn mention<H: Host>(host: &mut H, line: &str) -> Result<(), AllocError>
 fn report_read_fault<H: Host>(alloc: Global, host: &mut H, file: &str) -> Result<Status, AllocError>
     ensures status { IfOk result (λ status. status ≡ Status.ReadFault) }
     ensures said { OnOk result (SaysOnly (H.meaning host.old) (H.meaning host.new) (read_fault_line file.now)) }
+    ensures steady { SteadyCounts (H.meaning host.old) (H.meaning host.new) }
 {
     let line = command_line::read_fault_line(alloc, file)?;
     mention(host, line.as_str())?;
@@ -73,7 +79,9 @@ fn report_read_fault<H: Host>(alloc: Global, host: &mut H, file: &str) -> Result
 
 /// Runs the source in the file of a name.
 fn run_file<H: Host>(alloc: Global, host: &mut H, file: &str) -> Result<Status, AllocError>
-    ensures { IfOk result (λ status. OfFile status (H.meaning host.old) (H.meaning host.new) file.now) }
+    ensures answers { IfOk result (λ status. OfFile status (H.meaning host.old) (H.meaning host.new) file.now) }
+    ensures steady { IsThere (H.meaning host.old) file.now → SteadyCounts (H.meaning host.old) (H.meaning host.new) }
+    ensures no_fault { IsThere (H.meaning host.old) file.now → (H.meaning host.old).reliable ≡ true → IfOk result (λ status. (status ≢ Status.ReadFault) × (status ≢ Status.WriteFault)) }
 {
     let source = match read_file(alloc, host, file) {
         Ok(source) => source,
@@ -90,7 +98,9 @@ fn run_file<H: Host>(alloc: Global, host: &mut H, file: &str) -> Result<Status, 
 
 /// Runs the source that the words name, and ends with its status.
 fn run_words<H: Host>(alloc: Global, words: &[String], host: &mut H) -> Result<Status, AllocError>
-    ensures { IfOk result (λ status. Answers status (texts words.now) (H.meaning host.old) (H.meaning host.new)) }
+    ensures answers { IfOk result (λ status. Answers status (texts words.now) (H.meaning host.old) (H.meaning host.new)) }
+    ensures steady { IsReadyFor (H.meaning host.old) (texts words.now) → SameCounts (H.meaning host.old) (H.meaning host.new) }
+    ensures no_fault { IsReadyFor (H.meaning host.old) (texts words.now) → IfOk result (λ status. (status ≢ Status.ReadFault) × (status ≢ Status.WriteFault)) }
 {
     match command_line::file_of(words) {
         Some(file) => run_file(alloc, host, file),
@@ -106,7 +116,8 @@ fn run_words<H: Host>(alloc: Global, words: &[String], host: &mut H) -> Result<S
 /// The words are accepted where there is one, not empty, that does not begin with `-`: the name of the source. The
 /// source is read, its listing is written to the file named after it, and a closing line is said (docs/LISTING.md). The
 /// status says how the run ended, and the clause of each status says when it comes and what stands after it. `AllocError`
-/// comes where memory was wanting, here or in the host; the output may then hold the front of a listing.
+/// comes where memory was wanting, here or in the host; the output may then hold the front of a listing. A host that
+/// is reliable and has the file leads to neither fault.
 pub fn run<H: Host>(alloc: Global, words: &[String], host: &mut H) -> Result<Ended, AllocError>
     ensures known { IfOk result (λ ended. ended.status ≤ 5) }
 
@@ -122,6 +133,11 @@ pub fn run<H: Host>(alloc: Global, words: &[String], host: &mut H) -> Result<End
     // A fault comes only where one was counted; the output is then as before, or the front of the listing.
     ensures read_fault { IfOk result (λ ended. ended.status ≡ 4 → OfNamed (texts words.now) (IsReadFault (H.meaning host.old) (H.meaning host.new))) }
     ensures write_fault { IfOk result (λ ended. ended.status ≡ 5 → OfNamed (texts words.now) (IsWriteFault (H.meaning host.old) (H.meaning host.new))) }
+
+    // A reliable host that has the file counts no fault, and where no fault is met a program is run.
+    ensures steady { IsReadyFor (H.meaning host.old) (texts words.now) → SameCounts (H.meaning host.old) (H.meaning host.new) }
+    ensures no_fault { IsReadyFor (H.meaning host.old) (texts words.now) → IfOk result (λ ended. (ended.status ≢ 4) × (ended.status ≢ 5)) }
+    ensures complete { NamesProgram (H.meaning host.old) (texts words.now) → MeetsNoFault (H.meaning host.old) (H.meaning host.new) → IfOk result (λ ended. (ended.status ≡ 0) ⊎ (ended.status ≡ 3)) }
 {
     let status = run_words(alloc, words, host)?;
     Ok(Ended {

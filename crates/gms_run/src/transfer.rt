@@ -1,7 +1,7 @@
 //! Whole transfers over a host: a source read to its end, a listing written, a line said.
 ghost use Rattle.std.specs.Prelude.{◌≡◌, ◌≤◌, ℕ, true, take, length, IfOk, OnOk, OnErr, IsErrOf};
 ghost use Rattle.gms_host.specs.Meaning.{Rose};
-ghost use Rattle.gms_host.specs.Rules.{Writes, Says};
+ghost use Rattle.gms_host.specs.Rules.{Writes, Says, Steady, Precise};
 ghost use Rattle.gms_run.specs.Transfers.{TakesSource, KeepsOutside};
 
 use crate::listing::MOST_BYTES;
@@ -17,6 +17,7 @@ pub(crate) fn read_source<H: Host>(alloc: Global, host: &mut H) -> Result<Vec<u8
     ensures taken { IfOk result (λ source. TakesSource (H.meaning host.old) (H.meaning host.new) source.items) }
     ensures failed { OnErr result (KeepsOutside (H.meaning host.old) (H.meaning host.new)) }
     ensures fault { IsErrOf result Failed.Fault → Rose (H.meaning host.old).read_faults (H.meaning host.new).read_faults }
+    ensures steady { Steady (H.meaning host.old) (H.meaning host.new) result }
 {
     let mut source = Vec::new(alloc);
     let mut buffer = [0u8; BUFFER_BYTES];
@@ -37,6 +38,8 @@ pub(crate) fn write_listing<H: Host>(host: &mut H, listing: &[u8]) -> Result<(),
     ensures whole { OnOk result (Writes (H.meaning host.old) (H.meaning host.new) listing.now) }
     ensures part { OnErr result ((count : ℕ) × Writes (H.meaning host.old) (H.meaning host.new) (take count listing.now)) }
     ensures fault { IsErrOf result Failed.Fault → Rose (H.meaning host.old).write_faults (H.meaning host.new).write_faults }
+    ensures steady { Steady (H.meaning host.old) (H.meaning host.new) result }
+    ensures precise { OnOk result (Precise (H.meaning host.old) (H.meaning host.new)) }
 {
     let mut rest = listing;
     while !rest.is_empty() {
@@ -51,6 +54,8 @@ pub(crate) fn say_line<H: Host>(host: &mut H, line: &[u8]) -> Result<(), Failed>
     ensures whole { OnOk result (Says (H.meaning host.old) (H.meaning host.new) line.now) }
     ensures part { OnErr result ((count : ℕ) × Says (H.meaning host.old) (H.meaning host.new) (take count line.now)) }
     ensures fault { IsErrOf result Failed.Fault → Rose (H.meaning host.old).write_faults (H.meaning host.new).write_faults }
+    ensures steady { Steady (H.meaning host.old) (H.meaning host.new) result }
+    ensures precise { OnOk result (Precise (H.meaning host.old) (H.meaning host.new)) }
 {
     let mut rest = line;
     while !rest.is_empty() {

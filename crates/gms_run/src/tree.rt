@@ -1,8 +1,12 @@
 //! The tree of a program: what is declared, and the statements that act.
+ghost use Rattle.std.specs.Prelude.{◌≡◌};
+ghost use Rattle.gq_field.specs.Values.{half_value};
+ghost use Rattle.gms_run.specs.Grammar.{with_sign};
+
 use crate::name::Name;
 use gms_ast::Sequence;
 use gms_labels::Place;
-use gq_field::Half;
+use gq_field::{ExactField, Half};
 
 /// What an expression is made of.
 #[derive(Clone, Copy)]
@@ -24,6 +28,18 @@ pub(crate) enum Operator {
 pub(crate) enum Sign {
     Plus,
     Minus,
+}
+
+impl Sign {
+    /// The value with this sign before it.
+    pub(crate) fn apply(self, value: Half) -> Half
+        ensures { half_value result ≡ with_sign self (half_value value) }
+    {
+        match self {
+            Sign::Plus => value,
+            Sign::Minus => value.neg(),
+        }
+    }
 }
 
 /// A factor with its sign.

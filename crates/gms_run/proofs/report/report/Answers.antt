@@ -1,15 +1,12 @@
-use Rattle.std.proofs.Common.{◌≡◌, ℕ, ◌≤◌, List, ◌++◌, length, Result, Err, ap, ◌∙◌, arith}
-use Rattle.gms_run.specs.declared.token.Refusal.{Refusal}
-use Rattle.gms_run.specs.declared.tree.Program.{Program}
+use Rattle.std.proofs.Common.{◌≡◌, ◌<◌, length, ◌∙◌, inl, refl, arith}
 use Rattle.gms_run.specs.Statements.{most_bytes}
-use Rattle.gms_run.specs.Answers.{MeansNone}
-use Rattle.gms_run.specs.ListingText.{echo_of}
-use Rattle.gms_run.proofs.Reports.{told_refused}
+use Rattle.gms_run.specs.Tokens.{start}
+use Rattle.gms_run.proofs.Meanings.{means_none_long}
+use Rattle.gms_run.proofs.Reports.{echo_long, echo_shown, told_refused}
 use Rattle.gms_run.proofs.report.report.Goals as goal
 
-pub returns-in-Err-NotBuilt : goal.returns-in-Err-NotBuilt
-returns-in-Err-NotBuilt c =
-    let few : length c.args.source.now ≤ most_bytes = omega arith in
-    let none : MeansNone c.args.source.now = c.in-Err-NotBuilt.ensures.refused (ap (λ (e : Refusal). let r : Result Program Refusal = Err e in r) c.in-Err-NotBuilt.field-0-is) in
-    let echoed : c.echo.new.listing.items ≡ echo_of c.args.source.now = c.in_ok-echo.ensures ∙ ap (λ (x : List ℕ). x ++ echo_of c.args.source.now) c.new-text.ensures.items in
-    told_refused c.refused-in-Err-NotBuilt.result c.args.source.now c.echo.new.listing.items few none echoed c.refused-in-Err-NotBuilt.ensures.status c.refused-in-Err-NotBuilt.ensures.text
+pub returns-then-source-gt-MOST_BYTES : goal.returns-then-source-gt-MOST_BYTES
+returns-then-source-gt-MOST_BYTES c =
+    let long : most_bytes < length c.args.source.now = omega arith in
+    let shown : c.new-text.result.items ≡ echo_shown c.args.source.now = c.new-text.ensures.items ∙ echo_long c.args.source.now long in
+    told_refused c.refused.result c.args.source.now c.new-text.result.items start (means_none_long c.args.source.now long) (inl (long, refl)) shown c.refused.ensures.status c.refused.ensures.text
