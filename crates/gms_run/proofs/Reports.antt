@@ -10,9 +10,10 @@ use Rattle.gms_run.specs.Run.{Outcome}
 use Rattle.gms_run.specs.declared.status.Status.{Status}
 use Rattle.gms_run.specs.declared.status.Status.TheVariants.{Compile}
 use Rattle.gms_run.specs.ListingText.{run_text, shown_text, fault_text, end_text, echo_of, refused_text}
-use Rattle.gms_run.specs.Statements.{most_bytes}
-use Rattle.gms_run.specs.Places.{IsErrorPlace}
-use Rattle.gms_run.specs.Answers.{MeansNone, ShowsRefusal, IsListing}
+use Rattle.gms_lex.specs.Tokens.{most_bytes}
+use Rattle.gms_parse.specs.Places.{IsErrorPlace}
+use Rattle.gms_parse.specs.Statements.{MeansNone}
+use Rattle.gms_run.specs.Answers.{ShowsRefusal, IsListing}
 
 -- the lines of a run that was done
 run_text_done : (o : Outcome) → o.stopped ≡ None → run_text o ≡ flat_map shown_text o.shown ++ end_text 0

@@ -10,8 +10,8 @@ use Rattle.gms_host.specs.Rules.{Says, names_with, bytes_with}
 use Rattle.gms_labels.specs.declared.place.Place.{Place}
 use Rattle.gms_run.specs.declared.status.Status.{Status}
 use Rattle.gms_run.specs.declared.status.Status.TheVariants.{Done, Usage, Compile, Execution, ReadFault, WriteFault}
-use Rattle.gms_run.specs.Statements.{most_bytes}
-use Rattle.gms_run.specs.Places.{IsErrorPlace}
+use Rattle.gms_lex.specs.Tokens.{most_bytes}
+use Rattle.gms_parse.specs.Places.{IsErrorPlace}
 use Rattle.gms_run.specs.ListingText.{refused_listing, echo_of, end_text, line_of, place_text}
 use Rattle.gms_run.specs.CommandLine.{output_name, closing_line}
 use Rattle.gms_run.specs.Answers.{IsListing, LeavesListing, LeavesRest, ListsSource, IsReported, IsWriteFault, OfFile, ShowsRun, ShowsRefusal, status_code}

@@ -8,9 +8,10 @@ use Rattle.gms_labels.specs.declared.place.Place.{Place}
 use Rattle.gms_run.specs.declared.execution.Stop.{Stop}
 use Rattle.gms_run.specs.declared.status.Status.{Status}
 use Rattle.gms_run.specs.declared.status.Status.TheVariants.{Done, Usage, Compile, Execution, ReadFault, WriteFault}
-use Rattle.gms_run.specs.declared.tree.Program.{Program}
-use Rattle.gms_run.specs.Statements.{Means, most_bytes}
-use Rattle.gms_run.specs.Places.{IsErrorPlace}
+use Rattle.gms_parse.specs.declared.tree.Program.{Program}
+use Rattle.gms_parse.specs.Statements.{Means, MeansOnly, MeansNone}
+use Rattle.gms_lex.specs.Tokens.{most_bytes}
+use Rattle.gms_parse.specs.Places.{IsErrorPlace}
 use Rattle.gms_run.specs.Run.{run_of}
 use Rattle.gms_run.specs.ListingText.{listing_of, refused_listing}
 use Rattle.gms_run.specs.CommandLine.{file_of, output_name, usage_line, read_fault_line, closing_line}
@@ -27,14 +28,6 @@ status_code WriteFault = 5
 -- the texts of the command's words
 abbrev pub texts : {A : Type 0} → List (String A) → List (List ℕ)
 texts words = map string_bytes words
-
--- the source means the program and no other
-abbrev pub MeansOnly : List ℕ → Program → Type 0
-MeansOnly source program = Means source program × ((other : Program) → Means source other → other ≡ program)
-
--- the source means no program
-abbrev pub MeansNone : List ℕ → Type 0
-MeansNone source = (program : Program) → Means source program → ⊥
 
 -- how a run ends: done, or stopped by a fault
 abbrev pub EndsSo : Status → Option Stop → Type 0

@@ -1,13 +1,6 @@
-pub mod Tokens
-pub mod Grammar
-pub mod Statements
-pub mod Places
-pub mod Nexts
-pub mod Drafts
 pub mod Run
 pub mod ListingText
 pub mod CommandLine
 pub mod Transfers
 pub mod Answers
 pub mod Outside
-pub mod Lexemes

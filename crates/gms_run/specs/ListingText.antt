@@ -5,9 +5,9 @@ use Rattle.gms_run.specs.declared.execution.Fault.{Fault}
 use Rattle.gms_run.specs.declared.execution.Fault.TheVariants.{Limit, Divide}
 use Rattle.gms_run.specs.declared.execution.Stop.{Stop}
 use Rattle.gms_labels.specs.declared.place.Place.{Place}
-use Rattle.gms_run.specs.Tokens.{begins}
+use Rattle.gms_lex.specs.Tokens.{begins}
 use Rattle.gms_run.specs.Run.{Shown, Outcome}
-use Rattle.gms_run.specs.Statements.{most_bytes}
+use Rattle.gms_lex.specs.Tokens.{most_bytes}
 
 -- a line: a text and a line feed behind it
 abbrev pub line_of : List ℕ → List ℕ

@@ -1,15 +1,12 @@
 -- What the steps of a run do outside.
-use Rattle.std.specs.Prelude.{◌≡◌, ℕ, ◌+◌, false, List, take, Some, option_map, IfSome, ⊤}
+use Rattle.std.specs.Prelude.{◌≡◌, ℕ, ◌+◌, false, List, take, Some, option_map, IfSome}
 use Rattle.std.specs.FinMap as files_map
 use Rattle.gms_host.specs.Meaning.{Meaning}
 use Rattle.gms_host.specs.Rules.{CountsStay, Precise, AsksOrNot, names_with, bytes_with}
 use Rattle.gms_run.specs.declared.status.Status.{Status}
-use Rattle.gms_run.specs.declared.token.Refusal.{Refusal}
-use Rattle.gms_run.specs.declared.token.Refusal.TheVariants.{NotBuilt, Memory}
-use Rattle.gms_run.specs.Places.{IsErrorPlace}
-use Rattle.gms_run.specs.Statements.{most_bytes}
+use Rattle.gms_lex.specs.Tokens.{most_bytes}
 use Rattle.gms_run.specs.CommandLine.{closing_line}
-use Rattle.gms_run.specs.Answers.{MeansNone, IsListing, LeavesListing, LeavesRest, SaysLine, status_code}
+use Rattle.gms_run.specs.Answers.{IsListing, LeavesListing, LeavesRest, SaysLine, status_code}
 
 -- The bytes are those of the file of that name, or the first of them, one more than a source may have.
 pub record ReadsFile (old new : Meaning) (file source : List ℕ) : Type 0 where
@@ -50,8 +47,3 @@ pub record SaysOnly (old new : Meaning) (line : List ℕ) : Type 0 where
   pub asked : new.asked ≡ old.asked
   pub said : SaysLine old new line
   pub counts : CountsStay old new
-
--- The source means no program, and the refusal says the place of its error. Nothing is said where memory was wanting.
-abbrev pub Refuses : Refusal → List ℕ → Type 0
-Refuses (NotBuilt at) source = MeansNone source × IsErrorPlace source at
-Refuses Memory source = ⊤

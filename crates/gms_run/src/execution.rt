@@ -6,9 +6,9 @@ ghost use Rattle.gms_run.specs.Run.{scalar_value, factor_value, limit_at, step_v
 ghost use Rattle.gms_run.specs.ListingText.{shown_text};
 
 use crate::listing;
-use crate::name::Name;
-use crate::tree::{Expression, Factor, Operator, Product, Program, Sign, Statement};
 use gms_labels::Place;
+use gms_lex::Name;
+use gms_parse::{Expression, Factor, Operator, Product, Program, Sign, Statement};
 use gq_field::{ExactField, Half, Limit};
 use std::alloc::{AllocError, Global};
 

@@ -3,18 +3,11 @@
 
 mod command_line;
 mod execution;
-mod expression;
-mod lexer;
 mod listing;
-mod name;
-mod parser;
-mod reader;
 mod report;
 mod status;
-mod token;
 mod top_call;
 mod transfer;
-mod tree;
 
 pub use top_call::{Ended, run};
 

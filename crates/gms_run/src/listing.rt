@@ -3,16 +3,14 @@ ghost use Rattle.std.specs.Prelude.{◌≡◌, ◌+◌, ◌-◌, ◌<◌, ◌≤
 ghost use Rattle.std.specs.List.{position_or_len};
 ghost use Rattle.std.specs.String.{string_bytes};
 ghost use Rattle.gq_field.specs.Values.{half_value};
-ghost use Rattle.gms_run.specs.Statements.{most_bytes};
+ghost use Rattle.gms_lex.specs.Tokens.{most_bytes};
 ghost use Rattle.gms_run.specs.ListingText.{line_of, lines_of, without_return, numbered_line, echo_of, thousandths, sign_text, value_text, shown_text, fault_code, fault_name, fault_text, error_text, end_text};
 
 use crate::execution::{Fault, Stop};
 use gms_labels::Place;
+use gms_lex::MOST_BYTES;
 use gq_field::{ExactField, Half};
 use std::alloc::{AllocError, Global};
-
-/// How many bytes a source may have.
-pub(crate) const MOST_BYTES: usize = 1_048_576;
 
 impl Fault {
     /// The code of this fault.

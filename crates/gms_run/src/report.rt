@@ -1,42 +1,18 @@
 //! The listing of a source, from its bytes.
-ghost use Rattle.std.specs.Prelude.{◌≡◌, ◌≤◌, ◌++◌, length, IfOk, IfErr};
+ghost use Rattle.std.specs.Prelude.{◌≡◌, ◌++◌, IfOk};
 ghost use Rattle.gms_run.specs.Run.{run_of};
 ghost use Rattle.gms_run.specs.ListingText.{end_text, run_text, refused_text};
-ghost use Rattle.gms_run.specs.Statements.{most_bytes};
-ghost use Rattle.gms_run.specs.Answers.{status_code, EndsSo, MeansOnly, IsListing};
-ghost use Rattle.gms_run.specs.Outside.{Refuses};
+ghost use Rattle.gms_run.specs.Answers.{status_code, EndsSo, IsListing};
 
 use crate::execution::execute;
-use crate::lexer::tokens;
 use crate::listing;
-use crate::listing::MOST_BYTES;
-use crate::reader::Reader;
 use crate::status::Status;
-use crate::token::Refusal;
-use crate::tree::Program;
 use gms_labels::Place;
+use gms_parse::{Program, Refusal, parse};
 use std::alloc::{AllocError, Global};
 
 /// Where a source begins.
 const START: Place = Place { line: 1, column: 1 };
-
-/// The program that a source means.
-///
-/// `NotBuilt` comes exactly where it means none, with the place of the error.
-fn program_of(alloc: Global, source: &[u8]) -> Result<Program, Refusal>
-    requires { length source.now ≤ most_bytes }
-    ensures accepted { IfOk result (λ program. MeansOnly source.now program) }
-    ensures refused { IfErr result (λ refusal. Refuses refusal source.now) }
-{
-    let lexed = tokens(alloc, source)?;
-    let end = lexed.end;
-    let program = Reader { alloc, end }.program(lexed.tokens.as_slice())?;
-    if lexed.whole {
-        Ok(program)
-    } else {
-        Err(Refusal::NotBuilt(end))
-    }
-}
 
 /// A listing with its last line.
 fn ended(alloc: Global, mut text: Vec<u8>, status: Status) -> Result<(Status, Vec<u8>), AllocError>
@@ -84,13 +60,16 @@ pub(crate) fn report(alloc: Global, source: &[u8]) -> Result<(Status, Vec<u8>), 
     ensures { IfOk result (λ r. IsListing r.0 source.now r.1.items) }
 {
     let mut text = Vec::new(alloc);
-    if source.len() > MOST_BYTES {
-        return refused(alloc, source, START, text);
-    }
-    listing::echo(alloc, &mut text, source)?;
-    match program_of(alloc, source) {
-        Ok(program) => executed(alloc, &program, text),
-        Err(Refusal::NotBuilt(at)) => refused(alloc, source, at, text),
+    match parse(alloc, source) {
+        Ok(program) => {
+            listing::echo(alloc, &mut text, source)?;
+            executed(alloc, &program, text)
+        }
+        Err(Refusal::NotBuilt(at)) => {
+            listing::echo(alloc, &mut text, source)?;
+            refused(alloc, source, at, text)
+        }
+        Err(Refusal::TooLong) => refused(alloc, source, START, text),
         Err(Refusal::Memory) => Err(AllocError),
     }
 }

@@ -4,8 +4,8 @@ ghost use Rattle.gms_host.specs.Meaning.{Rose};
 ghost use Rattle.gms_host.specs.Rules.{Writes, Says, Steady, Precise};
 ghost use Rattle.gms_run.specs.Transfers.{TakesSource, KeepsOutside};
 
-use crate::listing::MOST_BYTES;
 use gms_host::{Failed, Host};
+use gms_lex::MOST_BYTES;
 use std::alloc::Global;
 
 /// How many bytes are read at a time.

@@ -4,7 +4,7 @@ use Rattle.std.specs.Prelude.{nat_le}
 use Rattle.std.specs.Fmt.{decimal}
 use Rattle.std.proofs.lemmas.Bool.Decides.{nat_tests}
 use Rattle.gms_run.specs.ListingText.{error_text}
-use Rattle.gms_run.specs.Statements.{most_bytes}
+use Rattle.gms_lex.specs.Tokens.{most_bytes}
 use Rattle.gms_run.proofs.TextLemmas.{appended, error_parts}
 use Rattle.gms_run.proofs.listing.refusal.Goals as goal
 use Rattle.gms_run.proofs.listing.refusal.Goals.{then-source-le-MOST_BYTES, else-source-le-MOST_BYTES}

@@ -1,12 +1,13 @@
-use Rattle.std.proofs.Common.{◌≡◌, ◌<◌, length, ◌∙◌, inl, refl, arith}
-use Rattle.gms_run.specs.Statements.{most_bytes}
-use Rattle.gms_run.specs.Tokens.{start}
-use Rattle.gms_run.proofs.Meanings.{means_none_long}
+use Rattle.std.proofs.Common.{◌≡◌, ◌<◌, length, ◌∙◌, inl, refl, subst}
+use Rattle.gms_lex.specs.Tokens.{start, most_bytes}
+use Rattle.gms_parse.specs.declared.refusal.Refusal.{Refusal}
+use Rattle.gms_parse.specs.Places.{Refuses}
+use Rattle.gms_parse.specs.Statements.{MeansNone}
 use Rattle.gms_run.proofs.Reports.{echo_long, echo_shown, told_refused}
 use Rattle.gms_run.proofs.report.report.Goals as goal
 
-pub returns-then-source-gt-MOST_BYTES : goal.returns-then-source-gt-MOST_BYTES
-returns-then-source-gt-MOST_BYTES c =
-    let long : most_bytes < length c.args.source.now = omega arith in
-    let shown : c.new-text.result.items ≡ echo_shown c.args.source.now = c.new-text.ensures.items ∙ echo_long c.args.source.now long in
-    told_refused c.refused.result c.args.source.now c.new-text.result.items start (means_none_long c.args.source.now long) (inl (long, refl)) shown c.refused.ensures.status c.refused.ensures.text
+pub returns-in-Err-TooLong : goal.returns-in-Err-TooLong
+returns-in-Err-TooLong c =
+    let refused : MeansNone c.args.source.now × (most_bytes < length c.args.source.now) = subst (λ (r : Refusal). Refuses r c.args.source.now) c.in-Err-TooLong.field-0-is c.in-Err-TooLong.ensures.refused in
+    let shown : c.new-text.result.items ≡ echo_shown c.args.source.now = c.new-text.ensures.items ∙ echo_long c.args.source.now refused.1 in
+    told_refused c.refused-in-Err-TooLong.result c.args.source.now c.new-text.result.items start refused.0 (inl (refused.1, refl)) shown c.refused-in-Err-TooLong.ensures.status c.refused-in-Err-TooLong.ensures.text

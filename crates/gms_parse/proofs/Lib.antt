@@ -1,0 +1,10 @@
+pub mod Expressions
+pub mod Programs
+pub mod Meanings
+pub mod NewNames
+pub mod Follows
+pub mod FollowsInItems
+pub mod FollowsInExpressions
+pub mod FollowsInStatements
+pub mod Nexts
+pub mod Readings

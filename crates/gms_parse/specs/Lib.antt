@@ -1,0 +1,5 @@
+pub mod Grammar
+pub mod Statements
+pub mod Places
+pub mod Nexts
+pub mod Drafts
