@@ -1,6 +1,7 @@
 pub mod Casts
 pub mod Compares
 pub mod Fractions
+pub mod Halves
 pub mod Products
 pub mod Roundings
 pub mod Signs
