@@ -13,7 +13,8 @@ use Rattle.gms_parse.specs.declared.tree.Step.{Step}
 use Rattle.gms_parse.specs.declared.tree.Product.{Product}
 use Rattle.gms_parse.specs.declared.tree.Term.{Term}
 use Rattle.gms_lex.specs.Tokens.{Kind, Word, Literal, Mark, Token}
-use Rattle.gms_parse.specs.Grammar.{place_of, signed, sign_for, operator_of, IsFactor, IsOperand, AreSteps, IsProduct, AreTerms, ends_sum}
+use Rattle.gms_labels.specs.Labels.{place_of}
+use Rattle.gms_parse.specs.Grammar.{signed, sign_for, operator_of, IsFactor, IsOperand, AreSteps, IsProduct, AreTerms, ends_sum}
 use Rattle.gms_parse.specs.Statements.{IsMark}
 use Rattle.gms_parse.specs.Nexts.{Right, Operand as Operating, Factor as Factoring, Operator as Joining, behind}
 use Rattle.gms_parse.proofs.Follows.{Ends, Operators, Factors, Operands, Goes}

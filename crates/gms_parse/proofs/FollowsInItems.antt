@@ -8,10 +8,11 @@ use Rattle.gq_number.specs.Number.{Number, neg_ℚ}
 use Rattle.gq_field.specs.declared.half.Half.{Half}
 use Rattle.gq_field.specs.Values.{half_value}
 use Rattle.gms_lex.specs.Tokens.{Kind, Word, Literal, Mark, Token}
-use Rattle.gms_parse.specs.Grammar.{place_of}
+use Rattle.gms_labels.specs.Labels.{place_of}
 use Rattle.gms_parse.specs.Statements.{is_reserved, IsValue, IsGiven, IsFirstValue, IsItem, MoreItems}
 use Rattle.gms_parse.specs.Nexts.{Item, Opening, Value, Unsigned, Closing, Behind, behind}
-use Rattle.gms_parse.proofs.NewNames.{zero_half, zero_means, negated, negated_means, negated_twice}
+use Rattle.gq_number.proofs.Ring.{neg_neg}
+use Rattle.gq_field.proofs.Halves.{zero_half, zero_means, negated, negated_means}
 use Rattle.gms_parse.proofs.Follows.{Ends, AfterItem, Items, AfterName, Closed, Inner, Numbered, IsHalf, Goes}
 
 -- the kind of the first token, or the other kind where there is none
@@ -106,7 +107,7 @@ module _ (names : List (List ℕ)) (at : Place) (tokens : List Token) where
         number = r.value.number;
         at = r.value.at;
         rest = r.rest;
-        same = negated_means r.half ∙ ap neg_ℚ r.value.value ∙ negated_twice r.value.number;
+        same = negated_means r.half ∙ ap neg_ℚ r.value.value ∙ neg_neg r.value.number;
         written = r.value.written;
         closed = r.closed;
       }

@@ -11,7 +11,8 @@ use Rattle.gms_parse.specs.declared.tree.Term.{Term}
 use Rattle.gms_parse.specs.declared.tree.Expression.{Expression}
 use Rattle.gms_parse.specs.declared.tree.Statement.TheVariants as statement
 use Rattle.gms_lex.specs.Tokens.{Kind, Word, Mark, Token}
-use Rattle.gms_parse.specs.Grammar.{place_of, signed, IsProduct, AreTerms, ends_sum}
+use Rattle.gms_labels.specs.Labels.{place_of}
+use Rattle.gms_parse.specs.Grammar.{signed, IsProduct, AreTerms, ends_sum}
 use Rattle.gms_parse.specs.Statements.{Part, Declares, Acts, keyword_of, IsMark, IsShown, MoreShown, IsRightSide, IsBehind, AreParts, names_in}
 use Rattle.gms_parse.specs.Nexts.{Next, Statement as Starting, Item, Opening, Value, Unsigned, Closing, Behind, Right, Operand as Operating, Factor as Factoring, Operator as Joining, Shown, Showing, behind, behind_word}
 use Rattle.gms_parse.proofs.Follows.{Ends, Items, Factors, Equated, AfterShown, ShownNames, Goes}

@@ -3,15 +3,20 @@ use Rattle.std.proofs.Common.{◌≡◌, true, false, ◌⊎◌, inl, inr, ℕ, 
 use Rattle.gms_labels.specs.declared.place.Place.{Place}
 use Rattle.gms_lex.specs.declared.lexer.Lexed.{Lexed}
 use Rattle.gms_parse.specs.declared.refusal.Refusal.{Refusal}
-use Rattle.gms_parse.specs.declared.refusal.Refusal.TheVariants.{NotBuilt, TooLong, Memory}
+use Rattle.gms_parse.specs.declared.refusal.Refusal.TheVariants.{NotBuilt, Memory}
 use Rattle.gms_parse.specs.declared.tree.Program.{Program}
 use Rattle.gms_lex.specs.Tokens.{Token, GoesTo, start, tokens_seen}
 use Rattle.gms_lex.specs.Lexemes.{IsLexed, is_nothing}
 use Rattle.gms_parse.specs.Statements.{Derives, Means}
 use Rattle.gms_lex.specs.Tokens.{most_bytes}
-use Rattle.gms_parse.specs.Places.{Begins, Stops, place_in, IsUnexpected, IsRefusal, IsUnread, IsErrorPlace}
+use Rattle.gms_parse.specs.Places.{Begins, Stops, place_in, IsUnexpected, IsRefusal, IsUnread, IsRefused}
 use Rattle.gms_parse.specs.Statements.{MeansOnly, MeansNone}
 use Rattle.gms_parse.specs.Places.{Refuses}
+use Rattle.gms_parse.specs.Faults.{fault_of, fault_at}
+use Rattle.gms_parse.specs.declared.fault.SourceError.{SourceError}
+use Rattle.gms_parse.specs.declared.fault.SourceError.TheVariants as error
+use Rattle.gms_parse.specs.declared.fault.SourceFault.{SourceFault}
+use Rattle.gms_parse.specs.Places.{IsCause}
 use Rattle.gms_parse.proofs.Nexts.{derived_unexpected}
 use Rattle.gms_lex.proofs.TokenLemmas.{HasTokens-unique, HasTokens-same, HasTokens-none, GoesTo-has, GoesTo-unique}
 use Rattle.gms_parse.proofs.Programs.{Derives-unique}
@@ -47,15 +52,17 @@ unread : (source : List ℕ) (tokens : List Token) (end : Place) (rest : List �
 unread source tokens end rest at goes unexpected = record { tokens = tokens; end = end; rest = rest; goes = goes; unexpected = unexpected }
 
 -- The refusal of the tokens of a source is that of the source.
-pub refuses : (source : List ℕ) (tokens : List Token) (end : Place) (rest : List ℕ) (refusal : Refusal) → length source ≤ most_bytes → GoesTo start source tokens end rest → IsRefusal refusal tokens end → Refuses refusal source
-refuses source tokens end rest (NotBuilt at) few goes is = (means_none source tokens end rest goes is.0, few, unread source tokens end rest at goes is.1)
-refuses source tokens end rest TooLong few goes is = absurd is
+pub refuses : (source : List ℕ) (tokens : List Token) (end : Place) (rest : List ℕ) (refusal : Refusal) → length source ≤ most_bytes → GoesTo start source tokens end rest → IsRefusal refusal tokens end → Refuses (fault_of refusal) source
+refuses source tokens end rest (NotBuilt at) few goes is = record { none = means_none source tokens end rest goes is.0; cause = (few, unread source tokens end rest at goes is.1) }
 refuses source tokens end rest Memory few goes is = tt
 
 -- A program with something behind it that begins no token is refused there.
-pub refuses_behind : (source : List ℕ) (tokens : List Token) (end : Place) (byte : ℕ) (rest : List ℕ) (program : Program) → length source ≤ most_bytes → GoesTo start source tokens end (byte ∷ rest) → Derives tokens program → Refuses (NotBuilt end) source
+pub refuses_behind : (source : List ℕ) (tokens : List Token) (end : Place) (byte : ℕ) (rest : List ℕ) (program : Program) → length source ≤ most_bytes → GoesTo start source tokens end (byte ∷ rest) → Derives tokens program → Refuses (fault_of (NotBuilt end)) source
 refuses_behind source tokens end byte rest program few goes derives =
-    (means_none_behind source tokens end byte rest goes, few, unread source tokens end (byte ∷ rest) end goes (derived_unexpected tokens end program derives))
+    record {
+      none = means_none_behind source tokens end byte rest goes;
+      cause = (few, unread source tokens end (byte ∷ rest) end goes (derived_unexpected tokens end program derives));
+    }
 
 -- Where the source ends behind its tokens, they are all of it.
 lexed_whole : (source : List ℕ) (lexed : Lexed) (is : IsLexed source lexed) → lexed.whole ≡ true → is.rest ≡ []
@@ -71,15 +78,15 @@ accepted_whole source lexed program few is e derives =
     means_only source (tokens_seen lexed.tokens.items) lexed.end program few (subst (λ (rest : List ℕ). GoesTo start source (tokens_seen lexed.tokens.items) lexed.end rest) (lexed_whole source lexed is e) is.goes) derives
 
 -- A program with something behind it that begins no token is refused there.
-pub refused_behind : (source : List ℕ) (lexed : Lexed) (program : Program) → length source ≤ most_bytes → IsLexed source lexed → lexed.whole ≡ false → Derives (tokens_seen lexed.tokens.items) program → Refuses (NotBuilt lexed.end) source
+pub refused_behind : (source : List ℕ) (lexed : Lexed) (program : Program) → length source ≤ most_bytes → IsLexed source lexed → lexed.whole ≡ false → Derives (tokens_seen lexed.tokens.items) program → Refuses (fault_of (NotBuilt lexed.end)) source
 refused_behind source lexed program few is e derives = behind is.rest (sym is.whole ∙ e) is.goes
   where
-    behind : (rest : List ℕ) → is_nothing rest ≡ false → GoesTo start source (tokens_seen lexed.tokens.items) lexed.end rest → Refuses (NotBuilt lexed.end) source
+    behind : (rest : List ℕ) → is_nothing rest ≡ false → GoesTo start source (tokens_seen lexed.tokens.items) lexed.end rest → Refuses (fault_of (NotBuilt lexed.end)) source
     behind [] e goes = cc
     behind (byte ∷ rest) e goes = refuses_behind source (tokens_seen lexed.tokens.items) lexed.end byte rest program few goes derives
 
 -- The refusal of the tokens of a source is that of the source.
-pub refused_tokens : (source : List ℕ) (lexed : Lexed) (refusal : Refusal) → length source ≤ most_bytes → IsLexed source lexed → IsRefusal refusal (tokens_seen lexed.tokens.items) lexed.end → Refuses refusal source
+pub refused_tokens : (source : List ℕ) (lexed : Lexed) (refusal : Refusal) → length source ≤ most_bytes → IsLexed source lexed → IsRefusal refusal (tokens_seen lexed.tokens.items) lexed.end → Refuses (fault_of refusal) source
 refused_tokens source lexed refusal few is refused = refuses source (tokens_seen lexed.tokens.items) lexed.end is.rest refusal few is.goes refused
 
 -- The front of what begins a program begins one.
@@ -132,9 +139,18 @@ IsUnread-unique source at place p q =
     let b : IsUnexpected q.tokens q.end at = subst (λ (x : Place). IsUnexpected q.tokens x at) same.1 a in
     IsUnexpected-unique q.tokens q.end at place b q.unexpected
 
--- A source has one place of its error at most.
-pub IsErrorPlace-unique : (source : List ℕ) (at place : Place) → IsErrorPlace source at → IsErrorPlace source place → at ≡ place
-IsErrorPlace-unique source at place (inl p) (inl q) = p.1 ∙ sym q.1
-IsErrorPlace-unique source at place (inl p) (inr q) = absurd (omega (arith, p.0, q.0))
-IsErrorPlace-unique source at place (inr p) (inl q) = absurd (omega (arith, p.0, q.0))
-IsErrorPlace-unique source at place (inr p) (inr q) = IsUnread-unique source at place p.1 q.1
+-- Two errors of a source are one, at one place.
+one_cause : (source : List ℕ) (e f : SourceError) (at place : Place) → IsCause e source at → IsCause f source place → (e ≡ f) × (at ≡ place)
+one_cause source error.TooLong error.TooLong at place p q = (refl, p.1 ∙ sym q.1)
+one_cause source error.TooLong error.NotBuilt at place p q = absurd (omega (arith, p.0, q.0))
+one_cause source error.NotBuilt error.TooLong at place p q = absurd (omega (arith, p.0, q.0))
+one_cause source error.NotBuilt error.NotBuilt at place p q = (refl, IsUnread-unique source at place p.1 q.1)
+
+-- A source has one fault at most.
+pub IsRefused-unique : (source : List ℕ) (a b : SourceFault) → IsRefused source a → IsRefused source b → a ≡ b
+IsRefused-unique source a b p q =
+    let same = one_cause source a.error b.error a.at b.at p.cause q.cause in
+    let errors : a.error ≡ b.error = same.0 in
+    let places : a.at ≡ b.at = same.1 in
+    let faults : fault_at a.error a.at ≡ fault_at b.error b.at = cc in
+    faults

@@ -1,6 +1,6 @@
--- A name that is new and no reserved word, and the values that the shortest ends of programs need.
-use Rattle.std.proofs.Common.{◌≡◌, ◌≢◌, ℕ, ◌+◌, ◌<◌, ◌≤◌, ◌^◌, true, false, List, [], ◌∷◌, length, replicate, refl, sym, ◌∙◌, Some, None, arith}
-use Rattle.std.specs.Prelude.{pos, neg_ℤ, nat_abs, nat_eq, nat_lt}
+-- A name that is new and no reserved word.
+use Rattle.std.proofs.Common.{◌≡◌, ◌≢◌, ℕ, ◌+◌, ◌<◌, ◌≤◌, true, false, List, [], ◌∷◌, length, replicate, refl, sym, ◌∙◌, Some, None, arith}
+use Rattle.std.specs.Prelude.{nat_eq, nat_lt}
 use Rattle.std.specs.List.{list_any, list_all, position_or_len}
 use Rattle.std.specs.Str.{str_eq_ignore_ascii_case, str_to_ascii_lowercase}
 use Rattle.std.specs.Cmp.Lexicographic.{unequal}
@@ -8,35 +8,9 @@ use Rattle.std.specs.Char.{to_ascii_lowercase}
 use Rattle.std.proofs.lemmas.List.{length-map, length-replicate}
 use Rattle.std.proofs.lemmas.Bool.Decides.{nat_tests}
 use Rattle.std.proofs.lemmas.Slice.Eq.{bytes_eq-Decides}
-use Rattle.gq_number.specs.Number.{Number, whole, neg_ℚ}
-use Rattle.gq_number.specs.Reduced.{whole_reduced, neg_reduced, nat_abs-neg}
-use Rattle.gq_number.proofs.Ring.{neg_neg}
-use Rattle.gq_field.specs.declared.half.Half.{Half}
-use Rattle.gq_field.specs.Values.{half_value}
 use Rattle.gms_parse.specs.declared.words.TheConstants.{RESERVED}
-use Rattle.gms_parse.specs.Grammar.{place_of}
+use Rattle.gms_labels.specs.Labels.{is_same, place_of}
 use Rattle.gms_parse.specs.Statements.{is_reserved}
-
--- the value 0
-pub zero_half : Half
-zero_half = record { numerator = pos 0; denominator = 1; reduced = whole_reduced (pos 0); numerator_small = omega arith; denominator_small = omega arith }
-
-pub zero_means : half_value zero_half ≡ whole (pos 0)
-unfolding half_value zero_half whole
-zero_means = refl
-
--- the value of the other sign
-pub negated : Half → Half
-negated h =
-    let small : nat_abs (neg_ℤ h.numerator) < 2 ^ 63 = rw (nat_abs-neg h.numerator) h.numerator_small in
-    record { numerator = neg_ℤ h.numerator; denominator = h.denominator; reduced = neg_reduced h.numerator h.denominator h.reduced; numerator_small = small; denominator_small = h.denominator_small }
-
-pub negated_means : (h : Half) → half_value (negated h) ≡ neg_ℚ (half_value h)
-unfolding half_value negated neg_ℚ
-negated_means h = refl
-
-pub negated_twice : (x : Number) → neg_ℚ (neg_ℚ x) ≡ x
-negated_twice = neg_neg
 
 -- Names of different lengths are not the same.
 other_length : (a b : List ℕ) → (length a ≢ length b) → str_eq_ignore_ascii_case a b ≡ false
@@ -61,16 +35,16 @@ unfolding new_name
 new_length names = length-replicate (1 + beyond names) 122
 
 -- A longer name is not found.
-past_shorter : (names : List (List ℕ)) (name : List ℕ) → beyond names < length name → position_or_len (λ other. str_eq_ignore_ascii_case other name) names ≡ length names
+past_shorter : (names : List (List ℕ)) (name : List ℕ) → beyond names < length name → position_or_len (is_same name) names ≡ length names
 past_shorter [] name long = refl
 past_shorter (first ∷ names) name long =
-    let e : str_eq_ignore_ascii_case first name ≡ false = other_length first name (λ e. omega (arith, e, long, least_length names)) in
-    let f : position_or_len (λ other. str_eq_ignore_ascii_case other name) names ≡ length names = past_shorter names name (omega (arith, long)) in
+    let e : is_same name first ≡ false = other_length name first (λ e. omega (arith, e, long, least_length names)) in
+    let f : position_or_len (is_same name) names ≡ length names = past_shorter names name (omega (arith, long)) in
     rw (e, f) (omega arith)
 
 pub new_not_found : (names : List (List ℕ)) → place_of names (new_name names) ≡ None
 new_not_found names =
-    let e : position_or_len (λ other. str_eq_ignore_ascii_case other (new_name names)) names ≡ length names = past_shorter names (new_name names) (omega (arith, new_length names)) in
+    let e : position_or_len (is_same (new_name names)) names ≡ length names = past_shorter names (new_name names) (omega (arith, new_length names)) in
     grind (arith, nat_tests, e)
 
 -- A name longer than each word of a list is none of them.
@@ -88,5 +62,5 @@ new_not_reserved names = none_as_long (λ word. word.now) RESERVED (new_name nam
 -- The first declared name is found.
 pub first_found : (name : List ℕ) (names : List (List ℕ)) → place_of (name ∷ names) name ≡ Some 0
 first_found name names =
-    let e : str_eq_ignore_ascii_case name name ≡ true = (bytes_eq-Decides (str_to_ascii_lowercase name) (str_to_ascii_lowercase name)).1 refl in
+    let e : is_same name name ≡ true = (bytes_eq-Decides (str_to_ascii_lowercase name) (str_to_ascii_lowercase name)).1 refl in
     rw e (grind (arith, nat_tests))

@@ -13,11 +13,13 @@ use Rattle.gms_parse.specs.declared.tree.Term.{Term}
 use Rattle.gq_field.specs.declared.half.Half.{Half}
 use Rattle.gq_field.specs.Values.{half_value}
 use Rattle.gms_lex.specs.Tokens.{Kind, Word, Literal, Mark, Token, start, kind_seen, tokens_seen}
-use Rattle.gms_parse.specs.Grammar.{place_of, AreSteps, AreTerms}
+use Rattle.gms_labels.specs.Labels.{place_of}
+use Rattle.gms_parse.specs.Grammar.{AreSteps, AreTerms}
 use Rattle.gms_parse.specs.Statements.{IsFirstValue, MoreItems, MoreShown, IsMark, Derives, names_in, values_in, statements_in}
 use Rattle.gms_parse.specs.Places.{Stops, place_in, IsUnexpected}
 use Rattle.gms_parse.specs.Nexts.{Next, Statement as Starting, Item, Opening, Value, Unsigned, Closing, Behind, Right, Operand as Operating, Factor as Factoring, Operator as Joining, Shown, Showing, Point, behind, behind_item, stuck_at}
-use Rattle.gms_parse.proofs.NewNames.{zero_half, new_name, new_not_found, new_not_reserved, first_found}
+use Rattle.gq_field.proofs.Halves.{zero_half}
+use Rattle.gms_parse.proofs.NewNames.{new_name, new_not_found, new_not_reserved, first_found}
 use Rattle.gms_parse.proofs.FollowsInStatements.{goes}
 use Rattle.gms_parse.proofs.Follows.{Follows, IsHalf, IsFine, HasName, Goes, Ends, AfterItem, AfterName, Operators, AfterShown}
 

@@ -13,7 +13,8 @@ use Rattle.gq_number.specs.Number.{Number}
 use Rattle.gq_field.specs.declared.half.Half.{Half}
 use Rattle.gq_field.specs.Values.{half_value}
 use Rattle.gms_lex.specs.Tokens.{Word, Literal, Mark, Token}
-use Rattle.gms_parse.specs.Grammar.{signed, with_sign, place_of, IsExpression}
+use Rattle.gms_labels.specs.Labels.{place_of}
+use Rattle.gms_parse.specs.Grammar.{signed, with_sign, IsExpression}
 use Rattle.gms_parse.specs.Statements.{Part, Declares, Acts, IsMark, IsValue, IsGiven, IsFirstValue, IsItem, MoreItems, AreItems, IsShown, MoreShown, AreShown, keyword_of, IsRightSide, IsBehind, IsPart, AreParts, IsProgramOf, Derives, names_in}
 use Rattle.gms_parse.proofs.Expressions.{half_known, IsExpression-unique}
 

@@ -12,9 +12,10 @@ use Rattle.gms_parse.specs.declared.tree.Step.{Step}
 use Rattle.gms_parse.specs.declared.tree.Term.{Term}
 use Rattle.gms_parse.specs.declared.tree.Sign.{Sign}
 use Rattle.gms_parse.specs.declared.refusal.Refusal.{Refusal}
-use Rattle.gms_parse.specs.declared.refusal.Refusal.TheVariants.{NotBuilt, TooLong, Memory}
+use Rattle.gms_parse.specs.declared.refusal.Refusal.TheVariants.{NotBuilt, Memory}
 use Rattle.gms_lex.specs.Tokens.{Word, Literal, Mark, Token, kind_seen, token_seen, tokens_seen}
-use Rattle.gms_parse.specs.Grammar.{place_of, IsFactor, signed, with_sign, AreSteps, AreTerms, ends_product, ends_sum}
+use Rattle.gms_labels.specs.Labels.{place_of}
+use Rattle.gms_parse.specs.Grammar.{IsFactor, signed, with_sign, AreSteps, AreTerms, ends_product, ends_sum}
 use Rattle.gms_parse.specs.Places.{place_in, IsRefusal}
 use Rattle.gms_parse.proofs.Nexts.{seen_unexpected}
 use Rattle.gms_parse.specs.Drafts.{LacksMark, Grows}
@@ -312,5 +313,4 @@ parts_stuck tokens rest draft end r so stuck = subst (λ (there : Option Place).
 -- What is refused where reading is stuck is no program.
 pub refused_program : (tokens : List CodeToken) (end : Place) (r : Refusal) → RefusedAt r (stuck_at [] next.Statement (tokens_seen tokens) end) → IsRefusal r (tokens_seen tokens) end
 refused_program tokens end (NotBuilt at) stuck = seen_unexpected tokens end at stuck
-refused_program tokens end TooLong stuck = absurd stuck
 refused_program tokens end Memory stuck = tt

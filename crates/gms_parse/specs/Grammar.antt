@@ -1,6 +1,5 @@
 -- Expressions, as derivations over tokens: products joined by + and -, of factors joined by * and / (GAMS User's Guide, "Expressions").
-use Rattle.std.specs.Prelude.{◌≡◌, ℕ, Bool, true, List, [], ◌∷◌, position, Option, Some, None, is_none}
-use Rattle.std.specs.Str.{str_eq_ignore_ascii_case}
+use Rattle.std.specs.Prelude.{◌≡◌, ℕ, Bool, true, List, [], ◌∷◌, Option, Some, None, is_none}
 use Rattle.gms_lex.specs.declared.token.Symbol.TheVariants.{Slash, Plus, Minus, Star}
 use Rattle.gms_parse.specs.declared.tree.Factor.{Factor}
 use Rattle.gms_parse.specs.declared.tree.Factor.TheVariants as factor
@@ -15,11 +14,8 @@ use Rattle.gms_parse.specs.declared.tree.Term.{Term}
 use Rattle.gms_parse.specs.declared.tree.Expression.{Expression}
 use Rattle.gq_number.specs.Number.{Number, neg_ℚ}
 use Rattle.gq_field.specs.Values.{half_value}
+use Rattle.gms_labels.specs.Labels.{place_of}
 use Rattle.gms_lex.specs.Tokens.{Kind, Word, Literal, Mark, Token}
-
--- the place in a list of names of the first that is this one, letter case ignored
-abbrev pub place_of : List (List ℕ) → List ℕ → Option ℕ
-place_of names name = position (λ other. str_eq_ignore_ascii_case other name) names
 
 -- a number stands for its value, and a name for the declared scalar of that name
 abbrev pub IsFactor : List (List ℕ) → Kind → Factor → Type 0

@@ -3,3 +3,4 @@ pub mod Statements
 pub mod Places
 pub mod Nexts
 pub mod Drafts
+pub mod Faults

@@ -1,4 +1,5 @@
--- What may come next in a program, token by token: the states between tokens from which a program can be ended.
+-- What may come next in a program, token by token: the states between tokens from which a program can be ended (an automaton
+-- of viable prefixes, as in Aho, Sethi and Ullman, "Compilers").
 use Rattle.std.specs.Prelude.{◌≡◌, ℕ, if◌then◌else◌, is_some, List, [], ◌∷◌, ◌++◌, Option, Some, None, option_map, ⊤}
 use Rattle.gms_labels.specs.declared.place.Place.{Place}
 use Rattle.gms_parse.specs.declared.refusal.Refusal.{Refusal}
@@ -7,7 +8,7 @@ use Rattle.gms_lex.specs.declared.token.Symbol.TheVariants.{Slash, Comma, Semico
 use Rattle.gms_parse.specs.declared.words.Keyword.{Keyword}
 use Rattle.gms_parse.specs.declared.words.Keyword.TheVariants as keyword
 use Rattle.gms_lex.specs.Tokens.{Kind, Word, Literal, Mark, Token}
-use Rattle.gms_parse.specs.Grammar.{place_of}
+use Rattle.gms_labels.specs.Labels.{place_of}
 use Rattle.gms_parse.specs.Statements.{is_reserved, keyword_of}
 
 -- What comes next.
@@ -99,5 +100,4 @@ stuck_at names next (token ∷ tokens) end =
 -- the refusal is at this place; nothing is said where memory was wanting
 abbrev pub RefusedAt : Refusal → Option Place → Type 0
 RefusedAt (refusal.NotBuilt at) there = there ≡ Some at
-RefusedAt refusal.TooLong there = ⊥
 RefusedAt refusal.Memory there = ⊤

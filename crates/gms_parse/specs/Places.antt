@@ -1,8 +1,14 @@
--- Where a source that means no program is refused: at the first token that no program goes on with.
-use Rattle.std.specs.Prelude.{◌≡◌, ◌⊎◌, ℕ, ◌<◌, ◌≤◌, List, [], ◌∷◌, ◌++◌, length, ⊤}
+-- Where a source that means no program is refused: at the first token that no program goes on with (GAMS User's Guide, "GAMS
+-- Output", compilation errors; viable prefixes in Aho, Sethi and Ullman, "Compilers").
+use Rattle.std.specs.Prelude.{◌≡◌, ℕ, ◌<◌, ◌≤◌, List, [], ◌∷◌, ◌++◌, length, ⊤}
 use Rattle.gms_labels.specs.declared.place.Place.{Place}
+use Rattle.gms_parse.specs.declared.fault.SourceError.{SourceError}
+use Rattle.gms_parse.specs.declared.fault.SourceError.TheVariants.{TooLong, NotBuilt}
+use Rattle.gms_parse.specs.declared.fault.SourceFault.{SourceFault}
+use Rattle.gms_parse.specs.declared.fault.SourceFaultOrMemory.{SourceFaultOrMemory}
+use Rattle.gms_parse.specs.declared.fault.SourceFaultOrMemory.TheVariants.{Fault, Memory}
 use Rattle.gms_parse.specs.declared.refusal.Refusal.{Refusal}
-use Rattle.gms_parse.specs.declared.refusal.Refusal.TheVariants.{NotBuilt, TooLong, Memory}
+use Rattle.gms_parse.specs.declared.refusal.Refusal.TheVariants as refusal
 use Rattle.gms_parse.specs.declared.tree.Program.{Program}
 use Rattle.gms_lex.specs.Tokens.{Token, GoesTo, start, most_bytes}
 use Rattle.gms_parse.specs.Statements.{Derives, MeansNone}
@@ -33,9 +39,8 @@ pub record IsUnexpected (tokens : List Token) (end at : Place) : Type 0 where
 
 -- The tokens are no program, and the first unexpected one stands where the refusal says. Nothing is said where memory was wanting.
 abbrev pub IsRefusal : Refusal → List Token → Place → Type 0
-IsRefusal (NotBuilt at) tokens end = ((program : Program) → Derives tokens program → ⊥) × IsUnexpected tokens end at
-IsRefusal TooLong tokens end = ⊥
-IsRefusal Memory tokens end = ⊤
+IsRefusal (refusal.NotBuilt at) tokens end = ((program : Program) → Derives tokens program → ⊥) × IsUnexpected tokens end at
+IsRefusal refusal.Memory tokens end = ⊤
 
 -- The first unexpected token of the source stands at the place, where what begins no token counts as such a token, and so
 -- does the end of the text.
@@ -46,12 +51,18 @@ pub record IsUnread (source : List ℕ) (at : Place) : Type 0 where
   pub goes : GoesTo start source tokens end rest
   pub unexpected : IsUnexpected tokens end at
 
--- the place of the error of a source that means no program: where it begins if it is too long, else that of its first unexpected token
-abbrev pub IsErrorPlace : List ℕ → Place → Type 0
-IsErrorPlace source at = ((most_bytes < length source) × (at ≡ start)) ⊎ ((length source ≤ most_bytes) × IsUnread source at)
+-- what an error says of a source and a place: it is too long, and the place is where it begins, or it is not, and the place is
+-- that of its first unexpected token
+abbrev pub IsCause : SourceError → List ℕ → Place → Type 0
+IsCause TooLong source at = (most_bytes < length source) × (at ≡ start)
+IsCause NotBuilt source at = (length source ≤ most_bytes) × IsUnread source at
 
--- The source means no program, and the refusal says why, and where if it is not too long. Nothing is said where memory was wanting.
-abbrev pub Refuses : Refusal → List ℕ → Type 0
-Refuses TooLong source = MeansNone source × (most_bytes < length source)
-Refuses (NotBuilt at) source = MeansNone source × (length source ≤ most_bytes) × IsUnread source at
+-- The source means no program, and this is why.
+pub record IsRefused (source : List ℕ) (fault : SourceFault) : Type 0 where
+  pub none : MeansNone source
+  pub cause : IsCause fault.error source fault.at
+
+-- the source is refused for this fault; nothing is said where memory was wanting
+abbrev pub Refuses : SourceFaultOrMemory → List ℕ → Type 0
+Refuses (Fault fault) source = IsRefused source fault
 Refuses Memory source = ⊤

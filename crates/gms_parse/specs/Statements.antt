@@ -16,7 +16,8 @@ use Rattle.gq_number.specs.Number.{Number, whole}
 use Rattle.gq_field.specs.declared.half.Half.{Half}
 use Rattle.gq_field.specs.Values.{half_value}
 use Rattle.gms_lex.specs.Tokens.{Word, Literal, Mark, Token, HasTokens, start, most_bytes}
-use Rattle.gms_parse.specs.Grammar.{place_of, signed, with_sign, IsExpression}
+use Rattle.gms_labels.specs.Labels.{place_of}
+use Rattle.gms_parse.specs.Grammar.{signed, with_sign, IsExpression}
 
 -- a word of the language, which is no declared name, letter case ignored
 abbrev pub is_reserved : List ℕ → Bool

@@ -2,6 +2,7 @@
 #![tactic(auto)]
 
 mod expression;
+mod fault;
 mod parser;
 mod reader;
 mod refusal;
@@ -11,7 +12,7 @@ mod tests;
 mod tree;
 mod words;
 
-pub use refusal::Refusal;
+pub use fault::{SourceError, SourceFault, SourceFaultOrMemory};
 pub use source::parse;
 pub use tree::{
     Expression, Factor, Operand, Operator, Product, Program, Sign, Statement, Step, Term,

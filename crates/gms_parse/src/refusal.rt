@@ -1,19 +1,16 @@
-//! Why a source is no program.
+//! Why tokens are not read as a program.
 ghost use Rattle.std.specs.Prelude.{◌≡◌};
 ghost use Rattle.gms_parse.specs.declared.refusal.Refusal.TheVariants.{Memory};
 
 use gms_labels::Place;
 use std::alloc::{AllocError, AllocFailed};
 
-/// Why a source is no program.
+/// Why tokens are not read as a program.
 #[derive(Clone, Copy)]
-pub enum Refusal {
+pub(crate) enum Refusal {
     /// A growth found no memory.
     Memory,
-    /// The source has more bytes than a source may have.
-    TooLong,
-    /// The source is outside the language that is built: no program goes on with the token at this place, or more
-    /// has to come at this place, where the source ends.
+    /// No program goes on with the token at this place, or more has to come where the tokens end.
     NotBuilt(Place),
 }
 

@@ -1,5 +1,5 @@
 //! That a program has the parts that were counted by hand, and a source that is none its place.
-use crate::{Refusal, Sign, parse};
+use crate::{Sign, SourceError, SourceFaultOrMemory, parse};
 use gms_labels::Place;
 use gq_field::{ExactField, Half};
 use std::process::Abort;
@@ -28,8 +28,11 @@ fn reads_a_program(rt: HostRuntime) -> Result<(), Fail> {
 #[test]
 fn refuses_a_source_at_its_place(rt: HostRuntime) -> Result<(), Fail> {
     match parse(rt.alloc(), b"scalar a;\na = 2 3;".as_slice()) {
-        Err(Refusal::NotBuilt(at)) => {
-            assert_eq!(rt; at, Place { line: 2, column: 7 });
+        Err(SourceFaultOrMemory::Fault(fault)) => {
+            assert_eq!(rt; fault.error, SourceError::NotBuilt);
+            assert_eq!(rt; fault.error.code(), 31);
+            assert_eq!(rt; fault.error.name(), "NotBuilt");
+            assert_eq!(rt; fault.at, Place { line: 2, column: 7 });
         }
         _ => assert!(rt; false, "a source that means no program"),
     }

@@ -2,7 +2,7 @@
 ghost use Rattle.std.specs.Prelude.{◌≡◌};
 ghost use Rattle.std.specs.List.{list_any};
 ghost use Rattle.std.specs.Str.{str_eq_ignore_ascii_case};
-ghost use Rattle.gms_parse.specs.Grammar.{place_of};
+ghost use Rattle.gms_labels.specs.Labels.{place_of};
 ghost use Rattle.gms_parse.specs.Statements.{is_reserved, keyword_of};
 
 use gms_lex::Name;
@@ -127,7 +127,7 @@ pub(crate) fn place_of_name(names: &[Name], name: &[u8]) -> Option<usize>
 {
     names
         .iter()
-        .position(|other| same_name(other.as_bytes(), name))
+        .position(|other| same_name(name, other.as_bytes()))
 }
 
 /// Whether the name is one of the words, letter case ignored.

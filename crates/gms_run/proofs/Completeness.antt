@@ -23,7 +23,7 @@ not_refused : (old new : Meaning) (words : List (List ℕ)) (file : List ℕ) �
 not_refused old new words file is n same =
     let listed = subst (λ (o : Option Files). IfSome o (λ files. (source : List ℕ) × (files_map.get files file ≡ Some source) × ((text : List ℕ) × IsListing Compile source text × (new.output ≡ option_map (λ _. text) old.output)))) n.told is.listing in
     let source : n.source ≡ listed.0 = one_value n.found (ap (files_map.get n.files) same ∙ listed.1) in
-    listed.2.1.refused n.program (subst (λ (s : List ℕ). Means s n.program) source n.means)
+    listed.2.1.refused.none n.program (subst (λ (s : List ℕ). Means s n.program) source n.means)
 
 -- What a run did that met no fault, for words that name a program: it ended with 0 or with 3.
 pub completes : (status : Status) (words : List (List ℕ)) (old new : Meaning) → Answers status words old new → (IsReadyFor old words → (status ≢ ReadFault) × (status ≢ WriteFault)) → NamesProgram old words → MeetsNoFault old new → (status_code status ≡ 0) ⊎ (status_code status ≡ 3)

@@ -13,7 +13,7 @@ use Rattle.gms_run.specs.ListingText.{listing_of, refused_listing}
 use Rattle.gms_run.specs.CommandLine.{closing_line}
 use Rattle.gms_run.specs.Answers.{IsListing, LeavesFront, SaysBehind, ShowsRun, status_code}
 use Rattle.gms_run.specs.Outside.{LeavesReport}
-use Rattle.gms_parse.proofs.Meanings.{IsErrorPlace-unique}
+use Rattle.gms_parse.proofs.Meanings.{IsRefused-unique}
 
 -- Two runs of a source are one.
 same_run : (s t : Status) (source a b : List ℕ) (p : ShowsRun s source a) (q : ShowsRun t source b) → (p.program ≡ q.program) × (a ≡ b)
@@ -30,17 +30,17 @@ not_both (Some stop) e h = let z : ⊥ = cc in z
 pub one_listing : (s t : Status) (source a b : List ℕ) → IsListing s source a → IsListing t source b → (s ≡ t) × (a ≡ b)
 one_listing Done Done source a b p q = (refl, (same_run Done Done source a b p q).1)
 one_listing Execution Execution source a b p q = (refl, (same_run Execution Execution source a b p q).1)
-one_listing Compile Compile source a b p q = (refl, p.listing ∙ ap (refused_listing source) (IsErrorPlace-unique source p.at q.at p.place q.place) ∙ sym q.listing)
+one_listing Compile Compile source a b p q = (refl, p.listing ∙ ap (refused_listing source) (IsRefused-unique source p.fault q.fault p.refused q.refused) ∙ sym q.listing)
 one_listing Done Execution source a b p q =
     let e = (same_run Done Execution source a b p q).0 in
     absurd (not_both (run_of q.program).stopped (ap (λ (x : Program). (run_of x).stopped) (sym e) ∙ p.ends) q.ends)
 one_listing Execution Done source a b p q =
     let e = (same_run Execution Done source a b p q).0 in
     absurd (not_both (run_of p.program).stopped (ap (λ (x : Program). (run_of x).stopped) e ∙ q.ends) p.ends)
-one_listing Done Compile source a b p q = absurd (q.refused p.program p.means.0)
-one_listing Execution Compile source a b p q = absurd (q.refused p.program p.means.0)
-one_listing Compile Done source a b p q = absurd (p.refused q.program q.means.0)
-one_listing Compile Execution source a b p q = absurd (p.refused q.program q.means.0)
+one_listing Done Compile source a b p q = absurd (q.refused.none p.program p.means.0)
+one_listing Execution Compile source a b p q = absurd (q.refused.none p.program p.means.0)
+one_listing Compile Done source a b p q = absurd (p.refused.none q.program q.means.0)
+one_listing Compile Execution source a b p q = absurd (p.refused.none q.program q.means.0)
 one_listing Done Usage source a b p q = absurd q
 one_listing Done ReadFault source a b p q = absurd q
 one_listing Done WriteFault source a b p q = absurd q

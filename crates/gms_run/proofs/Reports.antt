@@ -1,19 +1,11 @@
 -- The text of a listing, put together from its parts.
-use Rattle.std.proofs.Common.{◌≡◌, ℕ, ◌<◌, ◌≤◌, Bool, true, false, cond, if◌then◌else◌, List, [], ◌++◌, length, Option, Some, None, Result, Ok, Err, IfOk, sym, ap, ◌∙◌, subst, append_assoc, append-nil, arith}
+use Rattle.std.proofs.Common.{◌≡◌, ℕ, List, ◌++◌, Option, Some, None, Result, IfOk, sym, ap, ◌∙◌, append_assoc, append-nil}
 use Rattle.std.specs.List.{flat_map}
-use Rattle.std.specs.Prelude.{Vec, nat_le}
-use Rattle.std.proofs.lemmas.Bool.Decides.{nat_tests}
+use Rattle.std.specs.Prelude.{Vec}
 use Rattle.std.proofs.lemmas.Result.{IfOk-weaker}
-use Rattle.gms_labels.specs.declared.place.Place.{Place}
 use Rattle.gms_run.specs.declared.execution.Stop.{Stop}
 use Rattle.gms_run.specs.Run.{Outcome}
-use Rattle.gms_run.specs.declared.status.Status.{Status}
-use Rattle.gms_run.specs.declared.status.Status.TheVariants.{Compile}
-use Rattle.gms_run.specs.ListingText.{run_text, shown_text, fault_text, end_text, echo_of, refused_text}
-use Rattle.gms_lex.specs.Tokens.{most_bytes}
-use Rattle.gms_parse.specs.Places.{IsErrorPlace}
-use Rattle.gms_parse.specs.Statements.{MeansNone}
-use Rattle.gms_run.specs.Answers.{ShowsRefusal, IsListing}
+use Rattle.gms_run.specs.ListingText.{run_text, shown_text, fault_text, end_text}
 
 -- the lines of a run that was done
 run_text_done : (o : Outcome) → o.stopped ≡ None → run_text o ≡ flat_map shown_text o.shown ++ end_text 0
@@ -40,29 +32,3 @@ told_stopped o stop old shown faulted e f g =
 -- What was made has another text, where the two are equal.
 pub same_made : {S E A : Type 0} (r : Result (S × Vec ℕ A) E) (x y : List ℕ) → x ≡ y → IfOk r (λ made. made.1.items ≡ x) → IfOk r (λ made. made.1.items ≡ y)
 same_made {S} {E} {A} r x y e h = IfOk-weaker r (λ (made : S × Vec ℕ A). made.1.items ≡ x) (λ (made : S × Vec ℕ A). made.1.items ≡ y) (λ made f. f ∙ e) h
-
--- the echo of a source, where it is not too long
-abbrev pub echo_shown : List ℕ → List ℕ
-echo_shown source = if nat_le (length source) most_bytes then echo_of source else []
-
--- A source that is not too long has its echo.
-pub echo_short : (source : List ℕ) → length source ≤ most_bytes → echo_of source ≡ echo_shown source
-echo_short source few =
-    let test : nat_le (length source) most_bytes ≡ true = grind (arith, nat_tests) in ap (λ (b : Bool). cond b (echo_of source) []) (sym test)
-
--- A source that is too long has no echo.
-pub echo_long : (source : List ℕ) → most_bytes < length source → [] ≡ echo_shown source
-echo_long source long =
-    let test : nat_le (length source) most_bytes ≡ false = grind (arith, nat_tests) in ap (λ (b : Bool). cond b (echo_of source) []) (sym test)
-
--- The listing of a source that is refused at a place.
-pub told_refused : {E A : Type 0} (r : Result (Status × Vec ℕ A) E) (source old : List ℕ) (at : Place) → MeansNone source → IsErrorPlace source at → old ≡ echo_shown source → IfOk r (λ made. made.0 ≡ Compile) → IfOk r (λ made. made.1.items ≡ old ++ refused_text source at) → IfOk r (λ made. IsListing made.0 source made.1.items)
-told_refused (Err e) source old at none place echoed status text = tt
-told_refused (Ok (s, v)) source old at none place echoed status text =
-    let shows : ShowsRefusal source v.items = record {
-      refused = none;
-      at = at;
-      place = place;
-      listing = text ∙ ap (λ (x : List ℕ). x ++ refused_text source at) echoed;
-    } in
-    subst (λ (x : Status). IsListing x source v.items) (sym status) shows

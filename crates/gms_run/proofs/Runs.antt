@@ -1,38 +1,36 @@
 -- What a run did, put together from its steps.
-use Rattle.std.proofs.Common.{◌≡◌, ℕ, ◌+◌, ◌<◌, ◌≤◌, Bool, false, cond, List, [], ◌++◌, length, take, drop, Option, Some, None, sym, ap, ◌∙◌, subst, ◌⊎◌, inl, inr, arith, length-take}
-use Rattle.std.specs.Prelude.{IfSome, option_map, nat_le, codes}
+use Rattle.std.proofs.Common.{◌≡◌, ℕ, ◌+◌, ◌<◌, ◌≤◌, List, length, take, drop, Option, Some, None, sym, ap, ◌∙◌, subst, ◌⊎◌, inl, inr, arith, length-take}
+use Rattle.std.specs.Prelude.{IfSome, option_map}
 use Rattle.std.specs.FinMap as files_map
 use Rattle.std.proofs.lemmas.List.{take_all}
 use Rattle.std.proofs.lemmas.Bool.{cases_lt}
-use Rattle.std.proofs.lemmas.Bool.Decides.{nat_tests}
 use Rattle.gms_host.specs.Meaning.{Meaning, Files, Rose}
 use Rattle.gms_host.specs.Rules.{Says, names_with, bytes_with}
 use Rattle.gms_labels.specs.declared.place.Place.{Place}
 use Rattle.gms_run.specs.declared.status.Status.{Status}
 use Rattle.gms_run.specs.declared.status.Status.TheVariants.{Done, Usage, Compile, Execution, ReadFault, WriteFault}
 use Rattle.gms_lex.specs.Tokens.{most_bytes}
-use Rattle.gms_parse.specs.Places.{IsErrorPlace}
-use Rattle.gms_run.specs.ListingText.{refused_listing, echo_of, end_text, line_of, place_text}
+use Rattle.gms_parse.specs.declared.fault.SourceError.{SourceError}
+use Rattle.gms_parse.specs.declared.fault.SourceError.TheVariants.{TooLong, NotBuilt}
+use Rattle.gms_parse.specs.Faults.{fault_at}
+use Rattle.gms_parse.specs.Places.{IsCause}
+use Rattle.gms_run.specs.ListingText.{refused_listing}
 use Rattle.gms_run.specs.CommandLine.{output_name, closing_line}
 use Rattle.gms_run.specs.Answers.{IsListing, LeavesListing, LeavesRest, ListsSource, IsReported, IsWriteFault, OfFile, ShowsRun, ShowsRefusal, status_code}
 use Rattle.gms_run.specs.Outside.{ReadsFile, Reports, LeavesReport, SaysOnly}
 use Rattle.gms_run.proofs.Steadiness.{same_more}
 use Rattle.gms_run.proofs.Fronts.{moved_front}
 
--- the listing of a source that is refused at a place, by the test of its length
-abbrev refused_by : List ℕ → Place → Bool → List ℕ
-refused_by source at fits =
-    cond fits (echo_of source) [] ++ (line_of (codes "*** Source error " ++ cond fits (codes "31 NotBuilt") (codes "9 TooLong") ++ place_text at) ++ end_text 2)
+-- An error of a source that is too long is that of another that is too long, and so is its listing.
+long_by : (a b text : List ℕ) (error : SourceError) (at : Place) → most_bytes < length a → most_bytes < length b → IsCause error a at → text ≡ refused_listing a (fault_at error at) → IsCause error b at × (text ≡ refused_listing b (fault_at error at))
+long_by a b text TooLong at long more cause listing = ((more, cause.1), listing)
+long_by a b text NotBuilt at long more cause listing = absurd (omega (arith, long, cause.0))
 
-too_long : (source : List ℕ) (at : Place) → most_bytes < length source → refused_listing source at ≡ refused_by [] at false
-too_long source at long =
-    let e : nat_le (length source) most_bytes ≡ false = grind (arith, nat_tests) in
-    ap (refused_by source at) e
-
--- Two sources that are too long have the same place of their error.
-long_place : (a b : List ℕ) (at : Place) → most_bytes < length a → most_bytes < length b → IsErrorPlace a at → IsErrorPlace b at
-long_place a b at long more (inl p) = inl (more, p.1)
-long_place a b at long more (inr p) = absurd (omega (arith, long, p.0))
+-- The listing of the refusal of a source that is too long is that of another that is too long.
+long_refusal : (a b text : List ℕ) → most_bytes < length a → most_bytes < length b → ShowsRefusal a text → ShowsRefusal b text
+long_refusal a b text long more r =
+    let same = long_by a b text r.fault.error r.fault.at long more r.refused.cause r.listing in
+    record { fault = r.fault; refused = record { none = λ program m. omega (arith, more, m.0); cause = same.0 }; listing = same.1 }
 
 -- What is listed of the first bytes of a source, one more than it may have, is listed of the source.
 pub listed_whole : (status : Status) (bytes text : List ℕ) → IsListing status (take (most_bytes + 1) bytes) text → IsListing status bytes text
@@ -48,13 +46,7 @@ listed_whole status bytes text is = by_length (cases_lt (most_bytes + 1) (length
     no_run s h run = let few : length (take (most_bytes + 1) bytes) ≤ most_bytes = run.means.0.0 in omega (arith, few, length-take (most_bytes + 1) bytes)
 
     refusal : most_bytes + 1 < length bytes → ShowsRefusal (take (most_bytes + 1) bytes) text → ShowsRefusal bytes text
-    refusal h r =
-        record {
-          refused = λ program m. omega (arith, h, m.0);
-          at = r.at;
-          place = long_place (take (most_bytes + 1) bytes) bytes r.at (omega (arith, length-take (most_bytes + 1) bytes)) (omega arith) r.place;
-          listing = r.listing ∙ too_long (take (most_bytes + 1) bytes) r.at (omega (arith, length-take (most_bytes + 1) bytes)) ∙ sym (too_long bytes r.at (omega arith));
-        }
+    refusal h r = long_refusal (take (most_bytes + 1) bytes) bytes text (long_taken h) (omega arith) r
 
     longer : (s : Status) → most_bytes + 1 < length bytes → IsListing s (take (most_bytes + 1) bytes) text → IsListing s bytes text
     longer Done h run = absurd (no_run Done h run)
@@ -120,13 +112,7 @@ listed_front status bytes text is = by_length (cases_lt (most_bytes + 1) (length
     no_run s h run = let few : length bytes ≤ most_bytes = run.means.0.0 in omega (arith, few, h)
 
     refusal : most_bytes + 1 < length bytes → ShowsRefusal bytes text → ShowsRefusal (take (most_bytes + 1) bytes) text
-    refusal h r =
-        record {
-          refused = λ program m. let few : length (take (most_bytes + 1) bytes) ≤ most_bytes = m.0 in omega (arith, h, few, length-take (most_bytes + 1) bytes);
-          at = r.at;
-          place = long_place bytes (take (most_bytes + 1) bytes) r.at (omega arith) (omega (arith, length-take (most_bytes + 1) bytes)) r.place;
-          listing = r.listing ∙ too_long bytes r.at (omega arith) ∙ sym (too_long (take (most_bytes + 1) bytes) r.at (omega (arith, length-take (most_bytes + 1) bytes)));
-        }
+    refusal h r = long_refusal bytes (take (most_bytes + 1) bytes) text (omega arith) (omega (arith, length-take (most_bytes + 1) bytes)) r
 
     longer : (s : Status) → most_bytes + 1 < length bytes → IsListing s bytes text → IsListing s (take (most_bytes + 1) bytes) text
     longer Done h run = absurd (no_run Done h run)

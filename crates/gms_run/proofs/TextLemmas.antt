@@ -39,7 +39,3 @@ half_bounds value numerator denominator magnitude e f m =
 -- the parts of a line that says a fault and its place, put together from the left and from the right
 pub fault_parts : (begins code space name at row between column end : List ℕ) → begins ++ (code ++ (space ++ (name ++ (at ++ (row ++ (between ++ (column ++ end))))))) ≡ ((((begins ++ code) ++ space) ++ name) ++ (((at ++ row) ++ between) ++ column)) ++ end
 fault_parts begins code space name at row between column end = simp append_assoc
-
--- the parts of a line that says an error of a source and its place, put together from the left and from the right
-pub error_parts : (begins error at row between column end : List ℕ) → begins ++ (error ++ (at ++ (row ++ (between ++ (column ++ end))))) ≡ ((begins ++ error) ++ (((at ++ row) ++ between) ++ column)) ++ end
-error_parts begins error at row between column end = simp append_assoc

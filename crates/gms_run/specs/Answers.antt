@@ -4,14 +4,14 @@ use Rattle.std.specs.declared.string.String.{String}
 use Rattle.std.specs.FinMap as files_map
 use Rattle.gms_host.specs.Meaning.{Meaning, Files, Rose}
 use Rattle.gms_host.specs.Rules.{IsThere, Precise, names_with, bytes_with}
-use Rattle.gms_labels.specs.declared.place.Place.{Place}
 use Rattle.gms_run.specs.declared.execution.Stop.{Stop}
 use Rattle.gms_run.specs.declared.status.Status.{Status}
 use Rattle.gms_run.specs.declared.status.Status.TheVariants.{Done, Usage, Compile, Execution, ReadFault, WriteFault}
 use Rattle.gms_parse.specs.declared.tree.Program.{Program}
-use Rattle.gms_parse.specs.Statements.{Means, MeansOnly, MeansNone}
+use Rattle.gms_parse.specs.Statements.{Means, MeansOnly}
 use Rattle.gms_lex.specs.Tokens.{most_bytes}
-use Rattle.gms_parse.specs.Places.{IsErrorPlace}
+use Rattle.gms_parse.specs.declared.fault.SourceFault.{SourceFault}
+use Rattle.gms_parse.specs.Places.{IsRefused}
 use Rattle.gms_run.specs.Run.{run_of}
 use Rattle.gms_run.specs.ListingText.{listing_of, refused_listing}
 use Rattle.gms_run.specs.CommandLine.{file_of, output_name, usage_line, read_fault_line, closing_line}
@@ -42,12 +42,11 @@ pub record ShowsRun (status : Status) (source text : List ℕ) : Type 0 where
   pub ends : EndsSo status (run_of program).stopped
   pub listing : text ≡ listing_of source (run_of program)
 
--- The source means no program, and the text is the listing that says so, with the place of the error.
+-- The source means no program, and the text is the listing that says why, and where.
 pub record ShowsRefusal (source text : List ℕ) : Type 0 where
-  pub refused : MeansNone source
-  pub at : Place
-  pub place : IsErrorPlace source at
-  pub listing : text ≡ refused_listing source at
+  pub fault : SourceFault
+  pub refused : IsRefused source fault
+  pub listing : text ≡ refused_listing source fault
 
 -- what the text of a listing is, where a run ends with this status
 abbrev pub IsListing : Status → List ℕ → List ℕ → Type 0

@@ -1,13 +1,16 @@
 -- The text of a listing: the echo of the source, then an error or what the run shows and its fault, then the last line.
-use Rattle.std.specs.Prelude.{ℕ, ◌+◌, ◌*◌, ◌/◌, ◌%◌, ◌-◌, Bool, true, false, ◌&&◌, ◌==◌, nat_lt, nat_le, if◌then◌else◌, List, [], ◌∷◌, ◌++◌, length, take, slice_index, replicate, flat_map, Option, Some, None, codes, decimal, ℤ, pos, negsuc, nat_abs}
+use Rattle.std.specs.Prelude.{ℕ, ◌+◌, ◌*◌, ◌/◌, ◌%◌, ◌-◌, Bool, true, false, ◌&&◌, ◌==◌, nat_lt, if◌then◌else◌, List, [], ◌∷◌, ◌++◌, length, take, slice_index, replicate, flat_map, Option, Some, None, codes, decimal, ℤ, pos, negsuc, nat_abs}
 use Rattle.gq_number.specs.Number.{Number, quotient_to_nearest}
 use Rattle.gms_run.specs.declared.execution.Fault.{Fault}
 use Rattle.gms_run.specs.declared.execution.Fault.TheVariants.{Limit, Divide}
 use Rattle.gms_run.specs.declared.execution.Stop.{Stop}
+use Rattle.gms_parse.specs.declared.fault.SourceError.{SourceError}
+use Rattle.gms_parse.specs.declared.fault.SourceError.TheVariants.{TooLong, NotBuilt}
+use Rattle.gms_parse.specs.declared.fault.SourceFault.{SourceFault}
+use Rattle.gms_parse.specs.Faults.{error_code, error_name}
 use Rattle.gms_labels.specs.declared.place.Place.{Place}
 use Rattle.gms_lex.specs.Tokens.{begins}
 use Rattle.gms_run.specs.Run.{Shown, Outcome}
-use Rattle.gms_lex.specs.Tokens.{most_bytes}
 
 -- a line: a text and a line feed behind it
 abbrev pub line_of : List ℕ → List ℕ
@@ -107,15 +110,16 @@ run_text outcome = flat_map shown_text outcome.shown ++ fault_text outcome.stopp
 abbrev pub listing_of : List ℕ → Outcome → List ℕ
 listing_of source outcome = echo_of source ++ run_text outcome
 
--- the error of a refused source at a place: too long, or outside the language
-abbrev pub error_text : List ℕ → Place → List ℕ
-error_text source at =
-    line_of (codes "*** Source error " ++ (if nat_le (length source) most_bytes then codes "31 NotBuilt" else codes "9 TooLong") ++ place_text at)
+-- the line of a source error
+abbrev pub error_text : SourceFault → List ℕ
+error_text fault =
+    line_of (codes "*** Source error " ++ decimal (error_code fault.error) ++ codes " " ++ error_name fault.error ++ place_text fault.at)
 
--- the lines of a source that is refused at a place: its error, and the last line
-abbrev pub refused_text : List ℕ → Place → List ℕ
-refused_text source at = error_text source at ++ end_text 2
+-- the echo of a source that is refused for an error: one that is too long has none
+abbrev pub refused_echo : SourceError → List ℕ → List ℕ
+refused_echo TooLong source = []
+refused_echo NotBuilt source = echo_of source
 
--- the listing of a source that is refused at a place; one that is too long has no echo
-abbrev pub refused_listing : List ℕ → Place → List ℕ
-refused_listing source at = (if nat_le (length source) most_bytes then echo_of source else []) ++ refused_text source at
+-- the listing of a source that is refused: its echo, its error, and the last line
+abbrev pub refused_listing : List ℕ → SourceFault → List ℕ
+refused_listing source fault = refused_echo fault.error source ++ error_text fault ++ end_text 2

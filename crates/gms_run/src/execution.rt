@@ -11,13 +11,16 @@ use gms_lex::Name;
 use gms_parse::{Expression, Factor, Operator, Product, Program, Sign, Statement};
 use gq_field::{ExactField, Half, Limit};
 use std::alloc::{AllocError, Global};
+use thiserror::Error;
 
 /// An execution error.
-#[derive(Clone, Copy)]
+#[derive(Clone, Copy, Debug, Error)]
 pub(crate) enum Fault {
     /// A value does not fit under the limit of the field.
+    #[error("a value does not fit under the limit")]
     Limit,
     /// A division by 0.
+    #[error("a division by 0")]
     Divide,
 }
 

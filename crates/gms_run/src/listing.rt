@@ -7,8 +7,7 @@ ghost use Rattle.gms_lex.specs.Tokens.{most_bytes};
 ghost use Rattle.gms_run.specs.ListingText.{line_of, lines_of, without_return, numbered_line, echo_of, thousandths, sign_text, value_text, shown_text, fault_code, fault_name, fault_text, error_text, end_text};
 
 use crate::execution::{Fault, Stop};
-use gms_labels::Place;
-use gms_lex::MOST_BYTES;
+use gms_parse::SourceFault;
 use gq_field::{ExactField, Half};
 use std::alloc::{AllocError, Global};
 
@@ -163,23 +162,19 @@ pub(crate) fn fault(alloc: Global, listing: &mut Vec<u8>, stop: Stop) -> Result<
     listing.extend_from_slice(line.as_bytes())
 }
 
-/// Appends the line of a source that was refused at a place.
-pub(crate) fn refusal(
+/// Appends the line of a source error.
+pub(crate) fn error(
     alloc: Global,
     listing: &mut Vec<u8>,
-    source: &[u8],
-    at: Place,
+    fault: SourceFault,
 ) -> Result<(), AllocError>
-    ensures { OnOk result (listing.new.items ≡ listing.old.items ++ error_text source.now at) }
+    ensures { OnOk result (listing.new.items ≡ listing.old.items ++ error_text fault) }
 {
-    let error = if source.len() <= MOST_BYTES {
-        "31 NotBuilt"
-    } else {
-        "9 TooLong"
-    };
-    let row = at.line;
-    let column = at.column;
-    let line = format!(in alloc; "*** Source error {error} at line {row} column {column}\n")?;
+    let code = fault.error.code();
+    let name = fault.error.name();
+    let row = fault.at.line;
+    let column = fault.at.column;
+    let line = format!(in alloc; "*** Source error {code} {name} at line {row} column {column}\n")?;
     listing.extend_from_slice(line.as_bytes())
 }
 

@@ -1,18 +1,15 @@
 //! The listing of a source, from its bytes.
 ghost use Rattle.std.specs.Prelude.{◌≡◌, ◌++◌, IfOk};
 ghost use Rattle.gms_run.specs.Run.{run_of};
-ghost use Rattle.gms_run.specs.ListingText.{end_text, run_text, refused_text};
+ghost use Rattle.gms_run.specs.ListingText.{end_text, run_text, refused_listing};
+ghost use Rattle.gms_parse.specs.Places.{IsCause};
 ghost use Rattle.gms_run.specs.Answers.{status_code, EndsSo, IsListing};
 
 use crate::execution::execute;
 use crate::listing;
 use crate::status::Status;
-use gms_labels::Place;
-use gms_parse::{Program, Refusal, parse};
+use gms_parse::{Program, SourceError, SourceFault, SourceFaultOrMemory, parse};
 use std::alloc::{AllocError, Global};
-
-/// Where a source begins.
-const START: Place = Place { line: 1, column: 1 };
 
 /// A listing with its last line.
 fn ended(alloc: Global, mut text: Vec<u8>, status: Status) -> Result<(Status, Vec<u8>), AllocError>
@@ -23,17 +20,22 @@ fn ended(alloc: Global, mut text: Vec<u8>, status: Status) -> Result<(Status, Ve
     Ok((status, text))
 }
 
-/// A listing with the line of a source that is refused at a place, and the last line.
+/// The listing of a source that is refused.
 fn refused(
     alloc: Global,
     source: &[u8],
-    at: Place,
-    mut text: Vec<u8>,
+    fault: SourceFault,
 ) -> Result<(Status, Vec<u8>), AllocError>
+    requires { IsCause fault.error source.now fault.at }
     ensures status { IfOk result (λ r. r.0 ≡ Status.Compile) }
-    ensures text { IfOk result (λ r. r.1.items ≡ text.items ++ refused_text source.now at) }
+    ensures text { IfOk result (λ r. r.1.items ≡ refused_listing source.now fault) }
 {
-    listing::refusal(alloc, &mut text, source, at)?;
+    let mut text = Vec::new(alloc);
+    match fault.error {
+        SourceError::TooLong => {}
+        SourceError::NotBuilt => listing::echo(alloc, &mut text, source)?,
+    }
+    listing::error(alloc, &mut text, fault)?;
     ended(alloc, text, Status::Compile)
 }
 
@@ -59,17 +61,13 @@ fn executed(
 pub(crate) fn report(alloc: Global, source: &[u8]) -> Result<(Status, Vec<u8>), AllocError>
     ensures { IfOk result (λ r. IsListing r.0 source.now r.1.items) }
 {
-    let mut text = Vec::new(alloc);
     match parse(alloc, source) {
         Ok(program) => {
+            let mut text = Vec::new(alloc);
             listing::echo(alloc, &mut text, source)?;
             executed(alloc, &program, text)
         }
-        Err(Refusal::NotBuilt(at)) => {
-            listing::echo(alloc, &mut text, source)?;
-            refused(alloc, source, at, text)
-        }
-        Err(Refusal::TooLong) => refused(alloc, source, START, text),
-        Err(Refusal::Memory) => Err(AllocError),
+        Err(SourceFaultOrMemory::Fault(fault)) => refused(alloc, source, fault),
+        Err(SourceFaultOrMemory::Memory) => Err(AllocError),
     }
 }

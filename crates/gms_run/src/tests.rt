@@ -433,6 +433,18 @@ fn answers_faults_of_the_host(rt: HostRuntime) -> Result<(), Fail> {
     Ok(())
 }
 
+#[test]
+fn keeps_the_status_of_refused_words(rt: HostRuntime) -> Result<(), Fail> {
+    let alloc = rt.alloc();
+    // The one call is to say the usage line.
+    let mut host = host_of(alloc, &["a.gms"], DIVIDED.0, &[0])?;
+    let ended = run(alloc, words_of(alloc, &["-"])?.as_slice(), &mut host)?;
+    assert_eq!(rt; ended.status, 1);
+    assert_eq!(rt; host.said(), b"".as_slice());
+    assert_eq!(rt; host.calls(), 1);
+    Ok(())
+}
+
 /// So many lines of 63 blanks.
 fn blank_lines(alloc: Global, lines: usize) -> Result<String, AllocError> {
     let line = " ".repeat(alloc, 63)?;

@@ -12,4 +12,4 @@ pub returns-then-lexed-clause-accepted : goal.returns-then-lexed-clause-accepted
 returns-then-lexed-clause-accepted c = accepted_whole c.args.source.now c.in_ok-lexed.lexed c.in_ok-program.program (omega arith) c.in_ok-lexed.ensures c.if-lexed.true (rw (← c.as_slice.ensures.value) c.in_ok-program.ensures.accepted)
 
 pub returns-clause-refused : goal.returns-clause-refused
-returns-clause-refused c = refused_behind c.args.source.now c.in_ok-lexed.lexed c.in_ok-program.program (omega arith) c.in_ok-lexed.ensures c.if-lexed.false (rw (← c.as_slice.ensures.value) c.in_ok-program.ensures.accepted)
+returns-clause-refused c = rw c.into.ensures (refused_behind c.args.source.now c.in_ok-lexed.lexed c.in_ok-program.program (omega arith) c.in_ok-lexed.ensures c.if-lexed.false (rw (← c.as_slice.ensures.value) c.in_ok-program.ensures.accepted))

@@ -3,7 +3,7 @@ use Rattle.std.proofs.lemmas.Result.{IfOk-weaker}
 use Rattle.gms_parse.specs.declared.words.Keyword.{Keyword}
 use Rattle.gms_parse.specs.declared.words.Keyword.TheVariants as keyword
 use Rattle.gms_parse.specs.declared.tree.Statement.TheVariants as statement
-use Rattle.gms_parse.specs.Grammar.{place_of}
+use Rattle.gms_labels.specs.Labels.{place_of}
 use Rattle.gms_parse.specs.Statements.{Acts, keyword_of}
 use Rattle.gms_parse.proofs.Readings.{display_part, assignment_part}
 use Rattle.gms_parse.proofs.reader.Reader.statement.Goals as goal
