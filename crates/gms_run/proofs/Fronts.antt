@@ -64,6 +64,7 @@ pub front_opened : {open_now : _} (old new : Meaning) (source output : List ℕ)
 front_opened old new source output opened asked =
     record {
       front = λ status text is. record { front = (0, opened.output); said = inl opened.said };
+      due = inl (record { output = opened.output; said = opened.said });
       asked = asked;
       input = opened.input;
     }
@@ -78,6 +79,7 @@ front_written old mid new source output listing bytes count status opened asked 
             front = (count, wrote.output ∙ ap (λ (o : Option (List ℕ)). bytes_with o bytes) opened.output ∙ filled old.output bytes ∙ ap (λ (b : List ℕ). option_map (λ (_ : List ℕ). b) old.output) (cut ∙ ap (take count) same));
             said = inl (wrote.said ∙ opened.said);
           };
+      due = inr (status, (listing, is));
       asked = inr (wrote.asked ∙ asked);
       input = wrote.input ∙ opened.input;
     }
@@ -101,6 +103,7 @@ front_closed old mid wrote new source output listing status opened asked is w cl
             front = (length text, whole_front text old new (written_whole old mid wrote new listing text opened w closed.output same));
             said = inl (closed.said ∙ w.said ∙ opened.said);
           };
+      due = inr (status, (listing, is));
       asked = inr (closed.asked ∙ w.asked ∙ asked);
       input = closed.input ∙ w.input ∙ opened.input;
     }
@@ -120,6 +123,7 @@ front_said old mid wrote shut new source output listing line bytes count status 
               said = (count, says.said ∙ ap (λ (o : Option (List ℕ)). bytes_with o bytes) (closed.said ∙ w.said ∙ opened.said) ∙ ap (bytes_with old.said) lines);
             });
           };
+      due = inr (status, (listing, is));
       asked = inr (says.asked ∙ closed.asked ∙ w.asked ∙ asked);
       input = says.input ∙ closed.input ∙ w.input ∙ opened.input;
     }

@@ -1,5 +1,5 @@
 -- What a run did, put together from its steps.
-use Rattle.std.proofs.Common.{◌≡◌, ℕ, ◌+◌, ◌<◌, ◌≤◌, List, length, take, drop, Option, Some, None, sym, ap, ◌∙◌, subst, ◌⊎◌, inl, inr, arith, length-take}
+use Rattle.std.proofs.Common.{◌≡◌, ℕ, ◌+◌, ◌<◌, ◌≤◌, List, [], length, take, drop, Option, Some, None, sym, ap, ◌∙◌, subst, ◌⊎◌, inl, inr, arith, length-take}
 use Rattle.std.specs.Prelude.{IfSome, option_map}
 use Rattle.std.specs.FinMap as files_map
 use Rattle.std.proofs.lemmas.List.{take_all}
@@ -16,7 +16,7 @@ use Rattle.gms_parse.specs.Faults.{fault_at}
 use Rattle.gms_parse.specs.Places.{IsCause}
 use Rattle.gms_run.specs.ListingText.{refused_listing}
 use Rattle.gms_run.specs.CommandLine.{output_name, closing_line}
-use Rattle.gms_run.specs.Answers.{IsListing, LeavesListing, LeavesRest, ListsSource, IsReported, IsWriteFault, OfFile, ShowsRun, ShowsRefusal, status_code}
+use Rattle.gms_run.specs.Answers.{IsListing, LeavesListing, LeavesNothing, HasListing, LeavesRest, ListsSource, IsReported, IsWriteFault, OfFile, ShowsRun, ShowsRefusal, status_code}
 use Rattle.gms_run.specs.Outside.{ReadsFile, Reports, LeavesReport, SaysOnly}
 use Rattle.gms_run.proofs.Steadiness.{same_more}
 use Rattle.gms_run.proofs.Fronts.{moved_front}
@@ -143,9 +143,20 @@ write_failed old mid new file source output read left rose e =
     leaves bytes cut status text is =
         moved_front status old mid new output (output_name file) text read.output read.said e (left.front status text (subst (λ (s : List ℕ). IsListing status s text) (sym cut) (listed_front status bytes text is)))
 
-    of_files : (files : Option Files) → IfSome files (λ f. (bytes : List ℕ) × (files_map.get f file ≡ Some bytes) × (source ≡ take (most_bytes + 1) bytes)) → IfSome files (λ f. (bytes : List ℕ) × (files_map.get f file ≡ Some bytes) × LeavesListing old new bytes (output_name file))
+    -- what was not written over the opened output was not written at all
+    nothing : LeavesNothing mid new → LeavesNothing old new
+    nothing none = record { output = none.output ∙ ap (option_map (λ (_ : List ℕ). [])) read.output; said = none.said ∙ read.said }
+
+    has : (bytes : List ℕ) → source ≡ take (most_bytes + 1) bytes → HasListing old new bytes
+    has bytes cut =
+        elim left.due [
+          | inl none ↦ inl (nothing none)
+          | inr is ↦ inr (is.0, (is.1.0, listed_whole is.0 bytes is.1.0 (subst (λ (s : List ℕ). IsListing is.0 s is.1.0) cut is.1.1)))
+        ]
+
+    of_files : (files : Option Files) → IfSome files (λ f. (bytes : List ℕ) × (files_map.get f file ≡ Some bytes) × (source ≡ take (most_bytes + 1) bytes)) → IfSome files (λ f. (bytes : List ℕ) × (files_map.get f file ≡ Some bytes) × HasListing old new bytes × LeavesListing old new bytes (output_name file))
     of_files None taken = tt
-    of_files (Some f) taken = (taken.0, taken.1, leaves taken.0 taken.2)
+    of_files (Some f) taken = (taken.0, taken.1, has taken.0 taken.2, leaves taken.0 taken.2)
 
 -- A line that was said whole.
 pub says_whole : (old new : Meaning) (line : List ℕ) → Says old new line → SaysOnly old new line

@@ -1,5 +1,5 @@
 -- What each status of a run says: its cause, and what stands in the output, in the names asked for and on standard output.
-use Rattle.std.specs.Prelude.{◌≡◌, ℕ, ◌+◌, ◌⊎◌, true, false, List, take, drop, map, string_bytes, Option, Some, None, option_map, IfSome, IsSome}
+use Rattle.std.specs.Prelude.{◌≡◌, ℕ, ◌+◌, ◌⊎◌, true, false, List, [], take, drop, map, string_bytes, Option, Some, None, option_map, IfSome, IsSome}
 use Rattle.std.specs.declared.string.String.{String}
 use Rattle.std.specs.FinMap as files_map
 use Rattle.gms_host.specs.Meaning.{Meaning, Files, Rose}
@@ -71,6 +71,15 @@ pub record SaysLine (old new : Meaning) (line : List ℕ) : Type 0 where
   pub front : (count : ℕ) × (new.said ≡ bytes_with old.said (take count line))
   pub whole : (new.said ≡ bytes_with old.said line) ⊎ Rose old.write_faults new.write_faults
 
+-- The output, where it is told, is empty, and nothing was said.
+pub record LeavesNothing (old new : Meaning) : Type 0 where
+  pub output : new.output ≡ option_map (λ _. []) old.output
+  pub said : new.said ≡ old.said
+
+-- The source has a listing; or none was made, and nothing was written.
+abbrev pub HasListing : Meaning → Meaning → List ℕ → Type 0
+HasListing old new source = LeavesNothing old new ⊎ ((status : Status) × ((text : List ℕ) × IsListing status source text))
+
 -- The file was read, and no more of it than one byte more than a source may have. Its listing was written to the output named after it,
 -- which is closed, and the closing line was said.
 pub record IsReported (status : Status) (old new : Meaning) (file : List ℕ) : Type 0 where
@@ -115,7 +124,7 @@ LeavesListing old new source output =
 -- front of the listing, and no name but those of the file and of the output was asked for.
 pub record IsWriteFault (old new : Meaning) (file : List ℕ) : Type 0 where
   pub rose : Rose old.write_faults new.write_faults
-  pub front : IfSome old.files (λ files. (source : List ℕ) × (files_map.get files file ≡ Some source) × LeavesListing old new source (output_name file))
+  pub front : IfSome old.files (λ files. (source : List ℕ) × (files_map.get files file ≡ Some source) × HasListing old new source × LeavesListing old new source (output_name file))
   pub asked : (new.asked ≡ names_with old.asked file) ⊎ (new.asked ≡ names_with (names_with old.asked file) (output_name file))
   pub left : LeavesRest old new file
 

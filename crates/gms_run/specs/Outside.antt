@@ -6,7 +6,7 @@ use Rattle.gms_host.specs.Rules.{CountsStay, Precise, AsksOrNot, names_with, byt
 use Rattle.gms_run.specs.declared.status.Status.{Status}
 use Rattle.gms_lex.specs.Tokens.{most_bytes}
 use Rattle.gms_run.specs.CommandLine.{closing_line}
-use Rattle.gms_run.specs.Answers.{IsListing, LeavesListing, LeavesRest, SaysLine, status_code}
+use Rattle.gms_run.specs.Answers.{IsListing, LeavesListing, HasListing, LeavesRest, SaysLine, status_code}
 
 -- The bytes are those of the file of that name, or the first of them, one more than a source may have.
 pub record ReadsFile (old new : Meaning) (file source : List ℕ) : Type 0 where
@@ -38,6 +38,7 @@ pub record Reports (status : Status) (old new : Meaning) (source output : List �
 -- The listing of the source was not written whole, or the closing line not said whole.
 pub record LeavesReport (old new : Meaning) (source output : List ℕ) : Type 0 where
   pub front : LeavesListing old new source output
+  pub due : HasListing old new source
   pub asked : AsksOrNot old.asked new.asked output
   pub input : new.input ≡ old.input
 
