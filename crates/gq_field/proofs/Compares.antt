@@ -1,5 +1,5 @@
 -- How fractions compare: by signs, by whole parts, and turned over.
-use Rattle.std.proofs.Common.{◌≡◌, ◌≢◌, ℕ, zero, suc, ◌+◌, ◌*◌, ◌/◌, ◌%◌, ◌<◌, ◌≤◌, Bool, true, false, ◌&&◌, nat_lt, pos, negsuc, refl, sym, ap, ap₂, ◌∙◌, arith, mul-pos, zero-mul, Ordering, Less, Greater, nat_cmp, int_cmp, div-add-mod', mod-lt, true≢false, subst₂, mul_assoc, mul_comm, mul_right_comm, mul-le-mul_right, mul-lt-mul_of_pos_right, div-mul-le_self, le_trans, lt_of_lt_of_le, inl, inr}
+use Rattle.std.proofs.Common.{◌≡◌, ◌≢◌, ℕ, zero, suc, ◌+◌, ◌*◌, ◌/◌, ◌%◌, ◌<◌, ◌≤◌, Bool, true, false, ◌&&◌, nat_lt, pos, negsuc, refl, sym, ap, ap₂, ◌∙◌, arith, mul-pos, zero-mul, Ordering, Less, Equal, Greater, nat_cmp, int_cmp, div-add-mod', mod-lt, true≢false, subst₂, mul_assoc, mul_comm, mul_right_comm, mul-le-mul_right, mul-lt-mul_of_pos_right, div-mul-le_self, le_trans, lt_of_lt_of_le, inl, inr}
 use Rattle.std.proofs.lemmas.Bool.{cases_lt}
 use Rattle.std.proofs.lemmas.Bool.Decides.{nat_tests}
 use Rattle.gq_number.specs.Order.{number_cmp}
@@ -120,3 +120,21 @@ cmp_first_none r s b d pos_b none =
 pub cmp_second_none : (r s b d : ℕ) → 0 < d → s ≡ 0 → nat_cmp r s ≡ nat_cmp (r * d) (s * b)
 cmp_second_none r s b d pos_d none =
     ap (nat_cmp r) none ∙ cmp_zero_right r d pos_d ∙ ap (nat_cmp (r * d)) (sym (zero-mul b) ∙ ap (λ n. n * b) (sym none))
+
+-- ---- over one denominator the numerators decide
+
+cmp-times : (a c k : ℕ) → 0 < k → nat_cmp a c ≡ nat_cmp (a * k) (c * k)
+cmp-times a c k some =
+    elim (cases_lt a c) [
+      | inl less ↦ cmp_less a c less ∙ sym (cmp_less (a * k) (c * k) (mul-lt-mul_of_pos_right less some))
+      | inr not_less ↦ elim (cases_lt c a) [
+        | inl more ↦ cmp_greater a c more ∙ sym (cmp_greater (a * k) (c * k) (mul-lt-mul_of_pos_right more some))
+        | inr not_more ↦ let e : a ≡ c = omega arith in ap (nat_cmp a) (sym e) ∙ nat_cmp_self a ∙ sym (ap (nat_cmp (a * k)) (ap (λ n. n * k) (sym e)) ∙ nat_cmp_self (a * k))
+      ]
+    ]
+  where
+    nat_cmp_self : (n : ℕ) → nat_cmp n n ≡ Equal
+    nat_cmp_self n = grind (arith, nat_tests)
+
+pub cmp_over_same : (a b c d : ℕ) → 0 < b → b ≡ d → nat_cmp a c ≡ nat_cmp (a * d) (c * b)
+cmp_over_same a b c d some same = cmp-times a c b some ∙ ap (λ k. nat_cmp (a * k) (c * b)) same

@@ -1,3 +1,4 @@
+pub mod Binary
 pub mod Casts
 pub mod Compares
 pub mod Fractions

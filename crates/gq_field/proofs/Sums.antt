@@ -1,5 +1,5 @@
 -- What the sum of two fractions shows, and when it fits.
-use Rattle.std.proofs.Common.{◌≡◌, ℕ, ◌+◌, ◌-◌, ◌*◌, ◌/◌, ◌<◌, ◌≤◌, ◌⊎◌, inl, inr, Bool, true, false, ◌&&◌, nat_le, pos, ◌+ℤ◌, ◌*ℤ◌, nat_abs, sym, ap, ap₂, ◌∙◌, subst, arith, mul-pos, mul_assoc}
+use Rattle.std.proofs.Common.{◌≡◌, ℕ, ◌+◌, ◌-◌, ◌*◌, ◌/◌, ◌<◌, ◌≤◌, ◌⊎◌, inl, inr, Bool, true, false, ◌&&◌, nat_le, pos, ◌+ℤ◌, ◌*ℤ◌, nat_abs, sym, ap, ap₂, ◌∙◌, subst, arith, mul-pos, mul_assoc, mul-one, one-mul}
 use Rattle.std.specs.Int.{◌∣◌}
 use Rattle.std.proofs.lemmas.Int.{ints}
 use Rattle.std.proofs.lemmas.Bool.Decides.{nat_tests}
@@ -12,6 +12,7 @@ use Rattle.gq_number.proofs.Whole.{*ℤ-+ℤ}
 use Rattle.gq_field.specs.declared.fraction.Fraction.{Fraction}
 use Rattle.gq_field.specs.Fits.{sum_fits}
 use Rattle.gq_field.specs.Values.{fraction_value, signed}
+use Rattle.gq_field.proofs.Binary.{gcd_self}
 use Rattle.gq_field.proofs.Fractions.{Shows, ratio_shows, signed-times, nat_abs-signed, rest_left, rest_right, rest_pos}
 
 -- of three numbers one is the sum of the others
@@ -158,3 +159,16 @@ sum_of_fractions limit x y common first second r top shared low c p q e h l =
     let in_second : second ≡ y.magnitude * (x.denominator / gcd x.denominator y.denominator) = q ∙ ap (λ k. y.magnitude * (x.denominator / k)) c in
     let total = e ∙ ap₂ (λ a b. signed x.negative a +ℤ signed y.negative b) in_first in_second in
     rw (in_first, in_second, l, h, c) (sum_is limit x y r top total)
+
+-- the same, by the rests that it computes on the way
+pub sum_by_parts : (limit : ℕ) (x y : Fraction) (common left right first second : ℕ) (r : Bool) (top shared rest high low : ℕ) → common ≡ gcd x.denominator y.denominator → left ≡ x.denominator / common → right ≡ y.denominator / common → first ≡ x.magnitude * right → second ≡ y.magnitude * left → signed r top ≡ signed x.negative first +ℤ signed y.negative second → shared ≡ gcd top common → rest ≡ y.denominator / shared → high ≡ top / shared → low ≡ left * rest → IsSum limit x y r first second top high low
+sum_by_parts limit x y common left right first second r top shared rest high low is_common is_left is_right is_first is_second total is_shared is_rest is_high is_low =
+    rw is_high (sum_of_fractions limit x y common first second r top shared low is_common (is_first ∙ ap (λ k. x.magnitude * k) is_right) (is_second ∙ ap (λ k. y.magnitude * k) is_left) total is_shared (is_low ∙ ap₂ (λ i j. i * j) is_left is_rest))
+
+-- the sum over one denominator
+pub sum_of_same : (limit : ℕ) (x y : Fraction) (r : Bool) (top shared high low : ℕ) → x.denominator ≡ y.denominator → signed r top ≡ signed x.negative x.magnitude +ℤ signed y.negative y.magnitude → shared ≡ gcd top x.denominator → high ≡ top / shared → low ≡ x.denominator / shared → IsSum limit x y r x.magnitude y.magnitude top high low
+sum_of_same limit x y r top shared high low same total is_shared is_high is_low =
+    let common : x.denominator ≡ gcd x.denominator y.denominator = sym (gcd_self x.denominator) ∙ ap (gcd x.denominator) same in
+    let left : 1 ≡ x.denominator / x.denominator = sym (ap (λ k. k / x.denominator) (sym (one-mul x.denominator)) ∙ mul-div_cancel 1 x.reduced.positive) in
+    let right : 1 ≡ y.denominator / x.denominator = left ∙ ap (λ k. k / x.denominator) same in
+    sum_by_parts limit x y x.denominator 1 1 x.magnitude y.magnitude r top shared low high low common left right (sym (mul-one x.magnitude)) (sym (mul-one y.magnitude)) total is_shared (is_low ∙ ap (λ k. k / shared) same) is_high (sym (one-mul low))

@@ -1,3 +1,4 @@
 pub mod FieldLaws
 pub mod Fits
+pub mod Parts
 pub mod Values

@@ -4,12 +4,14 @@ ghost use Rattle.std.specs.Ordering.{nat_cmp};
 ghost use Rattle.gq_number.specs.Order.{number_cmp};
 ghost use Rattle.gq_field.specs.Values.{fraction_value};
 
+use crate::divisor::WORD;
 use crate::fraction::Fraction;
 use std::cmp::Ordering;
 
-/// How a/b and c/d compare. Where their whole parts are the same, the rests decide, and two rests compare as they do
+/// How a/b and c/d compare, of any size. Where their whole parts are the same, the rests decide, and two rests compare as they do
 /// turned over, the other way round.
-pub fn compare_magnitudes(a: u128, b: u128, c: u128, d: u128) -> Ordering
+#[inline(never)]
+fn compare_by_turns(a: u128, b: u128, c: u128, d: u128) -> Ordering
     requires first { 0 < b }
     requires second { 0 < d }
     ensures { result ≡ nat_cmp (a * d) (c * b) }
@@ -33,7 +35,26 @@ pub fn compare_magnitudes(a: u128, b: u128, c: u128, d: u128) -> Ordering
     }
 }
 
+/// How a/b and c/d compare. Words are multiplied crosswise.
+#[inline(always)]
+pub fn compare_magnitudes(a: u128, b: u128, c: u128, d: u128) -> Ordering
+    requires first { 0 < b }
+    requires second { 0 < d }
+    ensures { result ≡ nat_cmp (a * d) (c * b) }
+{
+    if b == d {
+        a.cmp(&c)
+    } else if a <= WORD && b <= WORD && c <= WORD && d <= WORD {
+        let left = a as u64 as u128 * d as u64 as u128;
+        let right = c as u64 as u128 * b as u64 as u128;
+        left.cmp(&right)
+    } else {
+        compare_by_turns(a, b, c, d)
+    }
+}
+
 /// How two fractions compare as numbers.
+#[inline(always)]
 pub fn compare(x: Fraction, y: Fraction) -> Ordering
     ensures { result ≡ number_cmp (fraction_value x) (fraction_value y) }
 {

@@ -42,21 +42,21 @@ pub trait ExactField: Copy {
         ensures { value result ≡ fraction_value fraction };
 
     /// 0.
-    fn zero() -> Self
+    final fn zero() -> Self
         ensures { value result ≡ whole (pos 0) }
     {
         Self::from_int(0)
     }
 
     /// 1.
-    fn one() -> Self
+    final fn one() -> Self
         ensures { value result ≡ whole (pos 1) }
     {
         Self::from_int(1)
     }
 
     /// The whole number `n`, which has to fit.
-    fn from_int(n: i64) -> Self
+    final fn from_int(n: i64) -> Self
         requires { nat_abs n ≤ limit }
         ensures { value result ≡ whole n }
     {
@@ -64,7 +64,7 @@ pub trait ExactField: Copy {
     }
 
     /// The fraction of `num` over `den`, reduced. `Limit` exactly where a part of the reduced fraction does not fit.
-    fn from_parts(num: i128, den: u128) -> Result<Self, Limit>
+    final fn from_parts(num: i128, den: u128) -> Result<Self, Limit>
         requires { 0 < den }
         ensures { Answers value result (fits limit (ratio num den)) (ratio num den) }
     {
@@ -73,7 +73,7 @@ pub trait ExactField: Copy {
     }
 
     /// The numerator and the denominator of the reduced fraction.
-    fn parts(self) -> (i128, u128)
+    final fn parts(self) -> (i128, u128)
         ensures numerator { result.0 ≡ (value self).numerator }
         ensures denominator { result.1 ≡ (value self).denominator }
     {
@@ -82,14 +82,14 @@ pub trait ExactField: Copy {
     }
 
     /// Whether the value is 0.
-    fn is_zero(self) -> bool
+    final fn is_zero(self) -> bool
         ensures { IsTrue result ↔ (value self ≡ whole (pos 0)) }
     {
         self.widened().magnitude == 0
     }
 
     /// -1, 0 or 1, as the value is below, at or above 0.
-    fn sign(self) -> i8
+    final fn sign(self) -> i8
         ensures { result ≡ sign_of (value self) }
     {
         let fraction = self.widened();
@@ -103,42 +103,42 @@ pub trait ExactField: Copy {
     }
 
     /// The value of the other sign.
-    fn neg(self) -> Self
+    final fn neg(self) -> Self
         ensures { value result ≡ neg_ℚ (value self) }
     {
         Self::narrowed(self.widened().negated())
     }
 
     /// How the two values compare as numbers.
-    fn cmp_value(self, other: Self) -> Ordering
+    final fn cmp_value(self, other: Self) -> Ordering
         ensures { result ≡ number_cmp (value self) (value other) }
     {
         compare(self.widened(), other.widened())
     }
 
     /// The whole number towards 0.
-    fn trunc(self) -> Self
+    final fn trunc(self) -> Self
         ensures { value result ≡ whole (truncated (value self)) }
     {
         Self::narrowed(towards_zero(self.widened()))
     }
 
     /// The greatest whole number that is at most the value.
-    fn floor(self) -> Self
+    final fn floor(self) -> Self
         ensures { value result ≡ whole (floor_of (value self)) }
     {
         Self::narrowed(down(self.widened()))
     }
 
     /// The least whole number that is at least the value.
-    fn ceil(self) -> Self
+    final fn ceil(self) -> Self
         ensures { value result ≡ whole (ceiling_of (value self)) }
     {
         Self::narrowed(up(self.widened()))
     }
 
     /// The nearest whole number, and from the middle of two the one further from 0.
-    fn round_whole(self) -> Self
+    final fn round_whole(self) -> Self
         ensures { value result ≡ whole (rounded (value self)) }
     {
         Self::narrowed(to_nearest(self.widened()))
@@ -146,7 +146,7 @@ pub trait ExactField: Copy {
 
     /// The sum. `Limit` exactly where a number on the way does not fit: the numerators over the common denominator,
     /// their sum, or the denominator of the result.
-    fn add(self, other: Self) -> Result<Self, Limit>
+    final fn add(self, other: Self) -> Result<Self, Limit>
         ensures { Answers value result (sum_fits limit (value self) (value other))
             (value self +ℚ value other) }
     {
@@ -155,7 +155,7 @@ pub trait ExactField: Copy {
     }
 
     /// The difference, which is the sum with the negated `other`, with its `Limit`.
-    fn sub(self, other: Self) -> Result<Self, Limit>
+    final fn sub(self, other: Self) -> Result<Self, Limit>
         ensures { Answers value result (sum_fits limit (value self) (neg_ℚ (value other)))
             (value self -ℚ value other) }
     {
@@ -164,7 +164,7 @@ pub trait ExactField: Copy {
     }
 
     /// The product. `Limit` exactly where a part of the reduced product does not fit.
-    fn mul(self, other: Self) -> Result<Self, Limit>
+    final fn mul(self, other: Self) -> Result<Self, Limit>
         ensures { Answers value result (fits limit (value self *ℚ value other))
             (value self *ℚ value other) }
     {
@@ -173,7 +173,7 @@ pub trait ExactField: Copy {
     }
 
     /// The quotient by `d`, which is not 0. `Limit` exactly where a part of the reduced quotient does not fit.
-    fn div(self, d: Self) -> Result<Self, Limit>
+    final fn div(self, d: Self) -> Result<Self, Limit>
         requires { value d ≢ whole (pos 0) }
         ensures { Answers value result (fits limit (value self /ℚ value d))
             (value self /ℚ value d) }

@@ -18,6 +18,7 @@ impl Fraction {
     ghost use Rattle.gq_field.specs.Values.{fraction_value, signed};
 
     /// The fraction with these parts, which are reduced.
+    #[inline(always)]
     pub fn new(numerator: i128, denominator: u128) -> Fraction
         requires reduced { IsReduced numerator denominator }
         requires numerator_small { nat_abs numerator < 2 ^ 127 }
@@ -33,6 +34,7 @@ impl Fraction {
     }
 
     /// The whole number of this magnitude, negated or not.
+    #[inline(always)]
     pub fn whole(negative: bool, magnitude: u128) -> Fraction
         requires { magnitude < 2 ^ 127 }
         ensures { fraction_value result ≡ whole (signed negative magnitude) }
@@ -45,6 +47,7 @@ impl Fraction {
     }
 
     /// The numerator with its sign.
+    #[inline(always)]
     pub fn numerator(self) -> i128
         ensures { result ≡ (fraction_value self).numerator }
     {
@@ -53,6 +56,7 @@ impl Fraction {
     }
 
     /// Whether the fraction is below 0.
+    #[inline(always)]
     pub fn is_negative(self) -> bool
         ensures { result ≡ (self.negative && nat_lt 0 self.magnitude) }
     {
@@ -60,6 +64,7 @@ impl Fraction {
     }
 
     /// The fraction of the other sign.
+    #[inline(always)]
     pub fn negated(self) -> Fraction
         ensures { fraction_value result ≡ neg_ℚ (fraction_value self) }
     {

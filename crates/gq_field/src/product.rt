@@ -4,15 +4,21 @@ ghost use Rattle.gq_number.specs.Number.{ratio, ◌*ℚ◌, ◌/ℚ◌, inv_ℚ}
 ghost use Rattle.gq_field.specs.Fits.{fits, Answers};
 ghost use Rattle.gq_field.specs.Values.{fraction_value, signed};
 
-use crate::divisor::gcd;
+use crate::divisor::{WORD, gcd, over};
 use crate::field::Limit;
 use crate::fraction::Fraction;
 
 /// The product of two magnitudes where it is at most the limit.
+#[inline(always)]
 pub fn product_within(limit: u128, a: u128, b: u128) -> Result<u128, Limit>
     ensures { OkIff result (a * b ≤ limit) (a * b) }
 {
-    match a.checked_mul(b) {
+    let product = if a <= WORD && b <= WORD {
+        Some(a as u64 as u128 * b as u64 as u128)
+    } else {
+        a.checked_mul(b)
+    };
+    match product {
         Some(product) if product <= limit => Ok(product),
         _ => Err(Limit),
     }
@@ -31,8 +37,8 @@ pub fn reduced(
         (ratio (signed negative magnitude) denominator) }
 {
     let common = gcd(magnitude, denominator);
-    let magnitude = magnitude / common;
-    let denominator = denominator / common;
+    let magnitude = over(magnitude, common);
+    let denominator = over(denominator, common);
     if magnitude <= limit && denominator <= limit {
         Ok(Fraction {
             negative,
@@ -44,16 +50,54 @@ pub fn reduced(
     }
 }
 
+/// The product of two whole numbers.
+#[inline(always)]
+fn whole_product(limit: u128, x: Fraction, y: Fraction) -> Result<Fraction, Limit>
+    requires limit { limit < 2 ^ 127 }
+    requires least { 0 < limit }
+    requires first { x.denominator ≡ 1 }
+    requires second { y.denominator ≡ 1 }
+    ensures { Answers fraction_value result (fits limit (fraction_value x *ℚ fraction_value y))
+        (fraction_value x *ℚ fraction_value y) }
+{
+    let magnitude = product_within(limit, x.magnitude, y.magnitude)?;
+    Ok(Fraction {
+        negative: x.negative != y.negative,
+        magnitude,
+        denominator: 1,
+    })
+}
+
+/// The product with 1 or -1.
+#[inline(always)]
+fn unit_product(limit: u128, unit: Fraction, y: Fraction) -> Result<Fraction, Limit>
+    requires limit { limit < 2 ^ 127 }
+    requires magnitude { unit.magnitude ≡ 1 }
+    requires denominator { unit.denominator ≡ 1 }
+    ensures { Answers fraction_value result (fits limit (fraction_value unit *ℚ fraction_value y))
+        (fraction_value unit *ℚ fraction_value y) }
+{
+    if y.magnitude > limit || y.denominator > limit {
+        return Err(Limit);
+    }
+    Ok(Fraction {
+        negative: unit.negative != y.negative,
+        magnitude: y.magnitude,
+        denominator: y.denominator,
+    })
+}
+
 /// The product, each numerator divided first by what it has in common with the other denominator.
-pub fn product(limit: u128, x: Fraction, y: Fraction) -> Result<Fraction, Limit>
+#[inline(never)]
+fn reduced_product(limit: u128, x: Fraction, y: Fraction) -> Result<Fraction, Limit>
     requires { limit < 2 ^ 127 }
     ensures { Answers fraction_value result (fits limit (fraction_value x *ℚ fraction_value y))
         (fraction_value x *ℚ fraction_value y) }
 {
     let left = gcd(x.magnitude, y.denominator);
     let right = gcd(y.magnitude, x.denominator);
-    let magnitude = product_within(limit, x.magnitude / left, y.magnitude / right)?;
-    let denominator = product_within(limit, x.denominator / right, y.denominator / left)?;
+    let magnitude = product_within(limit, over(x.magnitude, left), over(y.magnitude, right))?;
+    let denominator = product_within(limit, over(x.denominator, right), over(y.denominator, left))?;
     Ok(Fraction {
         negative: x.negative != y.negative,
         magnitude,
@@ -61,7 +105,29 @@ pub fn product(limit: u128, x: Fraction, y: Fraction) -> Result<Fraction, Limit>
     })
 }
 
+/// The product.
+#[inline(always)]
+pub fn product(limit: u128, x: Fraction, y: Fraction) -> Result<Fraction, Limit>
+    requires limit { limit < 2 ^ 127 }
+    requires least { 0 < limit }
+    ensures { Answers fraction_value result (fits limit (fraction_value x *ℚ fraction_value y))
+        (fraction_value x *ℚ fraction_value y) }
+{
+    if x.denominator == 1 && y.denominator == 1 {
+        whole_product(limit, x, y)
+    } else if x.denominator == 1 && x.magnitude == 1 {
+        unit_product(limit, x, y)
+    } else if y.denominator == 1 && y.magnitude == 1 {
+        unit_product(limit, y, x)
+    } else if x.magnitude == 0 || y.magnitude == 0 {
+        Ok(Fraction::whole(false, 0))
+    } else {
+        reduced_product(limit, x, y)
+    }
+}
+
 /// The fraction turned over.
+#[inline(always)]
 pub fn reciprocal(x: Fraction) -> Fraction
     requires { x.magnitude ≢ 0 }
     ensures { fraction_value result ≡ inv_ℚ (fraction_value x) }
@@ -74,8 +140,10 @@ pub fn reciprocal(x: Fraction) -> Fraction
 }
 
 /// The quotient, which is the product with the divisor turned over.
+#[inline(always)]
 pub fn quotient(limit: u128, x: Fraction, y: Fraction) -> Result<Fraction, Limit>
     requires limit { limit < 2 ^ 127 }
+    requires least { 0 < limit }
     requires divisor { y.magnitude ≢ 0 }
     ensures { Answers fraction_value result (fits limit (fraction_value x /ℚ fraction_value y))
         (fraction_value x /ℚ fraction_value y) }

@@ -4,12 +4,13 @@ ghost use Rattle.gq_number.specs.Number.{◌+ℚ◌, ◌-ℚ◌, neg_ℚ};
 ghost use Rattle.gq_field.specs.Fits.{fits, sum_fits, Answers};
 ghost use Rattle.gq_field.specs.Values.{fraction_value, signed};
 
-use crate::divisor::gcd;
+use crate::divisor::{gcd, over};
 use crate::field::Limit;
 use crate::fraction::Fraction;
 use crate::product::product_within;
 
 /// The sum of two whole numbers, by sign and magnitude.
+#[inline(always)]
 pub fn signed_sum(
     negative: bool,
     magnitude: u128,
@@ -28,31 +29,74 @@ pub fn signed_sum(
     }
 }
 
+/// The sum of two fractions with the same denominator, as whole numbers are.
+#[inline(always)]
+fn sum_over_same(limit: u128, x: Fraction, y: Fraction) -> Result<Fraction, Limit>
+    requires limit { limit < 2 ^ 127 }
+    requires same { x.denominator ≡ y.denominator }
+    ensures value { Answers fraction_value result (sum_fits limit (fraction_value x) (fraction_value y))
+        (fraction_value x +ℚ fraction_value y) }
+    ensures within { IfOk result (λ f. fits limit (fraction_value f) ≡ true) }
+{
+    if x.magnitude > limit || y.magnitude > limit {
+        return Err(Limit);
+    }
+    let (negative, top) = signed_sum(x.negative, x.magnitude, y.negative, y.magnitude);
+    let shared = gcd(top, x.denominator);
+    let denominator = over(x.denominator, shared);
+    if top > limit || denominator > limit {
+        return Err(Limit);
+    }
+    Ok(Fraction {
+        negative,
+        magnitude: over(top, shared),
+        denominator,
+    })
+}
+
 /// The sum over the common denominator, then divided by what its numerator has in common with the greatest common
 /// divisor of the denominators.
-pub fn sum(limit: u128, x: Fraction, y: Fraction) -> Result<Fraction, Limit>
+#[inline(never)]
+fn sum_over_common(limit: u128, x: Fraction, y: Fraction) -> Result<Fraction, Limit>
     requires { limit < 2 ^ 127 }
     ensures value { Answers fraction_value result (sum_fits limit (fraction_value x) (fraction_value y))
         (fraction_value x +ℚ fraction_value y) }
     ensures within { IfOk result (λ f. fits limit (fraction_value f) ≡ true) }
 {
     let common = gcd(x.denominator, y.denominator);
-    let first = product_within(limit, x.magnitude, y.denominator / common)?;
-    let second = product_within(limit, y.magnitude, x.denominator / common)?;
+    let left = over(x.denominator, common);
+    let first = product_within(limit, x.magnitude, over(y.denominator, common))?;
+    let second = product_within(limit, y.magnitude, left)?;
     let (negative, top) = signed_sum(x.negative, first, y.negative, second);
     if top > limit {
         return Err(Limit);
     }
     let shared = gcd(top, common);
-    let denominator = product_within(limit, x.denominator / common, y.denominator / shared)?;
+    let denominator = product_within(limit, left, over(y.denominator, shared))?;
     Ok(Fraction {
         negative,
-        magnitude: top / shared,
+        magnitude: over(top, shared),
         denominator,
     })
 }
 
+/// The sum.
+#[inline(always)]
+pub fn sum(limit: u128, x: Fraction, y: Fraction) -> Result<Fraction, Limit>
+    requires { limit < 2 ^ 127 }
+    ensures value { Answers fraction_value result (sum_fits limit (fraction_value x) (fraction_value y))
+        (fraction_value x +ℚ fraction_value y) }
+    ensures within { IfOk result (λ f. fits limit (fraction_value f) ≡ true) }
+{
+    if x.denominator == y.denominator {
+        sum_over_same(limit, x, y)
+    } else {
+        sum_over_common(limit, x, y)
+    }
+}
+
 /// The difference, which is the sum with the negated.
+#[inline(always)]
 pub fn difference(limit: u128, x: Fraction, y: Fraction) -> Result<Fraction, Limit>
     requires { limit < 2 ^ 127 }
     ensures value { Answers fraction_value result (sum_fits limit (fraction_value x) (neg_ℚ (fraction_value y)))

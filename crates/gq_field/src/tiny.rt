@@ -1,6 +1,5 @@
 //! The field whose parts are at most 127, the smallest that there is: for tests at its edges.
-ghost use Rattle.std.specs.Prelude.{◌<◌, ◌^◌, nat_abs};
-ghost use Rattle.gq_number.specs.Reduced.{IsReduced};
+ghost use Rattle.gq_field.specs.Parts.{IsFraction};
 
 use crate::field::ExactField;
 use crate::fraction::Fraction;
@@ -10,9 +9,7 @@ use crate::fraction::Fraction;
 pub struct Tiny {
     numerator: i8,
     denominator: u8,
-    ghost reduced: { IsReduced numerator denominator },
-    ghost numerator_small: { nat_abs numerator < 2 ^ 7 },
-    ghost denominator_small: { denominator < 2 ^ 7 },
+    ghost parts: { IsFraction 7 numerator denominator },
 }
 
 impl ExactField for Tiny {

@@ -1,9 +1,15 @@
 -- The laws of the greatest common divisor.
-use Rattle.std.proofs.Common.{◌≡◌, ℕ, zero, suc, ◌*◌, ◌∙◌, subst, arith}
+use Rattle.std.proofs.Common.{◌≡◌, ℕ, zero, suc, ◌+◌, ◌*◌, ◌<◌, ◌≤◌, ◌∙◌, sym, subst, arith}
+use Rattle.std.proofs.lemmas.Nat.Gcd.{le_of_dvd}
 use Rattle.std.specs.Int.{◌∣◌}
 use Rattle.std.proofs.Math.Nat.{dvd_trans, dvd-mul_right, dvd-zero, one-mul}
 use Rattle.gq_number.specs.Gcd.{gcd}
 pub use Rattle.gq_number.specs.GcdLaws.{gcd-scaled, gcd_is, gcd-dvd_left, gcd-dvd_right, dvd-gcd, gcd_comm, gcd-mod, gcd-zero, gcd_pos, gcd-times_left, gcd-times_right, coprime_from, coprime_only, coprime-rest}
+
+-- no common divisor is greater, unless both numbers are 0
+pub gcd_greatest : (d a b : ℕ) → 0 < a + b → d ∣ a → d ∣ b → d ≤ gcd a b
+gcd_greatest d a zero some left right = subst (λ n. d ≤ n) (sym (gcd-zero a)) (le_of_dvd (omega arith) left)
+gcd_greatest d a (suc b) some left right = le_of_dvd (gcd_pos a (suc b) (omega arith)) (dvd-gcd d a (suc b) left right)
 
 -- Gauss's lemma
 pub dvd_of_coprime : (a b c : ℕ) → gcd a b ≡ 1 → a ∣ b * c → a ∣ c

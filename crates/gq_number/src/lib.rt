@@ -1,12 +1,14 @@
 //! What exact numbers are, and their laws.
 #![tactic(auto)]
 
+mod divisors;
 mod fields;
 mod names;
 mod orders;
 mod roundings;
 mod totals;
 
+pub use divisors::divisor_laws;
 pub use fields::{cancellation_laws, field_laws, quotient_laws};
 pub use names::name_laws;
 pub use orders::{extreme_laws, monotone_laws, order_laws, sign_laws};

@@ -1,25 +1,18 @@
--- The product is what its parts show.
-use Rattle.std.proofs.Common.{arith, refl}
-use Rattle.gq_field.proofs.Fractions.{fits_yes, too_high, too_low, shown_reduced, value_from_shows, answers_err}
-use Rattle.gq_field.proofs.Products.{product_of_fractions}
+-- The factors change places, and with 0 there is nothing to divide.
+use Rattle.std.proofs.Common.{◌∙◌, inl, inr}
+use Rattle.gq_number.proofs.Field.{*ℚ_comm}
+use Rattle.gq_field.specs.Values.{fraction_value}
+use Rattle.gq_field.proofs.Products.{product_with_zero, zero_answers}
 use Rattle.gq_field.proofs.product.product.Goals as goal
 
-pub returns-in_err-magnitude : goal.returns-in_err-magnitude
-returns-in_err-magnitude c =
-    let shown = product_of_fractions c.args.x c.args.y _ _ _ _ c.gcd-left.ensures.value c.gcd-right.ensures.value refl refl in
-    answers_err _ _ _ c.from_residual.result c.from_residual.ensures.0 (too_high c.args.limit shown c.in_err-magnitude.ensures)
+pub returns-then-y-eq1-3 : goal.returns-then-y-eq1-3
+returns-then-y-eq1-3 c = rw (*ℚ_comm (fraction_value c.args.x) (fraction_value c.args.y)) c.unit_product-then-y-eq1-3.ensures
 
-pub returns-in_err-denominator : goal.returns-in_err-denominator
-returns-in_err-denominator c =
-    let shown = product_of_fractions c.args.x c.args.y _ _ _ _ c.gcd-left.ensures.value c.gcd-right.ensures.value refl refl in
-    answers_err _ _ _ c.from_residual-in_err-denominator.result c.from_residual-in_err-denominator.ensures.0 (too_low c.args.limit shown c.in_err-denominator.ensures)
-
-pub invariant_of-result : goal.invariant_of-result
-invariant_of-result c =
-    let shown = product_of_fractions c.args.x c.args.y _ _ _ _ c.gcd-left.ensures.value c.gcd-right.ensures.value c.in_ok-magnitude.ensures.1 c.in_ok-denominator.ensures.1 in
-    record { reduced = shown_reduced shown; magnitude_small = omega arith; denominator_small = omega arith }
-
-pub returns : goal.returns
-returns c =
-    let shown = product_of_fractions c.args.x c.args.y _ _ _ _ c.gcd-left.ensures.value c.gcd-right.ensures.value c.in_ok-magnitude.ensures.1 c.in_ok-denominator.ensures.1 in
-    (fits_yes c.args.limit shown (omega arith) (omega arith), value_from_shows _ _ shown)
+pub returns-then-y-eq0 : goal.returns-then-y-eq0
+returns-then-y-eq0 c =
+    let x = c.args.x in
+    let y = c.args.y in
+    elim c.if-y-eq0.either [
+      | inl none ↦ zero_answers c.args.limit c.whole.result _ c.requires.least (product_with_zero x y none) c.whole.ensures
+      | inr none ↦ zero_answers c.args.limit c.whole.result _ c.requires.least (*ℚ_comm (fraction_value x) (fraction_value y) ∙ product_with_zero y x none.1) c.whole.ensures
+    ]

@@ -1,7 +1,7 @@
 -- Turned over and exchanged, the two fractions compare as before, and their denominators fall.
 use Rattle.std.proofs.Common.{◌≡◌, ◌<◌, ◌+◌, ◌*◌}
 use Rattle.std.specs.Ordering.{nat_cmp}
-use Rattle.gq_field.proofs.compare.compare_magnitudes.Given as goal
+use Rattle.gq_field.proofs.compare.compare_by_turns.Given as goal
 
 abbrev pub invariant-turns : goal.invariant-turns
 invariant-turns l =
