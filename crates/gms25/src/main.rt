@@ -4,17 +4,24 @@
 use gms_host::RealHost;
 use gms_run::run;
 use std::alloc::{AllocError, Global};
+use std::env;
+use std::io::{self, ErrorKind};
 use std::process::ExitCode;
 use std::rt::Env;
-use std::{env, io};
 
 /// The exit status where memory was wanting.
 const OUT_OF_MEMORY: u8 = 6;
 
 /// The command's words, without the program's name.
+///
+/// Where one of them is not UTF-8 there are none, which a run refuses as it refuses that word.
 fn words(rt: &(impl Env + AllocGlobal), alloc: Global) -> io::Result<Vec<String>> {
     let mut words = Vec::new(alloc);
-    for word in env::args(rt)?.skip(1) {
+    let args = match env::args(rt) {
+        Err(error) if error.kind() == ErrorKind::InvalidData => return Ok(words),
+        args => args?,
+    };
+    for word in args.skip(1) {
         words.push(word)?;
     }
     Ok(words)

@@ -12,6 +12,14 @@ pub record CountsStay (old new : Meaning) : Type 0 where
   pub reliable : new.reliable ≡ old.reliable
   pub precise : new.precise ≡ old.precise
 
+-- A call that reads counts no fault of writing.
+abbrev pub CountsNoWriting : Meaning → Meaning → Type 0
+CountsNoWriting old new = new.write_faults ≡ old.write_faults
+
+-- A call that writes counts no fault of reading.
+abbrev pub CountsNoReading : Meaning → Meaning → Type 0
+CountsNoReading old new = new.read_faults ≡ old.read_faults
+
 -- no fault was counted
 pub record SameCounts (old new : Meaning) : Type 0 where
   pub read_faults : new.read_faults ≡ old.read_faults
@@ -70,10 +78,10 @@ pub record OpensInput (old new : Meaning) (name : List ℕ) : Type 0 where
   pub writing : new.writing ≡ old.writing
   pub counts : CountsStay old new
 
--- No input is open.
+-- No input is open, and what the earlier one still gave stands.
 pub record FailsToOpenInput (old new : Meaning) (name : List ℕ) : Type 0 where
   pub files : new.files ≡ old.files
-  pub told : is_some new.input ≡ is_some old.input
+  pub input : new.input ≡ old.input
   pub output : new.output ≡ old.output
   pub said : new.said ≡ old.said
   pub asked : AsksOrNot old.asked new.asked name

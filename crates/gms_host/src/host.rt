@@ -2,7 +2,7 @@
 ghost use Rattle.std.specs.Prelude.{◌≡◌, ◌<◌, ◌≤◌, true, false, take, length, IsSome, IfOk, OnOk, OnErr, IsErrOf};
 ghost use Rattle.gms_host.specs.declared.host.Failed.TheVariants.{Memory};
 ghost use Rattle.gms_host.specs.Meaning.{Meaning, Rose};
-ghost use Rattle.gms_host.specs.Rules.{KeepsAll, SameCounts, Steady, Precise, IsThere, AsksOrNot, names_with, OpensInput, FailsToOpenInput, Reads, OpensOutput, Writes, ClosesOutput, Says};
+ghost use Rattle.gms_host.specs.Rules.{KeepsAll, SameCounts, CountsNoWriting, CountsNoReading, Steady, Precise, IsThere, AsksOrNot, names_with, OpensInput, FailsToOpenInput, Reads, OpensOutput, Writes, ClosesOutput, Says};
 
 use std::alloc::{AllocError, AllocFailed};
 
@@ -49,6 +49,7 @@ pub trait Host {
         ensures failed { OnErr result (FailsToOpenInput (meaning self.old) (meaning self.new) name.now) }
         ensures fault { IsErrOf result Failed.Fault → Rose (meaning self.old).read_faults (meaning self.new).read_faults }
         ensures memory { IsErrOf result Failed.Memory → SameCounts (meaning self.old) (meaning self.new) }
+        ensures other_count { CountsNoWriting (meaning self.old) (meaning self.new) }
         ensures steady { IsThere (meaning self.old) name.now → Steady (meaning self.old) (meaning self.new) result }
         ensures precise { OnOk result (Precise (meaning self.old) (meaning self.new)) };
 
@@ -60,6 +61,7 @@ pub trait Host {
         ensures failed { OnErr result (KeepsAll (meaning self.old) (meaning self.new)) }
         ensures fault { IsErrOf result Failed.Fault → Rose (meaning self.old).read_faults (meaning self.new).read_faults }
         ensures memory { IsErrOf result Failed.Memory → SameCounts (meaning self.old) (meaning self.new) }
+        ensures other_count { CountsNoWriting (meaning self.old) (meaning self.new) }
         ensures steady { Steady (meaning self.old) (meaning self.new) result }
         ensures precise { OnOk result (Precise (meaning self.old) (meaning self.new)) };
 
@@ -71,6 +73,7 @@ pub trait Host {
         ensures asked_or_not { OnErr result (AsksOrNot (meaning self.old).asked (meaning self.new).asked name.now) }
         ensures fault { IsErrOf result Failed.Fault → Rose (meaning self.old).write_faults (meaning self.new).write_faults }
         ensures memory { IsErrOf result Failed.Memory → SameCounts (meaning self.old) (meaning self.new) }
+        ensures other_count { CountsNoReading (meaning self.old) (meaning self.new) }
         ensures steady { Steady (meaning self.old) (meaning self.new) result }
         ensures precise { OnOk result (Precise (meaning self.old) (meaning self.new)) };
 
@@ -84,6 +87,7 @@ pub trait Host {
         ensures failed { OnErr result (KeepsAll (meaning self.old) (meaning self.new)) }
         ensures fault { IsErrOf result Failed.Fault → Rose (meaning self.old).write_faults (meaning self.new).write_faults }
         ensures memory { IsErrOf result Failed.Memory → SameCounts (meaning self.old) (meaning self.new) }
+        ensures other_count { CountsNoReading (meaning self.old) (meaning self.new) }
         ensures steady { Steady (meaning self.old) (meaning self.new) result }
         ensures precise { OnOk result (Precise (meaning self.old) (meaning self.new)) };
 
@@ -93,6 +97,7 @@ pub trait Host {
         ensures closed { ClosesOutput (meaning self.old) (meaning self.new) }
         ensures fault { IsErrOf result Failed.Fault → Rose (meaning self.old).write_faults (meaning self.new).write_faults }
         ensures memory { IsErrOf result Failed.Memory → SameCounts (meaning self.old) (meaning self.new) }
+        ensures other_count { CountsNoReading (meaning self.old) (meaning self.new) }
         ensures steady { Steady (meaning self.old) (meaning self.new) result }
         ensures precise { OnOk result (Precise (meaning self.old) (meaning self.new)) };
 
@@ -105,6 +110,7 @@ pub trait Host {
         ensures failed { OnErr result (KeepsAll (meaning self.old) (meaning self.new)) }
         ensures fault { IsErrOf result Failed.Fault → Rose (meaning self.old).write_faults (meaning self.new).write_faults }
         ensures memory { IsErrOf result Failed.Memory → SameCounts (meaning self.old) (meaning self.new) }
+        ensures other_count { CountsNoReading (meaning self.old) (meaning self.new) }
         ensures steady { Steady (meaning self.old) (meaning self.new) result }
         ensures precise { OnOk result (Precise (meaning self.old) (meaning self.new)) };
 

@@ -75,3 +75,39 @@ fn copies_a_real_file(rt: HostRuntime) -> Result<(), Fail> {
     fs::remove_file(&rt, name)?;
     Ok(())
 }
+
+#[test]
+fn takes_names_and_bytes_of_every_small_size(rt: HostRuntime) -> Result<(), Fail> {
+    let alloc = rt.alloc();
+    let mut host = three_files(alloc, &[])?;
+    for length in 1..300usize {
+        let text = "n".repeat(alloc, length)?;
+        assert_eq!(rt; host.open_out(text.as_str()), Ok(()), "{length}");
+        assert!(rt; !text.as_bytes().is_empty());
+        assert_eq!(rt; host.write(text.as_bytes()), Ok(length), "{length}");
+        assert_eq!(rt; host.close_out(), Ok(()), "{length}");
+        assert_eq!(rt; host.say(text.as_bytes()), Ok(length), "{length}");
+        assert_eq!(rt; host.output(), text.as_bytes(), "{length}");
+        assert_eq!(rt; host.asked().len(), length, "{length}");
+    }
+    Ok(())
+}
+
+#[test]
+fn reads_files_of_every_small_size(rt: HostRuntime) -> Result<(), Fail> {
+    let alloc = rt.alloc();
+    let mut files = Vec::new(alloc);
+    for length in 0..300usize {
+        let text = "n".repeat(alloc, length)?;
+        let bytes = Vec::from_slice(alloc, text.as_bytes())?;
+        files.push((text, bytes))?;
+    }
+    let mut host = MemHost::new(alloc, files, Vec::new(alloc));
+    let mut buffer = [0u8; 512];
+    for length in 0..300usize {
+        let name = "n".repeat(alloc, length)?;
+        host.open_in(name.as_str())?;
+        assert_eq!(rt; host.read(&mut buffer), Ok(length), "{length}");
+    }
+    Ok(())
+}

@@ -68,3 +68,15 @@ fn places_go_by_line_and_then_by_column(rt: HostRuntime) {
     assert!(rt; first < second);
     assert_eq!(rt; first.line, 1);
 }
+
+#[test]
+fn labels_of_every_length(rt: HostRuntime) -> Result<(), Fail> {
+    let mut labels = Labels::new(rt.alloc());
+    for length in 0..64u32 {
+        let text = "k".repeat(rt.alloc(), length as usize)?;
+        assert!(rt; text.len() <= 63);
+        assert_eq!(rt; labels.enter(rt.alloc(), text.as_str()), Ok(length));
+        assert_eq!(rt; labels.find(text.as_str()), Some(length));
+    }
+    Ok(())
+}

@@ -5,7 +5,7 @@ use Rattle.gms_host.specs.Meaning.{Meaning, Files}
 use Rattle.gms_host.specs.Rules.{IsThere}
 use Rattle.gms_run.specs.declared.status.Status.{Status}
 use Rattle.gms_run.specs.declared.status.Status.TheVariants.{Done, Usage, Compile, Execution, ReadFault, WriteFault}
-use Rattle.gms_parse.specs.Statements.{Means}
+use Rattle.gms_scalar_parse.specs.Statements.{Means}
 use Rattle.gms_run.specs.Answers.{Answers, IsListing, IsReported, IsReadyFor, NamesProgram, MeetsNoFault, status_code}
 
 -- two values of one option are one

@@ -5,7 +5,7 @@ use Rattle.std.proofs.lemmas.List.{take_all}
 use Rattle.gms_host.specs.Meaning.{Meaning}
 use Rattle.gms_host.specs.Rules.{AsksOrNot, OpensOutput, Writes, ClosesOutput, Says, names_with, bytes_with}
 use Rattle.gms_run.specs.declared.execution.Stop.{Stop}
-use Rattle.gms_parse.specs.declared.tree.Program.{Program}
+use Rattle.gms_scalar_parse.specs.declared.tree.Program.{Program}
 use Rattle.gms_run.specs.declared.status.Status.{Status}
 use Rattle.gms_run.specs.declared.status.Status.TheVariants.{Done, Usage, Compile, Execution, ReadFault, WriteFault}
 use Rattle.gms_run.specs.Run.{run_of}
@@ -13,7 +13,7 @@ use Rattle.gms_run.specs.ListingText.{listing_of, refused_listing}
 use Rattle.gms_run.specs.CommandLine.{closing_line}
 use Rattle.gms_run.specs.Answers.{IsListing, LeavesFront, SaysBehind, ShowsRun, status_code}
 use Rattle.gms_run.specs.Outside.{LeavesReport}
-use Rattle.gms_parse.proofs.Meanings.{IsRefused-unique}
+use Rattle.gms_scalar_parse.proofs.Meanings.{IsRefused-unique}
 
 -- Two runs of a source are one.
 same_run : (s t : Status) (source a b : List ℕ) (p : ShowsRun s source a) (q : ShowsRun t source b) → (p.program ≡ q.program) × (a ≡ b)

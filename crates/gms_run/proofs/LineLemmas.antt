@@ -2,7 +2,7 @@
 use Rattle.std.proofs.Common.{◌≡◌, ℕ, suc, ◌+◌, ◌-◌, ◌<◌, ◌≤◌, ◌==◌, ◌&&◌, Bool, true, false, cond, not, if◌then◌else◌, List, [], ◌∷◌, length, take, drop, slice_index, refl, sym, ap, ◌∙◌, subst, arith}
 use Rattle.std.proofs.lemmas.List.{drop_all}
 use Rattle.std.specs.List.{position_or_len}
-use Rattle.gms_lex.specs.Tokens.{begins}
+use Rattle.gms_scalar_lex.specs.Tokens.{begins}
 use Rattle.gms_run.specs.ListingText.{onto_first_line, lines_of, without_return}
 
 -- the first line, and what stands behind it, byte by byte

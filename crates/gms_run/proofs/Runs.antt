@@ -9,11 +9,11 @@ use Rattle.gms_host.specs.Rules.{Says, names_with, bytes_with}
 use Rattle.gms_labels.specs.declared.place.Place.{Place}
 use Rattle.gms_run.specs.declared.status.Status.{Status}
 use Rattle.gms_run.specs.declared.status.Status.TheVariants.{Done, Usage, Compile, Execution, ReadFault, WriteFault}
-use Rattle.gms_lex.specs.Tokens.{most_bytes}
-use Rattle.gms_parse.specs.declared.fault.SourceError.{SourceError}
-use Rattle.gms_parse.specs.declared.fault.SourceError.TheVariants.{TooLong, NotBuilt}
-use Rattle.gms_parse.specs.Faults.{fault_at}
-use Rattle.gms_parse.specs.Places.{IsCause}
+use Rattle.gms_scalar_lex.specs.Tokens.{most_bytes}
+use Rattle.gms_scalar_parse.specs.declared.fault.SourceError.{SourceError}
+use Rattle.gms_scalar_parse.specs.declared.fault.SourceError.TheVariants.{TooLong, NotBuilt}
+use Rattle.gms_scalar_parse.specs.Faults.{fault_at}
+use Rattle.gms_scalar_parse.specs.Places.{IsCause}
 use Rattle.gms_run.specs.ListingText.{refused_listing}
 use Rattle.gms_run.specs.CommandLine.{output_name, closing_line}
 use Rattle.gms_run.specs.Answers.{IsListing, LeavesListing, LeavesNothing, HasListing, LeavesRest, ListsSource, IsReported, IsWriteFault, OfFile, ShowsRun, ShowsRefusal, status_code}

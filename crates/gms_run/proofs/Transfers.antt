@@ -7,7 +7,7 @@ use Rattle.gms_host.specs.declared.host.Failed.{Failed}
 use Rattle.gms_host.specs.Meaning.{Meaning}
 use Rattle.gms_host.specs.Rules.{Writes, Says, Reads, TakesOff, CountsStay, Steady, Precise, bytes_with}
 use Rattle.gms_run.specs.Transfers.{KeepsOutside, TakesSource}
-use Rattle.gms_lex.specs.Tokens.{most_bytes}
+use Rattle.gms_scalar_lex.specs.Tokens.{most_bytes}
 use Rattle.gms_run.proofs.Steadiness.{Calm, calm_call, calm_more, same_more}
 
 -- what stands behind a place, taken as a slice

@@ -7,11 +7,11 @@ use Rattle.gms_host.specs.Rules.{IsThere, Precise, names_with, bytes_with}
 use Rattle.gms_run.specs.declared.execution.Stop.{Stop}
 use Rattle.gms_run.specs.declared.status.Status.{Status}
 use Rattle.gms_run.specs.declared.status.Status.TheVariants.{Done, Usage, Compile, Execution, ReadFault, WriteFault}
-use Rattle.gms_parse.specs.declared.tree.Program.{Program}
-use Rattle.gms_parse.specs.Statements.{Means, MeansOnly}
-use Rattle.gms_lex.specs.Tokens.{most_bytes}
-use Rattle.gms_parse.specs.declared.fault.SourceFault.{SourceFault}
-use Rattle.gms_parse.specs.Places.{IsRefused}
+use Rattle.gms_scalar_parse.specs.declared.tree.Program.{Program}
+use Rattle.gms_scalar_parse.specs.Statements.{Means, MeansOnly}
+use Rattle.gms_scalar_lex.specs.Tokens.{most_bytes}
+use Rattle.gms_scalar_parse.specs.declared.fault.SourceFault.{SourceFault}
+use Rattle.gms_scalar_parse.specs.Places.{IsRefused}
 use Rattle.gms_run.specs.Run.{run_of}
 use Rattle.gms_run.specs.ListingText.{listing_of, refused_listing}
 use Rattle.gms_run.specs.CommandLine.{file_of, output_name, usage_line, read_fault_line, closing_line}

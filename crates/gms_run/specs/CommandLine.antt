@@ -1,7 +1,7 @@
 -- The words of the command line, the name of the output, and what is said on standard output.
 use Rattle.std.specs.Prelude.{ℕ, ◌-◌, Bool, not, ◌==◌, if◌then◌else◌, List, [], ◌∷◌, ◌++◌, length, take, drop, Option, Some, None, codes, decimal}
 use Rattle.std.specs.Str.{bytes_eq}
-use Rattle.gms_lex.specs.Tokens.{begins}
+use Rattle.gms_scalar_lex.specs.Tokens.{begins}
 use Rattle.gms_run.specs.ListingText.{line_of}
 
 -- the word names a file: it is not empty and does not begin with `-`

@@ -4,12 +4,12 @@ use Rattle.gq_number.specs.Number.{Number, quotient_to_nearest}
 use Rattle.gms_run.specs.declared.execution.Fault.{Fault}
 use Rattle.gms_run.specs.declared.execution.Fault.TheVariants.{Limit, Divide}
 use Rattle.gms_run.specs.declared.execution.Stop.{Stop}
-use Rattle.gms_parse.specs.declared.fault.SourceError.{SourceError}
-use Rattle.gms_parse.specs.declared.fault.SourceError.TheVariants.{TooLong, NotBuilt}
-use Rattle.gms_parse.specs.declared.fault.SourceFault.{SourceFault}
-use Rattle.gms_parse.specs.Faults.{error_code, error_name}
+use Rattle.gms_scalar_parse.specs.declared.fault.SourceError.{SourceError}
+use Rattle.gms_scalar_parse.specs.declared.fault.SourceError.TheVariants.{TooLong, NotBuilt}
+use Rattle.gms_scalar_parse.specs.declared.fault.SourceFault.{SourceFault}
+use Rattle.gms_scalar_parse.specs.Faults.{error_code, error_name}
 use Rattle.gms_labels.specs.declared.place.Place.{Place}
-use Rattle.gms_lex.specs.Tokens.{begins}
+use Rattle.gms_scalar_lex.specs.Tokens.{begins}
 use Rattle.gms_run.specs.Run.{Shown, Outcome}
 
 -- a line: a text and a line feed behind it

@@ -4,7 +4,7 @@ use Rattle.std.specs.FinMap as files_map
 use Rattle.gms_host.specs.Meaning.{Meaning}
 use Rattle.gms_host.specs.Rules.{CountsStay, Precise, AsksOrNot, names_with, bytes_with}
 use Rattle.gms_run.specs.declared.status.Status.{Status}
-use Rattle.gms_lex.specs.Tokens.{most_bytes}
+use Rattle.gms_scalar_lex.specs.Tokens.{most_bytes}
 use Rattle.gms_run.specs.CommandLine.{closing_line}
 use Rattle.gms_run.specs.Answers.{IsListing, LeavesListing, HasListing, LeavesRest, SaysLine, status_code}
 

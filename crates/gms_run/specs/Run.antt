@@ -4,22 +4,22 @@ use Rattle.std.specs.Prelude.{ℕ, ◌-◌, ◌^◌, Bool, ◌==◌, cond, nat_a
 use Rattle.gq_number.specs.Number.{Number, whole, ◌+ℚ◌, ◌-ℚ◌, ◌*ℚ◌, ◌/ℚ◌, neg_ℚ}
 use Rattle.gq_field.specs.Fits.{fits, sum_fits}
 use Rattle.gq_field.specs.Values.{half_value}
-use Rattle.gms_parse.specs.declared.tree.Factor.{Factor}
-use Rattle.gms_parse.specs.declared.tree.Factor.TheVariants as factor
-use Rattle.gms_parse.specs.declared.tree.Operator.{Operator}
-use Rattle.gms_parse.specs.declared.tree.Operator.TheVariants.{Times, Divide}
+use Rattle.gms_scalar_parse.specs.declared.tree.Factor.{Factor}
+use Rattle.gms_scalar_parse.specs.declared.tree.Factor.TheVariants as factor
+use Rattle.gms_scalar_parse.specs.declared.tree.Operator.{Operator}
+use Rattle.gms_scalar_parse.specs.declared.tree.Operator.TheVariants.{Times, Divide}
 use Rattle.gms_labels.specs.declared.place.Place.{Place}
-use Rattle.gms_parse.specs.declared.tree.Sign.{Sign}
-use Rattle.gms_parse.specs.declared.tree.Sign.TheVariants as sign
-use Rattle.gms_parse.specs.declared.tree.Operand.{Operand}
-use Rattle.gms_parse.specs.declared.tree.Step.{Step}
-use Rattle.gms_parse.specs.declared.tree.Term.{Term}
-use Rattle.gms_parse.specs.declared.tree.Expression.{Expression}
-use Rattle.gms_parse.specs.declared.tree.Product.{Product}
-use Rattle.gms_parse.specs.declared.tree.Statement.{Statement}
-use Rattle.gms_parse.specs.declared.tree.Statement.TheVariants.{Assign, Display}
-use Rattle.gms_parse.specs.declared.tree.Program.{Program}
-use Rattle.gms_parse.specs.Grammar.{with_sign}
+use Rattle.gms_scalar_parse.specs.declared.tree.Sign.{Sign}
+use Rattle.gms_scalar_parse.specs.declared.tree.Sign.TheVariants as sign
+use Rattle.gms_scalar_parse.specs.declared.tree.Operand.{Operand}
+use Rattle.gms_scalar_parse.specs.declared.tree.Step.{Step}
+use Rattle.gms_scalar_parse.specs.declared.tree.Term.{Term}
+use Rattle.gms_scalar_parse.specs.declared.tree.Expression.{Expression}
+use Rattle.gms_scalar_parse.specs.declared.tree.Product.{Product}
+use Rattle.gms_scalar_parse.specs.declared.tree.Statement.{Statement}
+use Rattle.gms_scalar_parse.specs.declared.tree.Statement.TheVariants.{Assign, Display}
+use Rattle.gms_scalar_parse.specs.declared.tree.Program.{Program}
+use Rattle.gms_scalar_parse.specs.Grammar.{with_sign}
 use Rattle.gms_run.specs.declared.execution.Fault.{Fault}
 use Rattle.gms_run.specs.declared.execution.Fault.TheVariants as fault
 use Rattle.gms_run.specs.declared.execution.Stop.{Stop}

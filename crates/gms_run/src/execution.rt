@@ -7,8 +7,8 @@ ghost use Rattle.gms_run.specs.ListingText.{shown_text};
 
 use crate::listing;
 use gms_labels::Place;
-use gms_lex::Name;
-use gms_parse::{Expression, Factor, Operator, Product, Program, Sign, Statement};
+use gms_scalar_lex::Name;
+use gms_scalar_parse::{Expression, Factor, Operator, Product, Program, Sign, Statement};
 use gq_field::{ExactField, Half, Limit};
 use std::alloc::{AllocError, Global};
 use thiserror::Error;

@@ -3,11 +3,11 @@ ghost use Rattle.std.specs.Prelude.{◌≡◌, ◌+◌, ◌-◌, ◌<◌, ◌≤
 ghost use Rattle.std.specs.List.{position_or_len};
 ghost use Rattle.std.specs.String.{string_bytes};
 ghost use Rattle.gq_field.specs.Values.{half_value};
-ghost use Rattle.gms_lex.specs.Tokens.{most_bytes};
+ghost use Rattle.gms_scalar_lex.specs.Tokens.{most_bytes};
 ghost use Rattle.gms_run.specs.ListingText.{line_of, lines_of, without_return, numbered_line, echo_of, thousandths, sign_text, value_text, shown_text, fault_code, fault_name, fault_text, error_text, end_text};
 
 use crate::execution::{Fault, Stop};
-use gms_parse::SourceFault;
+use gms_scalar_parse::SourceFault;
 use gq_field::{ExactField, Half};
 use std::alloc::{AllocError, Global};
 

@@ -2,13 +2,13 @@
 ghost use Rattle.std.specs.Prelude.{◌≡◌, ◌++◌, IfOk};
 ghost use Rattle.gms_run.specs.Run.{run_of};
 ghost use Rattle.gms_run.specs.ListingText.{end_text, run_text, refused_listing};
-ghost use Rattle.gms_parse.specs.Places.{IsCause};
+ghost use Rattle.gms_scalar_parse.specs.Places.{IsCause};
 ghost use Rattle.gms_run.specs.Answers.{status_code, EndsSo, IsListing};
 
 use crate::execution::execute;
 use crate::listing;
 use crate::status::Status;
-use gms_parse::{Program, SourceError, SourceFault, SourceFaultOrMemory, parse};
+use gms_scalar_parse::{Program, SourceError, SourceFault, SourceFaultOrMemory, parse};
 use std::alloc::{AllocError, Global};
 
 /// A listing with its last line.

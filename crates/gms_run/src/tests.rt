@@ -469,3 +469,34 @@ fn takes_a_source_of_the_greatest_length(rt: HostRuntime) -> Result<(), Fail> {
     check_source(&rt, alloc, (source.as_str(), 2, listing))?;
     Ok(())
 }
+
+#[test]
+fn takes_words_and_sources_of_every_small_size(rt: HostRuntime) -> Result<(), Fail> {
+    let alloc = rt.alloc();
+    for size in 1..70usize {
+        let name = "n".repeat(alloc, size)?;
+        let source = "scalar a; a = 1; display a;";
+        let mut host = host_of(alloc, &[name.as_str()], source, &[])?;
+        let words = words_of(alloc, &[name.as_str()])?;
+        assert_eq!(rt; run(alloc, words.as_slice(), &mut host)?.status, 0);
+        let many = "display a; ".repeat(alloc, size)?;
+        let source = format!(in alloc; "scalar a, {name}; {many}")?;
+        let mut host = host_of(alloc, &["a.gms"], source.as_str(), &[])?;
+        let words = words_of(alloc, &["a.gms"])?;
+        assert_eq!(rt; run(alloc, words.as_slice(), &mut host)?.status, 0);
+    }
+    Ok(())
+}
+
+#[test]
+fn refuses_any_number_of_words_but_one(rt: HostRuntime) -> Result<(), Fail> {
+    let alloc = rt.alloc();
+    let mut words = words_of(alloc, &[])?;
+    for count in 0..70usize {
+        let mut host = host_of(alloc, &["a.gms"], "", &[])?;
+        let status = run(alloc, words.as_slice(), &mut host)?.status;
+        assert_eq!(rt; status, if count == 1 { 0 } else { 1 }, "{count}");
+        words.push(String::from_str(alloc, "a.gms")?)?;
+    }
+    Ok(())
+}

@@ -5,7 +5,7 @@ ghost use Rattle.gms_host.specs.Rules.{Writes, Says, Steady, Precise};
 ghost use Rattle.gms_run.specs.Transfers.{TakesSource, KeepsOutside};
 
 use gms_host::{Failed, Host};
-use gms_lex::MOST_BYTES;
+use gms_scalar_lex::MOST_BYTES;
 use std::alloc::Global;
 
 /// How many bytes are read at a time.

@@ -163,3 +163,32 @@ fn members_go_in_and_out(rt: HostRuntime) -> Result<(), Fail> {
     assert!(rt; shows(&members, &[&[2]]));
     Ok(())
 }
+
+#[test]
+fn tuples_of_every_length(rt: HostRuntime) -> Result<(), Fail> {
+    let alloc = rt.alloc();
+    let mut made = Tuple::new(alloc);
+    for length in 0..10usize {
+        assert_eq!(rt; made.as_slice().len(), length);
+        assert!(rt; made.copy(alloc)? == made);
+        made.push(alloc, 7)?;
+    }
+    assert!(rt; made.copy(alloc)? == made);
+    Ok(())
+}
+
+#[test]
+fn sets_of_every_small_size(rt: HostRuntime) -> Result<(), Fail> {
+    let alloc = rt.alloc();
+    let mut members = TupleSet::new(alloc);
+    let none = TupleSet::new(alloc);
+    for size in 0..70u32 {
+        assert_eq!(rt; members.copy(alloc)?.len(), size as usize);
+        assert_eq!(rt; members.union(alloc, &none)?.len(), size as usize);
+        assert_eq!(rt; none.union(alloc, &members)?.len(), size as usize);
+        assert_eq!(rt; members.difference(alloc, &none)?.len(), size as usize);
+        assert_eq!(rt; members.intersection(alloc, &members)?.len(), size as usize);
+        assert!(rt; members.insert(alloc, tuple(alloc, &[size, 1])?)?);
+    }
+    Ok(())
+}

@@ -1,7 +1,7 @@
 -- The text that was made is appended.
 use Rattle.std.proofs.Common.{◌≡◌, codes}
 use Rattle.std.specs.Fmt.{decimal}
-use Rattle.gms_parse.specs.Faults.{error_code, error_name}
+use Rattle.gms_scalar_parse.specs.Faults.{error_code, error_name}
 use Rattle.gms_run.specs.ListingText.{error_text}
 use Rattle.gms_run.proofs.TextLemmas.{appended, fault_parts}
 use Rattle.gms_run.proofs.listing.error.Goals as goal
