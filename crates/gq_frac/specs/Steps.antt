@@ -1,0 +1,11 @@
+-- What the same step answers over 63 bits and over 127.
+use Rattle.std.specs.Prelude.{◌≡◌, Result, IfOk, IsOkAnd}
+use Rattle.gq_field.specs.declared.field.Limit.{Limit}
+use Rattle.gq_field.specs.declared.half.Half.{Half}
+use Rattle.gq_field.specs.Values.{half_value}
+use Rattle.gq_frac.specs.declared.frac.Frac.{Frac}
+use Rattle.gq_frac.specs.Frac.{frac_value}
+
+-- where the narrow answer is a number, the wide answer is the same number
+abbrev pub KeepsAnswer : Result Half Limit → Result Frac Limit → Type 0
+KeepsAnswer narrow wide = IfOk narrow (λ h. IsOkAnd wide (λ f. frac_value f ≡ half_value h))

@@ -1,0 +1,42 @@
+//! The field whose parts are at most 2^127 - 1, the widest that there is.
+ghost use Rattle.gq_field.specs.Parts.{IsFraction};
+
+use gq_field::{ExactField, Fraction};
+
+/// A fraction whose parts are at most 2^127 - 1 in magnitude.
+#[derive(Clone, Copy, Debug, PartialEq, Eq)]
+pub struct Frac {
+    numerator: i128,
+    denominator: u128,
+    ghost parts: { IsFraction 127 numerator denominator },
+}
+
+impl ExactField for Frac {
+    ghost use Rattle.std.specs.Prelude.{◌-◌, ◌^◌};
+    ghost use Rattle.gq_frac.specs.Frac.{frac_value, frac_range, frac_within, frac_same_value};
+
+    ghost limit = { 2 ^ 127 - 1 };
+
+    ghost value = { frac_value };
+
+    fn limit() -> u128 {
+        i128::MAX as u128
+    }
+
+    fn widened(self) -> Fraction {
+        Fraction::new(self.numerator, self.denominator)
+    }
+
+    fn narrowed(fraction: Fraction) -> Self {
+        Frac {
+            numerator: fraction.numerator(),
+            denominator: fraction.denominator,
+        }
+    }
+
+    ghost limit_range = { frac_range };
+
+    ghost within = { frac_within };
+
+    ghost same_value = { frac_same_value };
+}

@@ -1,0 +1,12 @@
+//! Exact numbers over 128 bits, and how they are those of the field with 63 bits.
+#![tactic(auto)]
+
+mod frac;
+mod laws;
+#[cfg(test)]
+mod tests;
+mod widths;
+
+pub use frac::Frac;
+pub use laws::{add_laws, div_laws, mul_laws, sub_laws};
+pub use widths::{narrow, widen};
