@@ -1,0 +1,9 @@
+mod ExponentLaws
+mod Extremes
+mod PowerParts
+mod Raised
+mod RelationLaws
+mod RemainderLaws
+mod Signs
+mod StepLaws
+mod Tables

@@ -1,0 +1,171 @@
+-- Extended numbers, and what each step on them gives: exact numbers, the two infinities and NA.
+-- The language and its extended range arithmetic: GAMS User's Guide, "Parameters". Which steps on infinities and NA are faults is this project's own rule.
+use Rattle.std.specs.Prelude.{ℕ, zero, suc, ◌%◌, Bool, true, false, ◌&&◌, ◌==◌, nat_le, if◌then◌else◌, ℤ, pos, negsuc, ◌*ℤ◌, nat_abs, Option, Some, None, Result, Ok, Err}
+use Rattle.gq_number.specs.Number.{Number, whole, ◌+ℚ◌, ◌*ℚ◌, ◌/ℚ◌, neg_ℚ, sign_of, truncated, floor_of, ceiling_of, rounded}
+use Rattle.gq_number.specs.Order.{abs_ℚ}
+use Rattle.gq_field.specs.Fits.{fits, sum_fits}
+use Rattle.gq_extended.specs.Powers.{power_ℚ}
+use Rattle.gq_extended.specs.declared.fault.ExtendedFault.{ExtendedFault}
+use Rattle.gq_extended.specs.declared.fault.ExtendedFault.TheVariants.{Limit, Divide, Undefined, Exponent}
+
+-- an extended number
+pub data Extended : Type 0 where
+  -- an exact number
+  number : Number → Extended
+  -- above every number
+  plus_infinity : Extended
+  -- below every number
+  minus_infinity : Extended
+  -- not available
+  na : Extended
+
+-- what a step gives: an extended number, or its fault
+abbrev pub Outcome : Type 0
+Outcome = Result Extended ExtendedFault
+
+infixl 10 ◌then_step◌
+-- where one step gives a value the next goes on with it; a fault stays
+abbrev pub ◌then_step◌ : Outcome → (Extended → Outcome) → Outcome
+(Ok x) then_step next = next x
+(Err fault) then_step next = Err fault
+
+-- an exact number where it fits under the limit, and Limit where it does not
+abbrev pub number_if : Bool → Number → Outcome
+number_if true x = Ok (number x)
+number_if false x = Err Limit
+
+-- whether a number is 0
+abbrev pub is_zero : Number → Bool
+is_zero x = nat_abs x.numerator == 0
+
+-- ---- signs
+
+-- the number of the other sign
+unfoldable pub negated : Extended → Extended
+negated (number x) = number (neg_ℚ x)
+negated plus_infinity = minus_infinity
+negated minus_infinity = plus_infinity
+negated na = na
+
+-- the magnitude
+unfoldable pub magnitude : Extended → Extended
+magnitude (number x) = number (abs_ℚ x)
+magnitude plus_infinity = plus_infinity
+magnitude minus_infinity = plus_infinity
+magnitude na = na
+
+-- -1, 0 or 1, as the value is below, at or above 0
+unfoldable pub sign : Extended → Extended
+sign (number x) = number (whole (sign_of x))
+sign plus_infinity = number (whole (pos 1))
+sign minus_infinity = number (whole (negsuc 0))
+sign na = na
+
+-- the sign by which a factor turns an infinity
+abbrev pub direction : Extended → ℤ
+direction (number x) = sign_of x
+direction plus_infinity = pos 1
+direction minus_infinity = negsuc 0
+direction na = pos 0
+
+-- the infinity of a sign; by 0 there is none
+abbrev pub infinity_of : ℤ → Outcome
+infinity_of (pos zero) = Err Undefined
+infinity_of (pos (suc n)) = Ok plus_infinity
+infinity_of (negsuc n) = Ok minus_infinity
+
+-- ---- sums
+
+-- the sum: an infinity takes up every number and its like, and two opposite infinities have no sum
+unfoldable pub sum : ℕ → Extended → Extended → Outcome
+sum limit (number x) (number y) = number_if (sum_fits limit x y) (x +ℚ y)
+sum limit na y = Ok na
+sum limit x na = Ok na
+sum limit plus_infinity minus_infinity = Err Undefined
+sum limit minus_infinity plus_infinity = Err Undefined
+sum limit plus_infinity y = Ok plus_infinity
+sum limit minus_infinity y = Ok minus_infinity
+sum limit (number x) infinity = Ok infinity
+
+-- the difference adds the negated number
+unfoldable pub difference : ℕ → Extended → Extended → Outcome
+difference limit x y = sum limit x (negated y)
+
+-- ---- products
+
+-- the product: an infinity goes by the two signs, and times 0 there is none
+unfoldable pub product : ℕ → Extended → Extended → Outcome
+product limit (number x) (number y) = number_if (fits limit (x *ℚ y)) (x *ℚ y)
+product limit na y = Ok na
+product limit x na = Ok na
+product limit x y = infinity_of (direction x *ℤ direction y)
+
+-- the quotient by what is not 0: over an infinity a number is 0, and an infinity over a number goes by the two signs
+abbrev pub divided : ℕ → Extended → Extended → Outcome
+divided limit (number x) (number y) = number_if (fits limit (x /ℚ y)) (x /ℚ y)
+divided limit na y = Ok na
+divided limit x na = Ok na
+divided limit (number x) infinity = Ok (number (whole (pos 0)))
+divided limit infinity (number y) = infinity_of (direction infinity *ℤ sign_of y)
+divided limit x y = Err Undefined
+
+-- the quotient: nothing is divided by 0, NA neither
+unfoldable pub quotient : ℕ → Extended → Extended → Outcome
+quotient limit x (number y) = if is_zero y then Err Divide else divided limit x (number y)
+quotient limit x y = divided limit x y
+
+-- ---- roundings
+
+-- the whole number that a rounding of numbers gives; an infinity and NA stay
+abbrev pub to_whole : (Number → ℤ) → Extended → Extended
+to_whole rounding (number x) = number (whole (rounding x))
+to_whole rounding x = x
+
+-- the nearest whole number, halves away from 0
+unfoldable pub nearest : Extended → Extended
+nearest x = to_whole rounded x
+
+-- the greatest whole number that is at most the value
+unfoldable pub floor : Extended → Extended
+floor x = to_whole floor_of x
+
+-- the least whole number that is at least the value
+unfoldable pub ceiling : Extended → Extended
+ceiling x = to_whole ceiling_of x
+
+-- the whole number towards 0
+unfoldable pub truncation : Extended → Extended
+truncation x = to_whole truncated x
+
+-- ---- remainders
+
+-- what is left of x after it is divided by y, in four steps: the quotient, without its fraction, times y, taken from x
+unfoldable pub remainder : ℕ → Extended → Extended → Outcome
+remainder limit x y =
+    quotient limit x y then_step λ q. product limit y (truncation q) then_step λ p. difference limit x p
+
+-- ---- powers
+
+-- the whole number that an exponent is, if it is one of at most 1,024 in magnitude
+abbrev pub exponent_of : Extended → Option ℤ
+exponent_of (number y) = if y.denominator == 1 && nat_le (nat_abs y.numerator) 1024 then Some y.numerator else None
+exponent_of y = None
+
+-- a power with a whole exponent: to the power 0 everything is 1, NA too; below 0 an infinity is 0 and 0 has none; above 0 an infinity goes by the sign of the product
+abbrev pub raised : ℕ → Extended → ℤ → Outcome
+raised limit x (pos zero) = Ok (number (whole (pos 1)))
+raised limit na n = Ok na
+raised limit (number x) (pos n) = number_if (fits limit (power_ℚ x (pos n))) (power_ℚ x (pos n))
+raised limit (number x) (negsuc n) =
+    if is_zero x then Err Divide else number_if (fits limit (power_ℚ x (negsuc n))) (power_ℚ x (negsuc n))
+raised limit plus_infinity (pos n) = Ok plus_infinity
+raised limit minus_infinity (pos n) = Ok (if n % 2 == 0 then plus_infinity else minus_infinity)
+raised limit infinity (negsuc n) = Ok (number (whole (pos 0)))
+
+-- the power; an exponent that is no number, not whole or too large is a fault, whatever is raised
+unfoldable pub power : ℕ → Extended → Extended → Outcome
+power limit x y = powered limit x (exponent_of y)
+  where
+    powered : ℕ → Extended → Option ℤ → Outcome
+    powered limit x None = Err Exponent
+    powered limit x (Some n) = raised limit x n

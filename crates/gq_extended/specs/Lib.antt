@@ -1,0 +1,4 @@
+pub mod Extended
+pub mod ExtendedOrder
+pub mod Meaning
+pub mod Powers

@@ -1,0 +1,50 @@
+//! The sign turned, sums and differences.
+ghost use Rattle.std.specs.Prelude.{◌≡◌};
+ghost use Rattle.gq_extended.specs.Extended.{negated, sum, difference};
+ghost use Rattle.gq_extended.specs.Meaning.{extended, outcome};
+
+use crate::extended::Ext;
+use crate::fault::ExtendedFault;
+use gq_field::ExactField;
+
+impl<F: ExactField> Ext<F> {
+    /// The value of the other sign; NA stays.
+    #[tactic(auto, unfolding(crate::specs::Extended::negated))]
+    pub fn neg(self) -> Ext<F>
+        ensures { extended F.value result ≡ negated (extended F.value self) }
+    {
+        match self {
+            Ext::Number(x) => Ext::Number(x.neg()),
+            Ext::PlusInf => Ext::MinusInf,
+            Ext::MinusInf => Ext::PlusInf,
+            Ext::Na => Ext::Na,
+        }
+    }
+
+    /// The sum. `Limit` exactly where both are numbers and their sum in the field is `Limit`, and `Undefined` exactly
+    /// for two opposite infinities.
+    #[tactic(auto, unfolding(crate::specs::Extended::sum))]
+    pub fn add(self, other: Ext<F>) -> Result<Ext<F>, ExtendedFault>
+        ensures { outcome F.value result
+            ≡ sum F.limit (extended F.value self) (extended F.value other) }
+    {
+        match (self, other) {
+            (Ext::Na, _) | (_, Ext::Na) => Ok(Ext::Na),
+            (Ext::Number(x), Ext::Number(y)) => Ok(Ext::Number(x.add(y)?)),
+            (Ext::PlusInf, Ext::MinusInf) | (Ext::MinusInf, Ext::PlusInf) => {
+                Err(ExtendedFault::Undefined)
+            }
+            (Ext::PlusInf, _) | (_, Ext::PlusInf) => Ok(Ext::PlusInf),
+            (Ext::MinusInf, _) | (_, Ext::MinusInf) => Ok(Ext::MinusInf),
+        }
+    }
+
+    /// The difference, which is the sum with the negated `other`, with its faults.
+    #[tactic(auto, unfolding(crate::specs::Extended::difference))]
+    pub fn sub(self, other: Ext<F>) -> Result<Ext<F>, ExtendedFault>
+        ensures { outcome F.value result
+            ≡ difference F.limit (extended F.value self) (extended F.value other) }
+    {
+        self.add(other.neg())
+    }
+}
