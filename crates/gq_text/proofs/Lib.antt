@@ -1,0 +1,13 @@
+pub mod Numerals
+pub mod Pushes
+pub mod Splits
+pub mod Literals
+pub mod Zeros
+pub mod Options
+pub mod Combined
+pub mod Readings
+pub mod Divisions
+pub mod Showings
+pub mod Texts
+pub mod Slashes
+pub mod Nearness

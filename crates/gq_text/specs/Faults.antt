@@ -1,0 +1,9 @@
+-- The numbers of the faults of reading a number.
+use Rattle.std.specs.Prelude.{ℕ}
+use Rattle.gq_text.specs.declared.fault.NumberFault.{NumberFault}
+use Rattle.gq_text.specs.declared.fault.NumberFault.TheVariants.{Shape, Limit}
+
+-- the number of a fault
+abbrev pub fault_code : NumberFault → ℕ
+fault_code Shape = 1
+fault_code Limit = 2

@@ -1,0 +1,18 @@
+-- Digits without the zeros at their end.
+use Rattle.std.specs.Prelude.{◌≡◌, ℕ, Bool, true, false, ◌+◌, ◌-◌, ◌*◌, ◌^◌, ◌≤◌, List, ◌++◌, length}
+use Rattle.gq_text.specs.Numeral.{AreDigits, spelled}
+use Rattle.gq_text.specs.Literal.{HasNoZeroBehind}
+
+-- the digits around a point without zeros at the end: they spell as much but for a power of ten, and end in no 0
+pub record Shortens (before behind whole fraction : List ℕ) : Type 0 where
+  pub whole_digits : AreDigits whole
+  pub fraction_digits : AreDigits fraction
+  pub whole_shorter : length whole ≤ length before
+  pub fraction_shorter : length fraction ≤ length behind
+  pub shortest : HasNoZeroBehind (spelled (whole ++ fraction))
+  pub spells : spelled (before ++ behind) ≡ spelled (whole ++ fraction) * 10 ^ ((length before - length whole) + (length behind - length fraction))
+
+-- a number that is added or not
+abbrev pub added : Bool → ℕ → ℕ
+added true n = n
+added false n = 0

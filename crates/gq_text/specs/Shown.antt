@@ -1,0 +1,38 @@
+-- How a number is shown: rounded to so many decimals, or exactly.
+use Rattle.std.specs.Prelude.{◌≡◌, ◌≢◌, ℕ, ◌/◌, ◌%◌, ◌^◌, ◌⊎◌, List, [], ◌∷◌, ◌++◌, length, codes, ℤ, pos}
+use Rattle.gq_number.specs.Number.{Number, whole, ◌*ℚ◌, ◌/ℚ◌, rounded}
+use Rattle.gq_text.specs.Numeral.{AreDigits, spelled, IsNumeral, WithSign}
+use Rattle.gq_text.specs.Decimal.{MeansNumber, MeansSigned}
+
+-- a point and the decimals behind it, or nothing where there are none
+abbrev pub with_point : List ℕ → List ℕ
+with_point [] = []
+with_point (b ∷ bs) = codes "." ++ (b ∷ bs)
+
+-- the text of n units of the last of so many decimals: the numeral of the whole part, a point, and the decimals
+pub record IsFixed (decimals n : ℕ) (text : List ℕ) : Type 0 where
+  pub before : List ℕ
+  pub behind : List ℕ
+  pub before_is : IsNumeral (n / 10 ^ decimals) before
+  pub behind_digits : AreDigits behind
+  pub behind_places : length behind ≡ decimals
+  pub behind_spells : spelled behind ≡ n % 10 ^ decimals
+  pub text_is : text ≡ before ++ with_point behind
+
+-- the same with a sign, which stands only where n is not 0
+abbrev pub IsFixedSigned : ℕ → ℤ → List ℕ → Type 0
+IsFixedSigned decimals n text = WithSign (IsFixed decimals) n text
+
+-- the number rounded to so many decimals, half away from zero
+abbrev pub IsRoundedText : ℕ → Number → List ℕ → Type 0
+IsRoundedText decimals x text = IsFixedSigned decimals (rounded (x *ℚ whole (pos (10 ^ decimals)))) text
+
+-- the number exactly: `n`, or `n/d` where the denominator is not 1
+abbrev pub IsExactText : Number → List ℕ → Type 0
+IsExactText x text =
+    ((x.denominator ≡ 1) × WithSign IsNumeral x.numerator text) ⊎ ((x.denominator ≢ 1) × ((above below : List ℕ) × (text ≡ above ++ codes "/" ++ below) × WithSign IsNumeral x.numerator above × IsNumeral x.denominator below))
+
+-- the text read as a decimal with perhaps a sign, or as the quotient of it and another, means x
+abbrev pub MeansQuotient : List ℕ → Number → Type 0
+MeansQuotient text x =
+    MeansSigned text x ⊎ ((above below : List ℕ) × (y z : Number) × (text ≡ above ++ codes "/" ++ below) × MeansSigned above y × MeansNumber below z × (x ≡ y /ℚ z))

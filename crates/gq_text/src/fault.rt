@@ -1,0 +1,39 @@
+//! Why a text was not read as a number.
+ghost use Rattle.std.specs.Prelude.{◌≡◌};
+ghost use Rattle.gq_text.specs.Faults.{fault_code};
+
+use gq_field::Limit;
+use thiserror::Error;
+
+/// Why a text was not read as a number.
+#[derive(Clone, Copy, Debug, PartialEq, Eq, Error)]
+pub enum NumberFault {
+    /// The text is no number.
+    #[error("this is no number")]
+    Shape,
+    /// The text is a number that is not within the limit.
+    #[error("the number is out of range")]
+    Limit,
+}
+
+impl NumberFault {
+    /// The number of the fault.
+    pub fn code(self) -> u8
+        ensures { result ≡ fault_code self }
+    {
+        match self {
+            NumberFault::Shape => 1,
+            NumberFault::Limit => 2,
+        }
+    }
+}
+
+impl From<Limit> for NumberFault {
+    ghost use Rattle.gq_text.specs.declared.fault.NumberFault.TheVariants.{Limit};
+
+    ghost from_gives = { λ _ fault. fault ≡ Limit };
+
+    fn from(_limit: Limit) -> NumberFault {
+        NumberFault::Limit
+    }
+}

@@ -1,0 +1,40 @@
+//! What the texts of numbers say, as laws.
+ghost use Rattle.std.specs.Prelude.{◌≡◌, ◌≢◌, ℕ, ◌*◌, ◌%◌, ◌^◌, List, ℤ, pos};
+ghost use Rattle.gq_number.specs.Number.{Number, whole, ratio, ◌-ℚ◌};
+ghost use Rattle.gq_number.specs.Order.{◌≤ℚ◌, ◌<ℚ◌, abs_ℚ};
+ghost use Rattle.gq_text.specs.Numeral.{IsNumeral};
+ghost use Rattle.gq_text.specs.Decimal.{MeansNumber, MeansSigned, scaled};
+ghost use Rattle.gq_text.specs.Shown.{IsFixedSigned, IsRoundedText, IsExactText, MeansQuotient};
+
+/// A text means one number at most, with a sign and as a quotient too. A number other than 0 is m times ten to the power e,
+/// with an m that does not end in 0, in one way, so the literal rule looks at the number and not at its text.
+pub fn reading_laws()
+    ensures one_number { (text : List ℕ) (x y : Number) →
+        MeansNumber text x → MeansNumber text y → x ≡ y }
+    ensures one_signed { (text : List ℕ) (x y : Number) →
+        MeansSigned text x → MeansSigned text y → x ≡ y }
+    ensures one_quotient { (text : List ℕ) (x y : Number) →
+        MeansQuotient text x → MeansQuotient text y → x ≡ y }
+    ensures one_power { (m n : ℕ) (e f : ℤ) → m % 10 ≢ 0 → n % 10 ≢ 0 →
+        scaled (whole (pos m)) e ≡ scaled (whole (pos n)) f → (m ≡ n) × (e ≡ f) }
+{}
+
+/// A number has one numeral, one exact text and one text of so many decimals. What is shown exactly reads back as the
+/// number. What is shown rounded reads back as a number within half a unit of the last place, and no other text of that
+/// form does, but for the middle between two.
+pub fn showing_laws()
+    ensures one_numeral { (n : ℕ) (s t : List ℕ) → IsNumeral n s → IsNumeral n t → s ≡ t }
+    ensures one_exact { (x : Number) (s t : List ℕ) → IsExactText x s → IsExactText x t → s ≡ t }
+    ensures one_rounded { (decimals : ℕ) (x : Number) (s t : List ℕ) →
+        IsRoundedText decimals x s → IsRoundedText decimals x t → s ≡ t }
+    ensures exact_reads_back { (x : Number) (text : List ℕ) →
+        IsExactText x text → MeansQuotient text x }
+    ensures fixed_reads { (decimals : ℕ) (n : ℤ) (text : List ℕ) →
+        IsFixedSigned decimals n text → MeansSigned text (ratio n (10 ^ decimals)) }
+    ensures rounded_near { (decimals : ℕ) (x : Number) (text : List ℕ) →
+        IsRoundedText decimals x text → (y : Number) × MeansSigned text y
+        × (abs_ℚ (x -ℚ y) ≤ℚ ratio (pos 1) (2 * 10 ^ decimals)) }
+    ensures rounded_only { (decimals : ℕ) (x y : Number) (n : ℤ) (text : List ℕ) →
+        IsFixedSigned decimals n text → MeansSigned text y →
+        abs_ℚ (x -ℚ y) <ℚ ratio (pos 1) (2 * 10 ^ decimals) → IsRoundedText decimals x text }
+{}

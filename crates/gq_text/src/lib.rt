@@ -1,0 +1,19 @@
+//! The texts of exact numbers: how decimals are read, and how numbers are shown.
+#![tactic(auto)]
+
+mod digits;
+mod division;
+mod fault;
+mod laws;
+mod literal;
+mod parts;
+mod read;
+mod show;
+#[cfg(test)]
+mod tests;
+
+pub use digits::Digits;
+pub use fault::NumberFault;
+pub use laws::{reading_laws, showing_laws};
+pub use read::read_decimal;
+pub use show::{MOST_DECIMALS, put_exact, put_rounded};

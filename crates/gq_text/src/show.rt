@@ -1,0 +1,38 @@
+//! How numbers are shown: rounded to so many decimals, or exactly.
+ghost use Rattle.std.specs.Prelude.{◌≤◌};
+ghost use Rattle.gq_text.specs.Shown.{IsRoundedText, IsExactText};
+
+use crate::digits::Digits;
+use crate::division::rounded;
+use gq_field::ExactField;
+
+/// How many decimals a number is rounded to at most.
+pub const MOST_DECIMALS: u8 = 8;
+
+/// Puts the value rounded to so many decimals, half away from zero, in place of what `into` has.
+///
+/// The text is the whole part without needless zeros, a point and exactly so many decimals; with none there is no point.
+/// `-` stands before the text of a number below 0 where some digit is not 0 (GAMS User's Guide, "The Display Statement").
+pub fn put_rounded<F: ExactField>(v: F, decimals: u8, into: &mut Digits)
+    requires { decimals ≤ MOST_DECIMALS }
+    ensures { IsRoundedText decimals (F.value v) into.new }
+{
+    let (numerator, denominator) = v.parts();
+    let (whole, fraction) = rounded(numerator.unsigned_abs(), denominator, decimals);
+    into.clear();
+    into.push_sign(numerator < 0 && whole + fraction > 0);
+    into.push_numeral(whole);
+    into.push_decimals(fraction, decimals);
+}
+
+/// Puts the value exactly, in place of what `into` has: the numerator, and where the denominator is not 1 then `/` and the
+/// denominator. `-` stands before the text of a number below 0.
+pub fn put_exact<F: ExactField>(v: F, into: &mut Digits)
+    ensures { IsExactText (F.value v) into.new }
+{
+    let (numerator, denominator) = v.parts();
+    into.clear();
+    into.push_sign(numerator < 0);
+    into.push_numeral(numerator.unsigned_abs());
+    into.push_denominator(denominator);
+}
