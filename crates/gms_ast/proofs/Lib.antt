@@ -1,3 +1,2 @@
 pub mod Deepest
-mod SketchExamples
 pub mod TreeEquations

@@ -8,7 +8,7 @@ use Rattle.gms_ast.specs.declared.expression.Index.{Index}
 use Rattle.gms_ast.specs.declared.expression.Control.{Control as ControlNode}
 use Rattle.gms_ast.specs.declared.expression.Expr.TheOpen.{Expr-F, Index-F, Control-F}
 use Rattle.gms_ast.specs.declared.expression.Expr.TheFolds.{fold-Expr, fold-Index, fold-Control}
-use Rattle.gms_ast.specs.Trees.{Mark, plain, placed, signed, related, chosen, Tree, number, yes, no, reference, place_in_set, size_of_set, call, fold_over, negated, sum, product, power, relation, not_so, all_of, one_of, guarded, Parts, no_part, part, Indices, no_index, label, set, lagged, Control, over, over_where}
+use Rattle.gms_ast.specs.Trees.{Mark, plain, placed, signed, related, chosen, Tree, number, plus_infinity, not_available, yes, no, reference, place_in_set, size_of_set, call, fold_over, negated, sum, product, power, relation, not_so, all_of, one_of, guarded, Parts, no_part, part, Indices, no_index, label, set, lagged, Control, over, over_where}
 
 module _ {F : Type 0} where
   -- trees with their marks, as the parts of a node
@@ -42,6 +42,8 @@ module _ {F : Type 0} where
   -- one node, with each part already seen as its tree
   abbrev pub tree_step : Expr-F F (Tree F) (Indices F → Indices F) (Control F) → Tree F
   tree_step (Expr-F.Number n) = number n
+  tree_step Expr-F.PlusInf = plus_infinity
+  tree_step Expr-F.Na = not_available
   tree_step Expr-F.Yes = yes
   tree_step Expr-F.No = no
   tree_step (Expr-F.Ref at name suffix indices) = reference at name suffix (indices_of indices.items)

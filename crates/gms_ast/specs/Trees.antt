@@ -24,6 +24,8 @@ mutual
   -- An expression over numbers of N.
   pub data Tree (N : Type 0) : Type 0 where
     number : N → Tree N
+    plus_infinity : Tree N
+    not_available : Tree N
     yes : Tree N
     no : Tree N
     reference : Place → ℕ → Suffix → Indices N → Tree N

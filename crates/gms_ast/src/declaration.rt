@@ -2,6 +2,7 @@
 use crate::sequence::Sequence;
 use crate::word::Named;
 use gms_labels::Place;
+use gq_extended::Ext;
 
 /// What a declaration declares. Each example is the beginning of one.
 #[derive(Clone, Copy, Debug, PartialEq, Eq)]
@@ -40,7 +41,7 @@ pub struct Decl<F> {
     pub items: Sequence<Item<F>>,
 }
 
-/// One item of data: the labels of an element, and the number that it gives them.
+/// One item of data: the labels of an element, and the value that it gives them.
 ///
 /// In `/a.(b,c) 5/` it has two positions, with one label and with two, and the number 5.
 #[derive(Debug, Drop)]
@@ -49,8 +50,8 @@ pub struct Item<F> {
     pub at: Place,
     /// For each position the labels that stand there, by their numbers.
     pub parts: Sequence<Sequence<u32>>,
-    /// The number, where the item has one.
-    pub value: Option<F>,
+    /// The value, where the item has one: a number, an infinity or NA.
+    pub value: Option<Ext<F>>,
     /// Whether the item has a range that is none, as in `/a3*a1/`.
     pub bad_range: bool,
 }

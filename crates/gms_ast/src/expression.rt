@@ -105,6 +105,10 @@ pub enum RelOp {
 pub enum Expr<F> {
     /// A number, as `2.5`.
     Number(F),
+    /// `inf`
+    PlusInf,
+    /// `na`
+    Na,
     /// `yes`
     Yes,
     /// `no`

@@ -18,6 +18,8 @@ pub fn depth<F>(e: &Expr<F>) -> u32
 {
     match e {
         Expr::Number(_) => 1,
+        Expr::PlusInf => 1,
+        Expr::Na => 1,
         Expr::Yes => 1,
         Expr::No => 1,
         Expr::Ref { indices, .. } => deepest_index(indices).saturating_add(1),

@@ -136,12 +136,8 @@ pub struct Target<F> {
 /// The right side of an assignment.
 #[derive(Drop)]
 pub enum Right<F> {
-    /// An expression, as in `s = 2 * q;`.
+    /// An expression, as in `s = 2 * q;`, `x.up(i) = inf;` or `c(i) = yes;`.
     Value(Expr<F>),
-    /// No upper bound: `x.up(i) = inf;`.
-    PlusInf,
-    /// No lower bound: `x.lo(i) = -inf;`.
-    MinusInf,
 }
 
 /// How the two sides of an equation relate.

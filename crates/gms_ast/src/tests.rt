@@ -55,6 +55,8 @@ fn reference(indices: Vec<Index<Half>>) -> Tree {
 fn a_node_without_parts_has_nesting_1(rt: HostRuntime) -> Result<(), Fail> {
     let alloc = rt.alloc();
     assert_eq!(rt; depth(&leaf()), 1);
+    assert_eq!(rt; depth::<Half>(&Expr::PlusInf), 1);
+    assert_eq!(rt; depth::<Half>(&Expr::Na), 1);
     assert_eq!(rt; depth::<Half>(&Expr::Yes), 1);
     assert_eq!(rt; depth::<Half>(&Expr::No), 1);
     assert_eq!(rt; depth::<Half>(&Expr::Ord { at: AT, set: 1 }), 1);
