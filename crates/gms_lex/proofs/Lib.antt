@@ -1,0 +1,9 @@
+pub mod DepthLemmas
+pub mod PieceLemmas
+pub mod PlaceLemmas
+pub mod ReadingLemmas
+pub mod FaultLemmas
+pub mod AnswerLemmas
+pub mod LineTextLemmas
+pub mod SolidLemmas
+pub mod PlacedLemmas

@@ -1,0 +1,11 @@
+-- Each source has one meaning.
+use Rattle.gms_lex.proofs.PlaceLemmas.{places_in_order}
+use Rattle.gms_lex.proofs.AnswerLemmas.{means_one, means_only}
+use Rattle.gms_lex.proofs.laws.token_laws.Goals as goal
+
+pub returns : goal.returns
+returns c = record {
+  there_is_one = means_one;
+  only_one = means_only;
+  places_in_order = places_in_order;
+}

@@ -1,0 +1,191 @@
+-- The mode of reading: where in a statement the next token stands, as the tokens before it tell (GAMS User's Guide, "GAMS Programs",
+-- data declarations, lists and tables).
+use Rattle.std.specs.Prelude.{ℕ, ◌+◌, ◌-◌, ◌==◌, if◌then◌else◌, List, Option, Some, None}
+use Rattle.gms_tokens.specs.declared.kind.Sym.{Sym}
+use Rattle.gms_tokens.specs.declared.kind.Sym.TheVariants.{Power, DotDot, Star, Slash, LeftParen, RightParen, Comma, Semicolon, Dot}
+use Rattle.gms_tokens.specs.declared.kind.Kind.{Kind}
+use Rattle.gms_tokens.specs.declared.kind.Kind.TheVariants.{Word, Label, Number, Text, Symbol, Break, TableLine, End}
+use Rattle.gms_tokens.specs.declared.lexeme.Piece.{Piece}
+use Rattle.gms_tokens.specs.declared.lexeme.Piece.TheVariants.{Gap, LineEnd, Remark, Token}
+use Rattle.gms_lex.specs.declared.keyword.Shape.{Shape}
+use Rattle.gms_lex.specs.declared.keyword.Shape.TheVariants.{Set, Parameter, Scalar, Model}
+use Rattle.gms_lex.specs.declared.keyword.Keyword.{Keyword}
+use Rattle.gms_lex.specs.declared.keyword.Keyword.TheVariants.{Declarer, Table, Other}
+use Rattle.gms_lex.specs.declared.mode.Stage.{Stage}
+use Rattle.gms_lex.specs.declared.mode.Stage.TheVariants.{Fresh, Due, After, Spaced}
+use Rattle.gms_lex.specs.declared.mode.Mode.{Mode}
+use Rattle.gms_lex.specs.declared.mode.Mode.TheVariants.{Code, Item, Named, Domain, Bare, Rest, Element, Value, Tail, TableName, TableNamed, TableDomain, TableBare, TableTexted, TableLines}
+use Rattle.gms_lex.specs.Keywords.{keyword_of}
+
+-- where a list begins, and where it goes on behind a comma: an element is due in a list of a set or a parameter, a value in
+-- others
+abbrev pub list_start : Shape → Mode
+list_start Set = Element Set 0 Fresh
+list_start Parameter = Element Parameter 0 Fresh
+list_start Scalar = Value Scalar
+list_start Model = Value Model
+
+-- what a statement keyword begins, or the mode without one
+abbrev pub begun_by : Option Keyword → Mode → Mode
+begun_by (Some (Declarer shape)) current = Item shape
+begun_by (Some Table) current = TableName
+begun_by (Some Other) current = Code
+begun_by None current = current
+
+-- behind an element, or something in its place: outside parentheses its text or value has begun
+abbrev pub behind_element : Shape → ℕ → Mode
+behind_element shape depth = if depth == 0 then Tail shape else Element shape depth After
+
+-- behind a token that is no symbol, no line end and no keyword
+abbrev pub after_plain : Mode → Mode
+after_plain (Element shape depth Fresh) = Element shape depth After
+after_plain (Element shape depth Due) = Element shape depth After
+after_plain (Element shape depth After) = behind_element shape depth
+after_plain (Element shape depth Spaced) = behind_element shape depth
+after_plain (Value shape) = Tail shape
+after_plain TableName = Code
+after_plain TableTexted = Code
+after_plain TableLines = Code
+after_plain current = current
+
+-- behind a word: a keyword begins a statement, but not within a domain or a list
+abbrev pub after_word : Mode → List ℕ → Mode
+after_word Code word = begun_by (keyword_of word) Code
+after_word (Item shape) word = begun_by (keyword_of word) (Named shape)
+after_word (Rest shape) word = begun_by (keyword_of word) (Rest shape)
+after_word TableName word = begun_by (keyword_of word) TableNamed
+after_word TableTexted word = begun_by (keyword_of word) Code
+after_word TableLines word = begun_by (keyword_of word) Code
+after_word current word = after_plain current
+
+-- behind a symbol of an item of a declaration, outside its domain and its list
+abbrev pub after_item_symbol : Shape → Sym → Mode → Mode
+after_item_symbol shape Slash current = list_start shape
+after_item_symbol shape Comma current = Item shape
+after_item_symbol shape symbol current = current
+
+-- behind a comma of a list
+abbrev pub after_comma : Shape → ℕ → Mode
+after_comma shape depth = if depth == 0 then list_start shape else Element shape depth Due
+
+-- behind a symbol where an element is due
+abbrev pub after_due_symbol : Shape → ℕ → Sym → Mode
+after_due_symbol shape depth LeftParen = Element shape (depth + 1) Due
+after_due_symbol shape depth RightParen = Element shape (depth - 1) After
+after_due_symbol shape depth Comma = after_comma shape depth
+after_due_symbol shape depth Slash = Rest shape
+after_due_symbol shape depth symbol = Element shape depth Due
+
+-- behind a symbol that follows an element: a dot joins the next label, a star makes a range
+abbrev pub after_element_symbol : Shape → ℕ → Sym → Mode
+after_element_symbol shape depth RightParen = Element shape (depth - 1) After
+after_element_symbol shape depth Comma = after_comma shape depth
+after_element_symbol shape depth Slash = Rest shape
+after_element_symbol shape depth Dot = Element shape depth Due
+after_element_symbol shape depth DotDot = Element shape depth Due
+after_element_symbol shape depth Star = Element shape depth Due
+after_element_symbol shape depth Power = Element shape depth Due
+after_element_symbol shape depth symbol = behind_element shape depth
+
+-- behind a parenthesis that closes where a text or value has begun
+abbrev pub after_stray_paren : Shape → Mode
+after_stray_paren Set = Element Set 0 After
+after_stray_paren Parameter = Element Parameter 0 After
+after_stray_paren Scalar = Tail Scalar
+after_stray_paren Model = Tail Model
+
+-- behind a symbol where a text or value is due or has begun
+abbrev pub after_tail_symbol : Shape → Sym → Mode
+after_tail_symbol shape Slash = Rest shape
+after_tail_symbol shape Comma = list_start shape
+after_tail_symbol shape RightParen = after_stray_paren shape
+after_tail_symbol shape symbol = Tail shape
+
+-- behind a symbol of an item's name: its domain begins
+abbrev pub after_name_symbol : Shape → Sym → Mode
+after_name_symbol shape LeftParen = Domain shape
+after_name_symbol shape symbol = after_item_symbol shape symbol (Named shape)
+
+-- behind a symbol of a domain: it may end
+abbrev pub after_domain_symbol : Sym → Mode → Mode → Mode
+after_domain_symbol RightParen inside behind = behind
+after_domain_symbol symbol inside behind = inside
+
+-- behind a symbol of a table's name: its domain begins
+abbrev pub after_table_symbol : Sym → Mode
+after_table_symbol LeftParen = TableDomain
+after_table_symbol symbol = Code
+
+-- behind a symbol in a list where an element is due or stands
+abbrev pub after_list_symbol : Shape → ℕ → Stage → Sym → Mode
+after_list_symbol shape depth Fresh symbol = after_due_symbol shape depth symbol
+after_list_symbol shape depth Due symbol = after_due_symbol shape depth symbol
+after_list_symbol shape depth After symbol = after_element_symbol shape depth symbol
+after_list_symbol shape depth Spaced symbol = after_element_symbol shape depth symbol
+
+-- behind any symbol but `;`
+abbrev pub after_symbol : Mode → Sym → Mode
+after_symbol Code symbol = Code
+after_symbol (Item shape) symbol = Item shape
+after_symbol (Named shape) symbol = after_name_symbol shape symbol
+after_symbol (Domain shape) symbol = after_domain_symbol symbol (Domain shape) (Bare shape)
+after_symbol (Bare shape) symbol = after_item_symbol shape symbol (Bare shape)
+after_symbol (Rest shape) symbol = after_item_symbol shape symbol (Rest shape)
+after_symbol (Element shape depth stage) symbol = after_list_symbol shape depth stage symbol
+after_symbol (Value shape) symbol = after_tail_symbol shape symbol
+after_symbol (Tail shape) symbol = after_tail_symbol shape symbol
+after_symbol TableName symbol = Code
+after_symbol TableNamed symbol = after_table_symbol symbol
+after_symbol TableDomain symbol = after_domain_symbol symbol TableDomain TableBare
+after_symbol TableBare symbol = Code
+after_symbol TableTexted symbol = Code
+after_symbol TableLines symbol = Code
+
+-- behind a line end that is a token: the next item, or the next element of a list
+abbrev pub after_break : Mode → Mode
+after_break (Named shape) = Item shape
+after_break (Bare shape) = Item shape
+after_break (Rest shape) = Item shape
+after_break (Element shape depth stage) = list_start shape
+after_break (Tail shape) = list_start shape
+after_break current = current
+
+-- behind a token; a `;` ends every statement
+abbrev pub after_token : Mode → Kind → List ℕ → Mode
+after_token current (Symbol Semicolon) text = Code
+after_token current (Symbol symbol) text = after_symbol current symbol
+after_token current Break text = after_break current
+after_token current Word text = after_word current text
+after_token current TableLine text = current
+after_token current Label text = after_plain current
+after_token current Number text = after_plain current
+after_token current Text text = after_plain current
+after_token current End text = after_plain current
+
+-- behind blanks
+abbrev pub after_gap : Mode → Mode
+after_gap (Element shape depth After) = Element shape depth Spaced
+after_gap current = current
+
+-- behind line ends that are no token: the lines of a table begin
+abbrev pub after_line : Mode → Mode
+after_line TableNamed = TableLines
+after_line TableBare = TableLines
+after_line TableTexted = TableLines
+after_line current = current
+
+-- behind a descriptive text
+abbrev pub after_remark : Mode → Mode
+after_remark (Named shape) = Rest shape
+after_remark (Bare shape) = Rest shape
+after_remark (Element shape depth stage) = Tail shape
+after_remark TableNamed = TableTexted
+after_remark TableBare = TableTexted
+after_remark current = current
+
+-- the mode behind a piece of these bytes
+abbrev pub mode_after : Mode → Piece → List ℕ → Mode
+mode_after current Gap text = after_gap current
+mode_after current LineEnd text = after_line current
+mode_after current Remark text = after_remark current
+mode_after current (Token kind) text = after_token current kind text

@@ -1,0 +1,24 @@
+-- Places in a source: lines and columns, each counted from 1.
+use Rattle.std.specs.Prelude.{◌≡◌, ◌⊎◌, ℕ, ◌<◌, ◌+◌, ◌*◌, ◌/◌, ◌==◌, if◌then◌else◌, List, take, fold}
+use Rattle.gms_labels.specs.declared.place.Place.{Place}
+
+-- where a source begins
+abbrev pub source_start : Place
+source_start = record { line = 1; column = 1 }
+
+-- The place behind a byte. A line feed goes to the next line, and a tab to the next column that is one more than a multiple of 8.
+abbrev pub place_after : Place → ℕ → Place
+place_after at b =
+    if b == 10 then record { line = at.line + 1; column = 1 } else (if b == 9 then record { line = at.line; column = (at.column + 7) / 8 * 8 + 1 } else record { line = at.line; column = at.column + 1 })
+
+-- the place behind these bytes
+abbrev pub place_behind : Place → List ℕ → Place
+place_behind at bytes = fold place_after at bytes
+
+-- the place of a byte of a source, or of its end
+abbrev pub place_of : List ℕ → ℕ → Place
+place_of source n = place_behind source_start (take n source)
+
+-- one place comes before another: on an earlier line, or before it on the same line
+abbrev pub IsEarlier : Place → Place → Type 0
+IsEarlier p q = (p.line < q.line) ⊎ ((p.line ≡ q.line) × (p.column < q.column))

@@ -1,0 +1,36 @@
+-- The texts of tokens: where they stand in the source, and how words and labels are spelled.
+use Rattle.std.specs.Prelude.{◌≡◌, ℕ, ◌-◌, ◌≤◌, if◌then◌else◌, List, [], ◌∷◌, length, take, drop}
+use Rattle.std.specs.Str.{IsAscii}
+use Rattle.gms_tokens.specs.declared.kind.Kind.{Kind}
+use Rattle.gms_tokens.specs.declared.kind.Kind.TheVariants.{Word, Label, Number, Text, Symbol, Break, TableLine, End}
+use Rattle.gms_tokens.specs.Bytes.{is_quote}
+use Rattle.gms_tokens.specs.Shapes.{longest_label}
+use Rattle.gms_lex.specs.declared.token.Token.{Token}
+use Rattle.gms_lex.specs.Places.{place_of}
+
+-- the bytes of the source that a token takes
+abbrev pub token_text : List ℕ → Token → List ℕ
+token_text source token = take (token.end - token.start) (drop token.start source)
+
+-- a quoted token without its marks; any other as it is
+abbrev pub unquoted : List ℕ → List ℕ
+unquoted [] = []
+unquoted (b ∷ text) = if is_quote b then take (length text - 1) text else b ∷ text
+
+-- Words, labels and quoted texts are of ASCII, and words and labels have at most 63 bytes, quotation marks not counted.
+abbrev pub IsSpelled : Kind → List ℕ → Type 0
+IsSpelled Word text = IsAscii text × (length text ≤ longest_label)
+IsSpelled Label text = IsAscii text × (length (unquoted text) ≤ longest_label)
+IsSpelled Text text = IsAscii text
+IsSpelled Number text = Unit {0}
+IsSpelled (Symbol symbol) text = Unit {0}
+IsSpelled Break text = Unit {0}
+IsSpelled TableLine text = Unit {0}
+IsSpelled End text = Unit {0}
+
+-- a token takes bytes of the source, stands at the place of the first, and is spelled as its kind
+pub record IsPlaced (source : List ℕ) (token : Token) : Type 0 where
+  pub starts : token.start ≤ token.end
+  pub ends : token.end ≤ length source
+  pub at : token.at ≡ place_of source token.start
+  pub spelled : IsSpelled token.kind (token_text source token)

@@ -1,0 +1,99 @@
+-- The tokens of a source, or its first lexical fault (GAMS User's Guide, "Language Items" and "GAMS Programs").
+use Rattle.std.specs.Prelude.{◌≡◌, ◌⊎◌, ℕ, ◌+◌, ◌<◌, List, [], ◌∷◌, ◌++◌, length, take, drop, Result, Ok, Err}
+use Rattle.gms_labels.specs.declared.place.Place.{Place}
+use Rattle.gms_lines.specs.declared.fault.ByteFault.{ByteFault}
+use Rattle.gms_lines.specs.Errors.{IsBefore}
+use Rattle.gms_lines.specs.Lines.{code_text}
+use Rattle.gms_lines.specs.LineFaults.{IsLineFault}
+use Rattle.gms_tokens.specs.declared.kind.Kind.TheVariants.{End}
+use Rattle.gms_tokens.specs.declared.lexeme.Piece.{Piece}
+use Rattle.gms_tokens.specs.declared.lexeme.Piece.TheVariants as piece
+use Rattle.gms_tokens.specs.declared.lexeme.Lexeme.{Lexeme}
+use Rattle.gms_tokens.specs.declared.lexeme.Misread.{Misread}
+use Rattle.gms_lex.specs.declared.mode.Mode.{Mode}
+use Rattle.gms_lex.specs.declared.mode.Mode.TheVariants.{Code}
+use Rattle.gms_lex.specs.declared.token.Token.{Token}
+use Rattle.gms_lex.specs.declared.fault.LexFault.{LexFault}
+use Rattle.gms_lex.specs.declared.fault.LexFaultOrMemory.{LexFaultOrMemory}
+use Rattle.gms_lex.specs.declared.fault.LexFaultOrMemory.TheVariants.{Fault, Memory}
+use Rattle.gms_lex.specs.Modes.{mode_after}
+use Rattle.gms_lex.specs.Pieces.{piece_at}
+use Rattle.gms_lex.specs.Places.{place_of}
+
+-- how many bytes a source may have
+abbrev pub most_bytes : ℕ
+most_bytes = 1048576
+
+-- The text begins with these pieces, one after another, each the longest of its mode at its start; the mode is the one that the
+-- pieces before it give. Behind them, in the mode `last`, stands the rest.
+abbrev pub IsMadeOf : Mode → List ℕ → List Lexeme → Mode → List ℕ → Type 0
+IsMadeOf mode text [] last rest = (last ≡ mode) × (rest ≡ text)
+IsMadeOf mode text (p ∷ pieces) last rest =
+    (piece_at mode text ≡ Ok p) × IsMadeOf (mode_after mode p.piece (take p.length text)) (drop p.length text) pieces last rest
+
+-- how many bytes pieces take
+abbrev pub length_of : List Lexeme → ℕ
+length_of [] = 0
+length_of (p ∷ pieces) = p.length + length_of pieces
+
+-- the token that a piece is, which takes these bytes and stands at this place
+abbrev pub token_at : Place → Piece → ℕ → ℕ → List Token
+token_at at (piece.Token kind) start end = record { kind = kind; start = start; end = end; at = at } ∷ []
+token_at at piece.Gap start end = []
+token_at at piece.LineEnd start end = []
+token_at at piece.Remark start end = []
+
+-- the tokens among pieces, of which the first begins at this byte of the source
+abbrev pub tokens_of : List ℕ → ℕ → List Lexeme → List Token
+tokens_of source start [] = []
+tokens_of source start (p ∷ pieces) = token_at (place_of source start) p.piece start (start + p.length) ++ tokens_of source (start + p.length) pieces
+
+-- the token at the end of a source
+abbrev pub end_token : List ℕ → Token
+end_token source = record { kind = End; start = length source; end = length source; at = place_of source (length source) }
+
+-- The tokens of the source, of which this is the text without comments and control lines: the text is made of pieces, and these are
+-- the tokens among them, and the source's end.
+pub record HasTokens (source text : List ℕ) (tokens : List Token) : Type 0 where
+  pub pieces : List Lexeme
+  pub last : Mode
+  pub made : IsMadeOf Code text pieces last []
+  pub tokens_are : tokens ≡ tokens_of source 0 pieces ++ end_token source ∷ []
+
+-- Pieces lead to a byte of the text at which this error stands in place of a piece, or so many bytes ahead of it.
+pub record StopsAt (text : List ℕ) (fault : ByteFault) : Type 0 where
+  pub pieces : List Lexeme
+  pub last : Mode
+  pub rest : List ℕ
+  pub misread : Misread
+  pub made : IsMadeOf Code text pieces last rest
+  pub some : 0 < length rest
+  pub stops : piece_at last rest ≡ Err misread
+  pub at : fault.at ≡ length_of pieces + misread.ahead
+  pub error : fault.error ≡ misread.error
+
+-- A lexical error stands at this byte of the source: an error of a line, or one that stands where a token is due.
+abbrev pub Stands : List ℕ → ByteFault → Type 0
+Stands source fault = IsLineFault source fault ⊎ StopsAt (code_text source) fault
+
+-- these are the tokens of a source in which no lexical error stands
+pub record IsTokens (source : List ℕ) (tokens : List Token) : Type 0 where
+  pub sound : (fault : ByteFault) → Stands source fault → ⊥
+  pub has : HasTokens source (code_text source) tokens
+
+-- this is the first lexical error of the source, by place and then by number
+pub record IsFault (source : List ℕ) (fault : LexFault) : Type 0 where
+  pub byte : ℕ
+  pub at : fault.at ≡ place_of source byte
+  pub stands : Stands source record { at = byte; error = fault.error }
+  pub first : (other : ByteFault) → Stands source other → IsBefore record { at = byte; error = fault.error } other
+
+-- what a source is for a reader of tokens: its tokens, or its first fault
+abbrev pub Means : List ℕ → Result (List Token) LexFault → Type 0
+Means source (Ok tokens) = IsTokens source tokens
+Means source (Err fault) = IsFault source fault
+
+-- an answer in place of tokens: the first fault of the source, or want of memory
+abbrev pub IsRefusal : List ℕ → LexFaultOrMemory → Type 0
+IsRefusal source (Fault fault) = IsFault source fault
+IsRefusal source Memory = Unit {0}

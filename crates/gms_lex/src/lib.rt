@@ -1,0 +1,22 @@
+//! Tokens of the whole language: words, labels, numbers, texts and symbols of a source, each with its place, or the first
+//! lexical fault of the source.
+#![tactic(auto)]
+
+mod fault;
+mod keyword;
+mod laws;
+mod lexer;
+mod mode;
+mod mode_change;
+mod piece;
+mod place;
+#[cfg(test)]
+mod tests;
+mod token;
+
+pub use fault::{LexFault, LexFaultOrMemory};
+pub use gms_lines::LexError;
+pub use gms_tokens::{Kind, Sym};
+pub use laws::{token_laws, token_texts};
+pub use lexer::{MOST_BYTES, lex};
+pub use token::Token;

@@ -1,0 +1,236 @@
+//! What stands first in a text, in each mode.
+ghost use Rattle.std.specs.Prelude.{◌≡◌, ◌≤◌, ◌<◌, length};
+ghost use Rattle.std.specs.List.{prefix_len};
+ghost use Rattle.gms_lines.specs.Lines.{begins, is_blank};
+ghost use Rattle.gms_tokens.specs.Shapes.{IsWithin};
+ghost use Rattle.gms_lex.specs.Pieces.{begins_other, space_length, line_end_length, ends_or_begins, passes, line_end, is_item_mark, behind_name, behind_domain, is_element_mark, begins_value_dot, element_tail, behind_label, in_list, token_at, table_piece_of, table_piece, plain_piece, piece_at};
+
+use crate::keyword::{Shape, begins_statement};
+use crate::mode::{LineEnds, Mode, Stage, line_ends, passes};
+use gms_lines::{content_length, is_blank, is_line_end};
+use gms_tokens::{
+    Kind, Lexeme, Misread, Piece, code_token, label_token, read_symbol, remark, table_bytes,
+    table_line,
+};
+
+/// Whether a text begins with a blank.
+fn begins_blank(text: &[u8]) -> bool
+    ensures { result ≡ begins is_blank text.now }
+{
+    matches!(text, [b' ' | b'\t', ..])
+}
+
+/// How many blanks a text begins with.
+fn blank_length(text: &[u8]) -> usize
+    ensures value { result ≡ prefix_len is_blank text.now }
+    ensures within { result ≤ length text.now }
+{
+    text.iter().take_while(|byte| is_blank(**byte)).count()
+}
+
+/// How many bytes of blanks and line ends a text begins with.
+fn space_length(text: &[u8]) -> usize
+    ensures value { result ≡ space_length text.now }
+    ensures within { result ≤ length text.now }
+{
+    let mut count = 0;
+    while count < text.len() && !begins_other(&text[count..]) {
+        count += 1;
+    }
+    count
+}
+
+/// Whether a text begins with neither a blank nor a line end.
+fn begins_other(text: &[u8]) -> bool
+    ensures { result ≡ begins_other text.now }
+{
+    !(begins_blank(text) || is_line_end(text))
+}
+
+/// A piece of so many bytes.
+fn lexeme(piece: Piece, length: usize) -> Result<Lexeme, Misread>
+    ensures { result ≡ Ok record { piece = piece; length = length } }
+{
+    Ok(Lexeme { piece, length })
+}
+
+/// How many bytes one line end takes.
+fn line_end_length(text: &[u8]) -> usize
+    ensures { result ≡ line_end_length text.now }
+{
+    if matches!(text, [b'\r', ..]) { 2 } else { 1 }
+}
+
+/// Whether a text ends, or goes on with a byte before which a line end ends nothing.
+fn goes_on(ends: LineEnds, text: &[u8]) -> bool
+    ensures { result ≡ ends_or_begins (passes ends) text.now }
+{
+    match text.first() {
+        None => true,
+        Some(byte) => passes(ends, *byte),
+    }
+}
+
+/// A line end with which a text begins: a token where it ends an item or an element.
+fn line_end(ends: LineEnds, text: &[u8]) -> Result<Lexeme, Misread>
+    ensures { result ≡ line_end ends text.now }
+{
+    if ends == LineEnds::Skipped {
+        return lexeme(Piece::LineEnd, line_end_length(text));
+    }
+    let space = space_length(text);
+    if goes_on(ends, &text[space..]) {
+        lexeme(Piece::LineEnd, space)
+    } else {
+        lexeme(Piece::Token(Kind::Break), line_end_length(text))
+    }
+}
+
+/// Whether a byte ends an item, or begins its list.
+fn is_item_mark(byte: u8) -> bool
+    ensures { result ≡ is_item_mark byte }
+{
+    matches!(byte, b'/' | b',' | b';')
+}
+
+/// What stands behind an item's name.
+fn behind_name(text: &[u8]) -> Result<Lexeme, Misread>
+    ensures { result ≡ behind_name text.now }
+{
+    if matches!(text, [byte, ..] if *byte == b'(' || is_item_mark(*byte)) {
+        read_symbol(text)
+    } else {
+        remark(text)
+    }
+}
+
+/// What stands behind an item's domain.
+fn behind_domain(text: &[u8]) -> Result<Lexeme, Misread>
+    ensures { result ≡ behind_domain text.now }
+{
+    if matches!(text, [byte, ..] if is_item_mark(*byte)) {
+        read_symbol(text)
+    } else {
+        remark(text)
+    }
+}
+
+/// Whether a byte ends an element, or goes on with it.
+fn is_element_mark(byte: u8) -> bool
+    ensures { result ≡ is_element_mark byte }
+{
+    is_item_mark(byte) || matches!(byte, b')' | b'*' | b'.')
+}
+
+/// Whether a text begins with an element's mark.
+fn begins_element_mark(text: &[u8]) -> bool
+    ensures { result ≡ begins is_element_mark text.now }
+{
+    matches!(text, [byte, ..] if is_element_mark(*byte))
+}
+
+/// Whether a dot begins a number: in a parameter's list outside parentheses, behind a blank and before a digit.
+fn begins_value_dot(shape: Shape, depth: u32, stage: Stage, text: &[u8]) -> bool
+    ensures { result ≡ begins_value_dot shape depth stage text.now }
+{
+    match (shape, stage) {
+        (Shape::Parameter, Stage::Spaced) => depth == 0 && matches!(text, [b'.', b'0'..=b'9', ..]),
+        _ => false,
+    }
+}
+
+/// The text or value of an element.
+fn element_tail(shape: Shape, text: &[u8]) -> Result<Lexeme, Misread>
+    ensures { result ≡ element_tail shape text.now }
+{
+    match shape {
+        Shape::Parameter => code_token(Kind::Label, text),
+        Shape::Set | Shape::Scalar | Shape::Model => remark(text),
+    }
+}
+
+/// What stands behind an element of a list.
+fn behind_label(shape: Shape, depth: u32, stage: Stage, text: &[u8]) -> Result<Lexeme, Misread>
+    ensures { result ≡ behind_label shape depth stage text.now }
+{
+    if begins_element_mark(text) && !begins_value_dot(shape, depth, stage, text) {
+        read_symbol(text)
+    } else if depth == 0 {
+        element_tail(shape, text)
+    } else {
+        label_token(text)
+    }
+}
+
+/// What stands in a list, by what stands before it.
+fn in_list(shape: Shape, depth: u32, stage: Stage, text: &[u8]) -> Result<Lexeme, Misread>
+    ensures { result ≡ in_list shape depth stage text.now }
+{
+    match stage {
+        Stage::Fresh | Stage::Due => label_token(text),
+        Stage::After | Stage::Spaced => behind_label(shape, depth, stage, text),
+    }
+}
+
+/// What stands at a byte that is no blank and no line end.
+fn token_at(mode: Mode, text: &[u8]) -> Result<Lexeme, Misread>
+    ensures { result ≡ token_at mode text.now }
+{
+    match mode {
+        Mode::Named(_) | Mode::TableNamed => behind_name(text),
+        Mode::Bare(_) | Mode::TableBare => behind_domain(text),
+        Mode::Element(shape, depth, stage) => in_list(shape, depth, stage, text),
+        Mode::Value(_) | Mode::Tail(_) => code_token(Kind::Label, text),
+        _ => code_token(Kind::Text, text),
+    }
+}
+
+/// What stands first where the lines of a table may go on: blanks, a line of the table, or what ends it.
+fn table_piece_of(blanks: usize, bytes: usize, text: &[u8]) -> Result<Lexeme, Misread>
+    requires blanks { blanks ≤ length text.now }
+    requires bytes { bytes ≤ length text.now }
+    ensures { result ≡ table_piece_of blanks bytes text.now }
+{
+    if blanks > 0 && (bytes <= blanks || begins_statement(&text[blanks..])) {
+        lexeme(Piece::Gap, blanks)
+    } else if bytes == 0 || begins_statement(text) {
+        code_token(Kind::Text, text)
+    } else {
+        table_line(bytes, text)
+    }
+}
+
+/// What stands first where the lines of a table may go on.
+fn table_piece(text: &[u8]) -> Result<Lexeme, Misread>
+    ensures { result ≡ table_piece text.now }
+{
+    if is_line_end(text) {
+        return lexeme(Piece::LineEnd, line_end_length(text));
+    }
+    let line = &text[..content_length(text)];
+    table_piece_of(blank_length(text), table_bytes(line), text)
+}
+
+/// What stands first in any other mode.
+fn plain_piece(mode: Mode, text: &[u8]) -> Result<Lexeme, Misread>
+    ensures { result ≡ plain_piece mode text.now }
+{
+    if begins_blank(text) {
+        lexeme(Piece::Gap, blank_length(text))
+    } else if is_line_end(text) {
+        line_end(line_ends(mode), text)
+    } else {
+        token_at(mode, text)
+    }
+}
+
+/// What stands first in a text, the longest of its mode, or the error that stands in its place.
+pub(crate) fn piece_at(mode: Mode, text: &[u8]) -> Result<Lexeme, Misread>
+    ensures value { result ≡ piece_at mode text.now }
+    ensures within { IsWithin text.now result }
+{
+    match mode {
+        Mode::TableLines => table_piece(text),
+        _ => plain_piece(mode, text),
+    }
+}

@@ -1,0 +1,54 @@
+//! Places behind bytes.
+ghost use Rattle.std.specs.Prelude.{◌≡◌, ◌<◌, ◌≤◌, ◌+◌, ◌*◌, ◌^◌, length};
+ghost use Rattle.gms_lex.specs.Places.{place_after, place_behind, place_of};
+ghost use Rattle.gms_lex.specs.Tokens.{most_bytes};
+
+use gms_labels::Place;
+
+/// Where a source begins.
+pub(crate) const SOURCE_START: Place = Place { line: 1, column: 1 };
+
+/// The place behind a byte; a tab goes to the next column that is one more than a multiple of 8.
+fn place_after(at: Place, byte: u8) -> Place
+    requires line { at.line + 1 < 2 ^ 32 }
+    requires column { at.column + 8 < 2 ^ 32 }
+    ensures { result ≡ place_after at byte }
+{
+    match byte {
+        b'\n' => Place {
+            line: at.line + 1,
+            column: 1,
+        },
+        b'\t' => Place {
+            line: at.line,
+            column: (at.column + 7) / 8 * 8 + 1,
+        },
+        _ => Place {
+            line: at.line,
+            column: at.column + 1,
+        },
+    }
+}
+
+/// The place behind bytes.
+pub(crate) fn place_behind(mut at: Place, bytes: &[u8]) -> Place
+    requires line { at.line + length bytes.now < 2 ^ 32 }
+    requires column { at.column + 8 * length bytes.now < 2 ^ 32 }
+    ensures value { result ≡ place_behind at bytes.now }
+    ensures line { result.line ≤ at.line + length bytes.now }
+    ensures column { result.column ≤ at.column + 8 * length bytes.now }
+{
+    for byte in bytes {
+        at = place_after(at, *byte);
+    }
+    at
+}
+
+/// The place of a byte of a source, or of its end.
+pub(crate) fn place_of(source: &[u8], count: usize) -> Place
+    requires small { length source.now ≤ most_bytes }
+    requires within { count ≤ length source.now }
+    ensures { result ≡ place_of source.now count }
+{
+    place_behind(SOURCE_START, &source[..count])
+}

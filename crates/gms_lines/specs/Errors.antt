@@ -1,0 +1,32 @@
+-- Lexical errors: their numbers and names in a listing, and which of two faults comes first.
+use Rattle.std.specs.Prelude.{◌≡◌, ◌⊎◌, ℕ, ◌<◌, ◌≤◌, List, Option, Some, None, codes}
+use Rattle.gms_lines.specs.declared.fault.LexError.{LexError}
+use Rattle.gms_lines.specs.declared.fault.LexError.TheVariants.{BadByte, OpenQuote, OpenText, LongLabel, LongLine, UnknownControl}
+use Rattle.gms_lines.specs.declared.fault.ByteFault.{ByteFault}
+
+-- the number of a lexical error
+abbrev pub error_code : LexError → ℕ
+error_code BadByte = 1
+error_code OpenQuote = 2
+error_code OpenText = 3
+error_code LongLabel = 4
+error_code LongLine = 5
+error_code UnknownControl = 6
+
+-- the name of a lexical error
+abbrev pub error_name : LexError → List ℕ
+error_name BadByte = codes "BadByte"
+error_name OpenQuote = codes "OpenQuote"
+error_name OpenText = codes "OpenText"
+error_name LongLabel = codes "LongLabel"
+error_name LongLine = codes "LongLine"
+error_name UnknownControl = codes "UnknownControl"
+
+-- A fault comes before another, or is the same: by its place, and at one place by its number.
+abbrev pub IsBefore : ByteFault → ByteFault → Type 0
+IsBefore f g = (f.at < g.at) ⊎ ((f.at ≡ g.at) × (error_code f.error ≤ error_code g.error))
+
+-- Of the faults that stand, this is the first; or none stands.
+abbrev pub IsFirstFault : (ByteFault → Type 0) → Option ByteFault → Type 0
+IsFirstFault Stands None = (f : ByteFault) → Stands f → ⊥
+IsFirstFault Stands (Some f) = Stands f × ((g : ByteFault) → Stands g → IsBefore f g)

@@ -1,0 +1,5 @@
+pub mod Errors
+pub mod Lines
+pub mod ControlWords
+pub mod LineFaults
+pub mod LineSearch

@@ -1,0 +1,13 @@
+//! Lines: what each line of a source is, the text that is left for tokens, and the lexical errors of lines.
+#![tactic(auto)]
+
+mod blanking;
+mod fault;
+mod line;
+mod line_faults;
+#[cfg(test)]
+mod tests;
+
+pub use blanking::{CodeText, code_text};
+pub use fault::{ByteFault, LexError};
+pub use line::{content_length, is_among, is_blank, is_line_end};

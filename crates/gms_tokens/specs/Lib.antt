@@ -1,0 +1,5 @@
+pub mod Bytes
+pub mod Numbers
+pub mod Symbols
+pub mod Shapes
+pub mod TableLines
