@@ -1,0 +1,11 @@
+pub mod Basics
+pub mod Starts
+pub mod Sound
+pub mod Only
+pub mod Complete
+pub mod Productive
+pub mod Checks
+pub mod Decided
+pub mod Total
+pub mod Stopping
+pub mod Language

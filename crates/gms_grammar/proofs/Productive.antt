@@ -1,0 +1,172 @@
+-- Each part has a tree, and what a reader finds is as much as begins a list that the part derives.
+use Rattle.std.proofs.Common.{◌≡◌, ◌⊎◌, inl, inr, ℕ, zero, suc, ◌<◌, Bool, true, false, ◌||◌, ◌&&◌, List, [], ◌∷◌, ◌++◌, refl, sym, ap, ◌∙◌, append_assoc, arith, ltb-true}
+use Rattle.std.specs.Prelude.{⊤}
+use Rattle.gms_grammar.specs.Grammar.{Part, one, the, ◌·◌, ◌∣◌, opt, many, Tree, leaf, pair, left, right, none, some, more, node, yield, IsTree, Derives, IsUnexpected, Stops}
+use Rattle.gms_grammar.specs.LookAhead.{LookAhead, may_begin, may_go_on, IsDecided, DecidesEach, ends_below}
+use Rattle.gms_grammar.specs.Reading.{Found, read, stuck, Reads, taken, refused, entered, entered_stuck, both, first_stuck, second_stuck, in_left, in_left_stuck, in_right, in_right_stuck, in_neither, left_out, there, there_stuck, no_more, again, again_stuck, later_stuck}
+use Rattle.gms_grammar.proofs.Basics.{end_nil, not_longer}
+use Rattle.gms_grammar.proofs.Sound.{sound}
+use Rattle.gms_grammar.proofs.Only.{only}
+
+module _ {C N D : Type 0} (production : N → Part C N) (ahead : LookAhead C N) (ok : DecidesEach ahead production) (known : D) where
+  -- A part has a tree.
+  pub record HasTree (part : Part C N) : Type 0 where
+    pub tree : Tree (C × D)
+    pub is_tree : IsTree production part tree
+
+  left_or_right : (a b : Bool) → (a || b) ≡ true → (a ≡ true) ⊎ (b ≡ true)
+  left_or_right true b h = inl refl
+  left_or_right false b h = inr h
+
+  both_true : (a b : Bool) → (a && b) ≡ true → (a ≡ true) × (b ≡ true)
+  both_true true b h = (refl, h)
+  both_true false b h = cc
+
+  -- a part has a tree where the nonterminals below a bound have one
+  tree_within : (bound : ℕ) → ((n : N) → ahead.depth n < bound → HasTree (the n)) → (part : Part C N) (after : C → Bool) → IsDecided ahead part after → ends_below ahead bound part ≡ true → HasTree part
+  tree_within bound below (one test) after d h = record { tree = leaf (d.0, known); is_tree = d.1 }
+  tree_within bound below (the n) after d h = below n (ltb-true (ahead.depth n) bound h)
+  tree_within bound below (p · q) after d h =
+      let k = both_true (ends_below ahead bound p) (ends_below ahead bound q) h in
+      let a = tree_within bound below p _ d.0 k.0 in
+      let b = tree_within bound below q after d.1 k.1 in
+      record { tree = pair a.tree b.tree; is_tree = (a.is_tree, b.is_tree) }
+  tree_within bound below (p ∣ q) after d h =
+      let of_left : HasTree p → HasTree (p ∣ q) = λ a. record { tree = left a.tree; is_tree = a.is_tree } in
+      let of_right : HasTree q → HasTree (p ∣ q) = λ b. record { tree = right b.tree; is_tree = b.is_tree } in
+      let first : ends_below ahead bound p ≡ true → HasTree p = tree_within bound below p after d.3 in
+      let second : ends_below ahead bound q ≡ true → HasTree q = tree_within bound below q after d.4 in
+      elim (left_or_right (ends_below ahead bound p) (ends_below ahead bound q) h) [ inl k ↦ of_left (first k) | inr k ↦ of_right (second k) ]
+  tree_within bound below (opt p) after d h = record { tree = none; is_tree = tt }
+  tree_within bound below (many p) after d h = record { tree = none; is_tree = tt }
+
+  tree_below : (bound : ℕ) (n : N) → ahead.depth n < bound → HasTree (the n)
+  tree_below zero n h = absurd (omega arith)
+  tree_below (suc bound) n h =
+      let inner : HasTree (production n) = tree_within (ahead.depth n) (λ m k. tree_below bound m (omega arith)) (production n) (ahead.follow n) (ok.decided n) (ok.ends n) in
+      record { tree = node inner.tree; is_tree = inner.is_tree }
+
+  -- each part has a tree
+  pub has_tree : (part : Part C N) (after : C → Bool) → IsDecided ahead part after → HasTree part
+  has_tree (one test) after d = record { tree = leaf (d.0, known); is_tree = d.1 }
+  has_tree (the n) after d = tree_below (suc (ahead.depth n)) n (omega arith)
+  has_tree (p · q) after d =
+      let a = has_tree p _ d.0 in
+      let b = has_tree q after d.1 in
+      record { tree = pair a.tree b.tree; is_tree = (a.is_tree, b.is_tree) }
+  has_tree (p ∣ q) after d =
+      let a = has_tree p after d.3 in
+      record { tree = left a.tree; is_tree = a.is_tree }
+  has_tree (opt p) after d = record { tree = none; is_tree = tt }
+  has_tree (many p) after d = record { tree = none; is_tree = tt }
+
+  -- A tree of the part goes on from these tokens.
+  pub record GoesOn (part : Part C N) (front : List (C × D)) : Type 0 where
+    pub tree : Tree (C × D)
+    pub is_tree : IsTree production part tree
+    pub further : List (C × D)
+    pub yields : yield tree ≡ front ++ further
+
+  abbrev pub Promises : Part C N → Found (C × D) → Type 0
+  Promises part (read tree rest) = ⊤
+  Promises part (stuck front rest) = GoesOn part front
+
+  pub promises : {part : Part C N} {tokens : List (C × D)} {found : Found (C × D)} → Reads production ahead part tokens found → (after : C → Bool) → IsDecided ahead part after → Promises part found
+  promises (taken h) after d = tt
+  promises (refused {test = test} h) after d =
+      let t = has_tree (one test) after d in
+      record { tree = t.tree; is_tree = t.is_tree; further = yield t.tree; yields = refl }
+  promises (entered r) after d = tt
+  promises (entered_stuck {n = n} r) after d =
+      let t = promises r (ahead.follow n) (ok.decided n) in
+      record { tree = node t.tree; is_tree = t.is_tree; further = t.further; yields = t.yields }
+  promises (both r s) after d = tt
+  promises (first_stuck {p = p} {q = q} {front = front} r) after d =
+      let t = promises r (may_go_on ahead q after) d.0 in
+      let u = has_tree q after d.1 in
+      record {
+        tree = pair t.tree u.tree;
+        is_tree = (t.is_tree, u.is_tree);
+        further = t.further ++ yield u.tree;
+        yields = ap (λ w. w ++ yield u.tree) t.yields ∙ append_assoc front t.further (yield u.tree);
+      }
+  promises (second_stuck {p = p} {q = q} {front = front} {a = a} r s) after d =
+      let u = promises s after d.1 in
+      record {
+        tree = pair a u.tree;
+        is_tree = ((sound production ahead r).0, u.is_tree);
+        further = u.further;
+        yields = ap (λ w. yield a ++ w) u.yields ∙ sym (append_assoc (yield a) front u.further);
+      }
+  promises (in_left h r) after d = tt
+  promises (in_left_stuck h r) after d =
+      let t = promises r after d.3 in
+      record { tree = left t.tree; is_tree = t.is_tree; further = t.further; yields = t.yields }
+  promises (in_right h k r) after d = tt
+  promises (in_right_stuck h k r) after d =
+      let t = promises r after d.4 in
+      record { tree = right t.tree; is_tree = t.is_tree; further = t.further; yields = t.yields }
+  promises (in_neither {p = p} h k) after d =
+      let t = has_tree p after d.3 in
+      record { tree = left t.tree; is_tree = t.is_tree; further = yield t.tree; yields = refl }
+  promises (left_out h) after d = tt
+  promises (there h r) after d = tt
+  promises (there_stuck h r) after d =
+      let t = promises r after d.2 in
+      record { tree = some t.tree; is_tree = t.is_tree; further = t.further; yields = t.yields }
+  promises (no_more h) after d = tt
+  promises (again h r s) after d = tt
+  promises (again_stuck {p = p} {front = front} h r) after d =
+      let t = promises r (λ c. may_begin ahead p c || after c) d.2 in
+      record {
+        tree = more t.tree none;
+        is_tree = (t.is_tree, tt);
+        further = t.further;
+        yields = end_nil (yield t.tree) ∙ t.yields;
+      }
+  promises (later_stuck {p = p} {front = front} {a = a} h r s) after d =
+      let u = promises s after d in
+      record {
+        tree = more a u.tree;
+        is_tree = ((sound production ahead r).0, u.is_tree);
+        further = u.further;
+        yields = ap (λ w. yield a ++ w) u.yields ∙ sym (append_assoc (yield a) front u.further);
+      }
+
+  -- where a tree is read, its tokens are as many as begin a list that the part derives
+  pub read_stops : (part : Part C N) (after : C → Bool) (tokens : List (C × D)) (tree : Tree (C × D)) (rest : List (C × D)) → IsDecided ahead part after → Reads production ahead part tokens (read tree rest) → Stops production part tokens (yield tree) rest
+  read_stops part after tokens tree rest d r =
+      record {
+        parts = (sound production ahead r).1;
+        begins = record { further = []; derives = record { tree = tree; is_tree = (sound production ahead r).0; yields = sym (end_nil (yield tree)) } };
+        ends = ends_at rest r;
+      }
+    where
+      ends_at : (rest : List (C × D)) → Reads production ahead part tokens (read tree rest) → IsUnexpected production part (yield tree) rest
+      ends_at [] r = tt
+      ends_at (next ∷ rest) r = λ b.
+          let longer : yield b.derives.tree ≡ yield tree ++ (next ∷ b.further) = b.derives.yields ∙ append_assoc (yield tree) (next ∷ []) b.further in
+          let same : b.derives.tree ≡ tree = only production ahead ok r after d b.derives.tree [] (next ∷ b.further) (record { is_tree = b.derives.is_tree; follows = tt; goes = refl; agrees = end_nil (yield b.derives.tree) ∙ longer }) in
+          not_longer (yield tree) next b.further (ap yield (sym same) ∙ longer)
+
+  -- where a reader is stuck, the front is as many tokens as begin a list that the part derives
+  pub stuck_stops : (part : Part C N) (after : C → Bool) (tokens front rest : List (C × D)) → IsDecided ahead part after → Reads production ahead part tokens (stuck front rest) → Stops production part tokens front rest
+  stuck_stops part after tokens front rest d r =
+      let t = promises r after d in
+      record {
+        parts = sound production ahead r;
+        begins = record { further = t.further; derives = record { tree = t.tree; is_tree = t.is_tree; yields = t.yields } };
+        ends = ends_at rest r;
+      }
+    where
+      ends_at : (rest : List (C × D)) → Reads production ahead part tokens (stuck front rest) → IsUnexpected production part front rest
+      ends_at [] r = tt
+      ends_at (next ∷ rest) r = λ b.
+          only production ahead ok r after d b.derives.tree [] (next ∷ b.further)
+          (record { is_tree = b.derives.is_tree; follows = tt; goes = refl; agrees = end_nil (yield b.derives.tree) ∙ b.derives.yields ∙ append_assoc front (next ∷ []) b.further })
+
+  -- where a reader is stuck, the front itself is none
+  pub stuck_none : (part : Part C N) (after : C → Bool) (tokens front rest : List (C × D)) → IsDecided ahead part after → Reads production ahead part tokens (stuck front rest) → Derives production part front → ⊥
+  stuck_none part after tokens front rest d r b =
+      only production ahead ok r after d b.tree [] []
+      (record { is_tree = b.is_tree; follows = tt; goes = tt; agrees = ap (λ w. w ++ []) b.yields })

@@ -1,0 +1,138 @@
+-- With which tokens the trees of a part may start, and what the first token tells.
+use Rattle.std.proofs.Common.{◌≡◌, Bool, true, false, ◌||◌, List, [], ◌∷◌, ◌++◌, refl, sym, ap, ◌∙◌}
+use Rattle.std.specs.Prelude.{⊤}
+use Rattle.gms_grammar.specs.Grammar.{Part, one, the, ◌·◌, ◌∣◌, opt, many, Tree, leaf, pair, left, right, none, some, more, node, yield, IsTree}
+use Rattle.gms_grammar.specs.LookAhead.{LookAhead, may_be_empty, may_begin, may_go_on, Apart, DecidesEach}
+use Rattle.gms_grammar.specs.Reading.{leads}
+use Rattle.gms_grammar.proofs.Basics.{or_left, or_right, and_both, not_true, both_ways}
+
+-- only tokens that pass the test stand first
+abbrev pub Follows : {C D : Type 0} → (C → Bool) → List (C × D) → Type 0
+Follows after [] = ⊤
+Follows after (token ∷ tokens) = after token.0 ≡ true
+
+-- the second list is empty, or begins like the first
+abbrev pub Goes : {T : Type 0} → List T → List T → Type 0
+Goes rest [] = ⊤
+Goes [] (x ∷ xs) = ⊥
+Goes (y ∷ ys) (x ∷ xs) = x ≡ y
+
+pub goes_behind : {T : Type 0} (u rest further : List T) → Goes rest further → Goes (u ++ rest) (u ++ further)
+goes_behind [] rest further h = h
+goes_behind (x ∷ u) rest further h = refl
+
+module _ {C N D : Type 0} (production : N → Part C N) (ahead : LookAhead C N) (ok : DecidesEach ahead production) where
+  -- the tokens are none, and the part may be empty, or their first may begin it
+  abbrev pub Starts : Part C N → List (C × D) → Type 0
+  Starts p [] = may_be_empty ahead p ≡ true
+  Starts p (token ∷ tokens) = may_begin ahead p token.0 ≡ true
+
+  starts_the : (n : N) (u : List (C × D)) → Starts (production n) u → Starts (the n) u
+  starts_the n [] h = sym (ok.empty_is n) ∙ h
+  starts_the n (x ∷ u) h = sym (ok.first_is n x.0) ∙ h
+
+  starts_both : (p q : Part C N) (u v : List (C × D)) → Starts p u → Starts q v → Starts (p · q) (u ++ v)
+  starts_both p q [] [] h k = and_both _ _ h k
+  starts_both p q [] (x ∷ v) h k = or_right (may_begin ahead p x.0) _ (and_both _ _ h k)
+  starts_both p q (x ∷ u) v h k = or_left _ _ h
+
+  starts_left : (p q : Part C N) (u : List (C × D)) → Starts p u → Starts (p ∣ q) u
+  starts_left p q [] h = or_left _ _ h
+  starts_left p q (x ∷ u) h = or_left _ _ h
+
+  starts_right : (p q : Part C N) (u : List (C × D)) → Starts q u → Starts (p ∣ q) u
+  starts_right p q [] h = or_right (may_be_empty ahead p) _ h
+  starts_right p q (x ∷ u) h = or_right (may_begin ahead p x.0) _ h
+
+  starts_opt : (p : Part C N) (u : List (C × D)) → Starts p u → Starts (opt p) u
+  starts_opt p [] h = refl
+  starts_opt p (x ∷ u) h = h
+
+  starts_many : (p : Part C N) (u v : List (C × D)) → Starts p u → Starts (many p) v → Starts (many p) (u ++ v)
+  starts_many p [] v h k = k
+  starts_many p (x ∷ u) v h k = h
+
+  -- the tokens of a tree start as its part may
+  pub starts : (p : Part C N) (tree : Tree (C × D)) → IsTree production p tree → Starts p (yield tree)
+  starts (one test) (leaf token) h = h
+  starts (the n) (node tree) h = starts_the n _ (starts (production n) tree h)
+  starts (p · q) (pair a b) h = starts_both p q _ _ (starts p a h.0) (starts q b h.1)
+  starts (p ∣ q) (left tree) h = starts_left p q _ (starts p tree h)
+  starts (p ∣ q) (right tree) h = starts_right p q _ (starts q tree h)
+  starts (opt p) none h = refl
+  starts (opt p) (some tree) h = starts_opt p _ (starts p tree h)
+  starts (many p) none h = refl
+  starts (many p) (more a b) h = starts_many p _ _ (starts p a h.0) (starts (many p) b h.1)
+  starts _ _ h = absurd h
+
+  -- what follows a part that another goes on with
+  pub follows_part : (q : Part C N) (after : C → Bool) (u behind : List (C × D)) → Starts q u → Follows after behind → Follows (may_go_on ahead q after) (u ++ behind)
+  follows_part q after [] [] h k = tt
+  follows_part q after [] (x ∷ behind) h k = or_right (may_begin ahead q x.0) _ (and_both _ _ h k)
+  follows_part q after (x ∷ u) behind h k = or_left _ _ h
+
+  -- what follows a repetition
+  pub follows_again : (p : Part C N) (after : C → Bool) (u behind : List (C × D)) → Starts (many p) u → Follows after behind → Follows (λ c. may_begin ahead p c || after c) (u ++ behind)
+  follows_again p after [] [] h k = tt
+  follows_again p after [] (x ∷ behind) h k = or_right (may_begin ahead p x.0) _ k
+  follows_again p after (x ∷ u) behind h k = or_left _ _ h
+
+  pub follows_more : (after also : C → Bool) (behind : List (C × D)) → ((c : C) → after c ≡ true → also c ≡ true) → Follows after behind → Follows also behind
+  follows_more after also [] h k = tt
+  follows_more after also (x ∷ behind) h k = h x.0 k
+
+  -- the first token leads into a part that is not empty
+  pub led : (p : Part C N) (u behind : List (C × D)) → Starts p u → may_be_empty ahead p ≡ false → leads {D = D} production ahead p (u ++ behind) ≡ true
+  led p [] behind h k = absurd (both_ways _ h k)
+  led p (x ∷ u) behind h k = h
+
+  -- the first token of one part does not lead into another that starts otherwise
+  pub not_led : (p q : Part C N) (u behind : List (C × D)) → Starts q u → may_be_empty ahead q ≡ false → Apart ahead (may_begin ahead p) (may_begin ahead q) → leads {D = D} production ahead p (u ++ behind) ≡ false
+  not_led p q [] behind h k apart = absurd (both_ways _ h k)
+  not_led p q (x ∷ u) behind h k apart = not_true _ (λ w. apart x.0 w h)
+
+  -- what follows does not lead into a part that starts otherwise
+  pub not_led_behind : (p : Part C N) (after : C → Bool) (behind : List (C × D)) → Follows after behind → Apart ahead (may_begin ahead p) after → leads {D = D} production ahead p behind ≡ false
+  not_led_behind p after [] h apart = refl
+  not_led_behind p after (x ∷ behind) h apart = not_true _ (λ w. apart x.0 w h)
+
+  -- a list begins with a token that may begin a part
+  pub record Begun (p : Part C N) (front : List (C × D)) : Type 0 where
+    pub first : C × D
+    pub others : List (C × D)
+    pub is : front ≡ first ∷ others
+    pub may : may_begin ahead p first.0 ≡ true
+
+  pub begun : (p : Part C N) (tokens front rest : List (C × D)) → tokens ≡ front ++ rest → leads production ahead p tokens ≡ true → (front ≡ [] → leads production ahead p tokens ≡ false) → Begun p front
+  begun p tokens [] rest e h took = absurd (both_ways _ h (took refl))
+  begun p tokens (x ∷ front) rest e h took = record { first = x; others = front; is = refl; may = sym (ap (leads production ahead p) e) ∙ h }
+
+  -- two parts that start otherwise do not start alike
+  pub clash : (p q : Part C N) (front u behind further : List (C × D)) → Begun p front → Starts q u → may_be_empty ahead q ≡ false → Apart ahead (may_begin ahead p) (may_begin ahead q) → u ++ behind ≡ front ++ further → ⊥
+  clash p q front [] behind further b h k apart e = both_ways _ h k
+  clash p q front (x ∷ u) behind further b h k apart e =
+      let same : x ≡ b.first = head_same x _ _ _ (e ∙ ap (λ w. w ++ further) b.is) in
+      apart x.0 (ap (λ (w : C × D). may_begin ahead p w.0) same ∙ b.may) h
+    where
+      head_same : (x y : C × D) (u v : List (C × D)) → x ∷ u ≡ y ∷ v → x ≡ y
+      head_same x y u v h = cc
+
+  -- a part that is not empty does not stand where its first token does not lead into it
+  pub unled : (p : Part C N) (tokens u behind further : List (C × D)) → Starts p u → may_be_empty ahead p ≡ false → leads {D = D} production ahead p tokens ≡ false → Goes tokens further → u ++ behind ≡ further → ⊥
+  unled p tokens [] behind further h k l g e = both_ways _ h k
+  unled p [] (x ∷ u) behind [] h k l g e = cc
+  unled p [] (x ∷ u) behind (y ∷ further) h k l g e = g
+  unled p (z ∷ tokens) (x ∷ u) behind [] h k l g e = cc
+  unled p (z ∷ tokens) (x ∷ u) behind (y ∷ further) h k l g e =
+      let same : x ≡ z = cc in
+      both_ways _ (ap (λ (w : C × D). may_begin ahead p w.0) (sym same) ∙ h) l
+
+  -- what follows a part does not start it
+  pub unfollowed : (p : Part C N) (after : C → Bool) (front behind further : List (C × D)) → Begun p front → Follows after behind → Apart ahead (may_begin ahead p) after → behind ≡ front ++ further → ⊥
+  unfollowed p after front [] further b h apart e =
+      let wrong : [] ≡ b.first ∷ (b.others ++ further) = e ∙ ap (λ w. w ++ further) b.is in
+      cc
+  unfollowed p after front (x ∷ behind) further b h apart e =
+      let equal : x ∷ behind ≡ b.first ∷ (b.others ++ further) = e ∙ ap (λ w. w ++ further) b.is in
+      let same : x ≡ b.first = cc in
+      apart x.0 (ap (λ (w : C × D). may_begin ahead p w.0) same ∙ b.may) h

@@ -1,0 +1,87 @@
+-- Grammars as data: which token lists a production derives, by which tree, and where tokens cease to begin any (Aho, Lam, Sethi
+-- and Ullman, "Compilers", sections 2.2 and 4.2, derivations and parse trees; viable prefixes).
+use Rattle.std.specs.Prelude.{◌≡◌, Bool, true, List, [], ◌∷◌, ◌++◌, ⊤}
+
+-- A part of a production, over kinds of tokens C and nonterminals N.
+pub data Part (C N : Type 0) : Type 0 where
+  -- one token, of a kind that passes a test
+  one : (C → Bool) → Part C N
+  -- what a nonterminal stands for
+  the : N → Part C N
+  -- one part and then another
+  ◌·◌ : Part C N → Part C N → Part C N
+  -- one part or another
+  ◌∣◌ : Part C N → Part C N → Part C N
+  -- a part or nothing
+  opt : Part C N → Part C N
+  -- a part any number of times
+  many : Part C N → Part C N
+
+infixr 5 ◌·◌
+infixr 4 ◌∣◌
+-- A tree of tokens, in which each part of a production has its place.
+pub data Tree (T : Type 0) : Type 0 where
+  -- of one token
+  leaf : T → Tree T
+  -- of one part and then another
+  pair : Tree T → Tree T → Tree T
+  -- of the first of two alternatives
+  left : Tree T → Tree T
+  -- of the second
+  right : Tree T → Tree T
+  -- of an optional part that is left out, and of no further repetition
+  none : Tree T
+  -- of an optional part that is there
+  some : Tree T → Tree T
+  -- of a repetition and those behind it
+  more : Tree T → Tree T → Tree T
+  -- of a nonterminal
+  node : Tree T → Tree T
+
+-- the tokens of a tree, in order
+abbrev pub yield : {T : Type 0} → Tree T → List T
+yield (leaf token) = token ∷ []
+yield (pair a b) = yield a ++ yield b
+yield (left tree) = yield tree
+yield (right tree) = yield tree
+yield none = []
+yield (some tree) = yield tree
+yield (more a b) = yield a ++ yield b
+yield (node tree) = yield tree
+
+-- Below, each nonterminal has one production, and a token is its kind with what else is known of it.
+module _ {C N D : Type 0} (production : N → Part C N) where
+  -- a tree is one of a part
+  abbrev pub IsTree : Part C N → Tree (C × D) → Type 0
+  IsTree (one test) (leaf token) = test token.0 ≡ true
+  IsTree (the n) (node tree) = IsTree (production n) tree
+  IsTree (p · q) (pair a b) = IsTree p a × IsTree q b
+  IsTree (p ∣ q) (left tree) = IsTree p tree
+  IsTree (p ∣ q) (right tree) = IsTree q tree
+  IsTree (opt p) none = ⊤
+  IsTree (opt p) (some tree) = IsTree p tree
+  IsTree (many p) none = ⊤
+  IsTree (many p) (more a b) = IsTree p a × IsTree (many p) b
+  IsTree _ _ = ⊥
+
+  -- A part derives the tokens, by a tree.
+  pub record Derives (part : Part C N) (tokens : List (C × D)) : Type 0 where
+    pub tree : Tree (C × D)
+    pub is_tree : IsTree part tree
+    pub yields : yield tree ≡ tokens
+
+  -- The tokens begin some list that the part derives: there are tokens with which they are one.
+  pub record Begins (part : Part C N) (tokens : List (C × D)) : Type 0 where
+    pub further : List (C × D)
+    pub derives : Derives part (tokens ++ further)
+
+  -- the next of the tokens, where there is one, is unexpected behind those before it: with it they begin nothing
+  abbrev pub IsUnexpected : Part C N → List (C × D) → List (C × D) → Type 0
+  IsUnexpected part front [] = ⊤
+  IsUnexpected part front (next ∷ rest) = Begins part (front ++ next ∷ []) → ⊥
+
+  -- `front` is as many of the tokens as begin some list that the part derives, and `rest` are those behind them.
+  pub record Stops (part : Part C N) (tokens front rest : List (C × D)) : Type 0 where
+    pub parts : tokens ≡ front ++ rest
+    pub begins : Begins part front
+    pub ends : IsUnexpected part front rest

@@ -1,0 +1,6 @@
+pub mod Grammar
+pub mod LookAhead
+pub mod Reading
+pub mod Terminals
+pub mod GamsGrammar
+pub mod GamsLookAhead

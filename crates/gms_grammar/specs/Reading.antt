@@ -1,0 +1,57 @@
+-- Reading tokens by a grammar that one token decides, without a step back (Aho, Lam, Sethi and Ullman, "Compilers", section 4.4:
+-- predictive parsing).
+use Rattle.std.specs.Prelude.{◌≡◌, Bool, true, false, List, [], ◌∷◌, ◌++◌}
+use Rattle.gms_grammar.specs.Grammar.{Part, one, the, ◌·◌, ◌∣◌, opt, many, Tree, leaf, pair, left, right, none, some, more, node, yield}
+use Rattle.gms_grammar.specs.LookAhead.{LookAhead, may_begin}
+
+-- What a reader finds.
+pub data Found (T : Type 0) : Type 0 where
+  -- a tree, and the tokens behind it
+  read : Tree T → List T → Found T
+  -- tokens behind which it cannot go on, and those from there
+  stuck : List T → List T → Found T
+
+module _ {C N D : Type 0} (production : N → Part C N) (ahead : LookAhead C N) where
+  -- whether the first of the tokens may begin a part
+  abbrev pub leads : Part C N → List (C × D) → Bool
+  leads p [] = false
+  leads p (token ∷ tokens) = may_begin ahead p token.0
+
+  -- A reader of a part finds this in the tokens: it takes a part where the next token may begin it, and else leaves it.
+  pub data Reads : Part C N → List (C × D) → Found (C × D) → Type 0 where
+    taken : {test : C → Bool} {token : C × D} {rest : List (C × D)} →
+        test token.0 ≡ true → Reads (one test) (token ∷ rest) (read (leaf token) rest)
+    refused : {test : C → Bool} {tokens : List (C × D)} → leads (one test) tokens ≡ false → Reads (one test) tokens (stuck [] tokens)
+    entered : {n : N} {tokens rest : List (C × D)} {tree : Tree (C × D)} →
+        Reads (production n) tokens (read tree rest) → Reads (the n) tokens (read (node tree) rest)
+    entered_stuck : {n : N} {tokens front rest : List (C × D)} →
+        Reads (production n) tokens (stuck front rest) → Reads (the n) tokens (stuck front rest)
+    both : {p q : Part C N} {tokens between rest : List (C × D)} {a b : Tree (C × D)} →
+        Reads p tokens (read a between) → Reads q between (read b rest) → Reads (p · q) tokens (read (pair a b) rest)
+    first_stuck : {p q : Part C N} {tokens front rest : List (C × D)} →
+        Reads p tokens (stuck front rest) → Reads (p · q) tokens (stuck front rest)
+    second_stuck : {p q : Part C N} {tokens between front rest : List (C × D)} {a : Tree (C × D)} →
+        Reads p tokens (read a between) → Reads q between (stuck front rest) → Reads (p · q) tokens (stuck (yield a ++ front) rest)
+    in_left : {p q : Part C N} {tokens rest : List (C × D)} {tree : Tree (C × D)} →
+        leads p tokens ≡ true → Reads p tokens (read tree rest) → Reads (p ∣ q) tokens (read (left tree) rest)
+    in_left_stuck : {p q : Part C N} {tokens front rest : List (C × D)} →
+        leads p tokens ≡ true → Reads p tokens (stuck front rest) → Reads (p ∣ q) tokens (stuck front rest)
+    in_right : {p q : Part C N} {tokens rest : List (C × D)} {tree : Tree (C × D)} →
+        leads p tokens ≡ false → leads q tokens ≡ true → Reads q tokens (read tree rest) → Reads (p ∣ q) tokens (read (right tree) rest)
+    in_right_stuck : {p q : Part C N} {tokens front rest : List (C × D)} →
+        leads p tokens ≡ false → leads q tokens ≡ true → Reads q tokens (stuck front rest) → Reads (p ∣ q) tokens (stuck front rest)
+    in_neither : {p q : Part C N} {tokens : List (C × D)} →
+        leads p tokens ≡ false → leads q tokens ≡ false → Reads (p ∣ q) tokens (stuck [] tokens)
+    left_out : {p : Part C N} {tokens : List (C × D)} → leads p tokens ≡ false → Reads (opt p) tokens (read none tokens)
+    there : {p : Part C N} {tokens rest : List (C × D)} {tree : Tree (C × D)} →
+        leads p tokens ≡ true → Reads p tokens (read tree rest) → Reads (opt p) tokens (read (some tree) rest)
+    there_stuck : {p : Part C N} {tokens front rest : List (C × D)} →
+        leads p tokens ≡ true → Reads p tokens (stuck front rest) → Reads (opt p) tokens (stuck front rest)
+    no_more : {p : Part C N} {tokens : List (C × D)} → leads p tokens ≡ false → Reads (many p) tokens (read none tokens)
+    again : {p : Part C N} {tokens between rest : List (C × D)} {a b : Tree (C × D)} →
+        leads p tokens ≡ true → Reads p tokens (read a between) → Reads (many p) between (read b rest) → Reads (many p) tokens (read (more a b) rest)
+    again_stuck : {p : Part C N} {tokens front rest : List (C × D)} →
+        leads p tokens ≡ true → Reads p tokens (stuck front rest) → Reads (many p) tokens (stuck front rest)
+    later_stuck : {p : Part C N} {tokens between front rest : List (C × D)} {a : Tree (C × D)} →
+        leads p tokens ≡ true →
+        Reads p tokens (read a between) → Reads (many p) between (stuck front rest) → Reads (many p) tokens (stuck (yield a ++ front) rest)

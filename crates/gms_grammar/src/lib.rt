@@ -1,0 +1,8 @@
+//! The grammar of the language, as data.
+#![tactic(auto)]
+
+mod laws;
+mod terminal;
+
+pub use laws::{derivation_laws, reading_laws};
+pub use terminal::Terminal;
