@@ -1,0 +1,7 @@
+pub mod RowSums
+pub mod Duality
+pub mod Rays
+pub mod Checks
+pub mod Points
+pub mod ShapeSteps
+mod Examples

@@ -1,0 +1,163 @@
+-- Dictionaries, legal pivots and the exchange (Chvatal, Linear Programming, chapters 2 and 3).
+use Rattle.std.specs.Prelude.{◌≡◌, ◌≢◌, ℕ, zero, suc, ◌+◌, ◌&&◌, nat_lt, ◌<◌, ◌≤◌, ◌==◌, ◌⊎◌, Bool, pos, List, [], length, slice_index_or, slice_get, slice_set, Contains, Some, if◌then◌else◌}
+use Rattle.std.specs.List.{list_any, range_with_len}
+use Rattle.gq_number.specs.Number.{Number, whole, ◌-ℚ◌, ◌*ℚ◌, ◌/ℚ◌, neg_ℚ}
+use Rattle.gq_number.specs.Order.{◌≤ℚ◌, ◌<ℚ◌, number_cmp}
+use Rattle.gq_number.specs.Sums.{sum_by_ℚ}
+use Rattle.std.specs.Ordering.{is_lt}
+use Rattle.lp_core.specs.declared.answer.Pivot.{Pivot}
+use Rattle.lp_core.specs.Sums.{number_of}
+use Rattle.lp_core.specs.StandardForm.{Standard, StandardRow, of_bound}
+
+-- A dictionary: the equation of each basic variable and the objective. Column 0 of `numbers` is the constant, column v + 1
+-- the variable v; a basic variable has its own 1 in its row, so that row k says: column 0 is the sum of each variable times its
+-- number. The row after the last is the objective, with its constant negated in column 0. Variable 0 is the one of phase 1.
+pub record Dictionary : Type 0 where
+  -- the greatest number of a variable
+  pub variables : ℕ
+  -- the basic variable of each row
+  pub basic : List ℕ
+  pub numbers : ℕ → ℕ → Number
+
+-- the variable of a row
+abbrev pub basic_at : Dictionary → ℕ → ℕ
+basic_at d k = slice_index_or d.basic k 0
+
+-- the constant of a row
+abbrev pub constant_at : Dictionary → ℕ → Number
+constant_at d k = d.numbers k 0
+
+-- the number of a variable in a row
+abbrev pub entry_at : Dictionary → ℕ → ℕ → Number
+entry_at d k v = d.numbers k (v + 1)
+
+-- what a row comes to at values of all variables: the sum less the constant
+abbrev pub row_at : Dictionary → ℕ → List Number → Number
+row_at d k x = sum_by_ℚ (λ v. entry_at d k v *ℚ number_of x v) (range_with_len 0 (d.variables + 1)) -ℚ constant_at d k
+
+-- A list of values, one for each variable, meets the equations, and the objective has this value.
+pub record Meets (d : Dictionary) (x : List Number) (objective : Number) : Type 0 where
+  pub sized : length x ≡ d.variables + 1
+  pub rows : (k : ℕ) → k < length d.basic → row_at d k x ≡ whole (pos 0)
+  pub objective_row : row_at d (length d.basic) x ≡ objective
+
+-- some right side is below 0
+abbrev pub some_below : Standard → Bool
+some_below s = list_any (λ row. is_lt (number_cmp row.right (whole (pos 0)))) s.rows
+
+-- what the entries for a variable add up to
+abbrev pub of_variable : List (ℕ × Number) → ℕ → Number
+of_variable entries v = sum_by_ℚ (λ e. if e.0 == v then e.1 else whole (pos 0)) entries
+
+-- the number of variable v in a row of the first dictionary: variable 0 has a -1 where it is needed, the row's slack a 1
+abbrev pub first_entry : Bool → ℕ → StandardRow → ℕ → Number
+first_entry needed slack row zero = if needed then neg_ℚ (whole (pos 1)) else whole (pos 0)
+first_entry needed slack row (suc v) = if suc v == slack then whole (pos 1) else of_variable row.entries (suc v)
+
+-- the numbers of a row of the first dictionary, by column
+abbrev pub first_row : Bool → ℕ → StandardRow → ℕ → Number
+first_row needed slack row zero = row.right
+first_row needed slack row (suc v) = first_entry needed slack row v
+
+-- the objective of the first dictionary, by column; the list has the coefficients of the variables from 1
+abbrev pub first_objective : Standard → ℕ → Number
+first_objective s zero = neg_ℚ s.constant
+first_objective s (suc zero) = whole (pos 0)
+first_objective s (suc (suc v)) = number_of s.objective v
+
+-- a row that asks nothing
+abbrev pub no_row : StandardRow
+no_row = record { right = whole (pos 0); entries = []; origin = of_bound 0 }
+
+-- the first dictionary of a standard form: the slacks are basic, their numbers following those of the other variables
+abbrev pub first_dictionary : Standard → Dictionary
+first_dictionary s =
+    let count : ℕ = length s.objective in
+    record {
+      variables = count + length s.rows;
+      basic = range_with_len (count + 1) (length s.rows);
+      numbers = λ k c. if nat_lt k (length s.rows) then first_row (some_below s) (count + 1 + k) (slice_index_or s.rows k no_row) c else first_objective s c;
+    }
+
+-- ---- which pivots are legal
+
+-- variable 0 stands in the rows
+abbrev pub InPhaseOne : Dictionary → Type 0
+InPhaseOne d = Contains d.basic 0
+
+-- the opening pivot is due: some constant is below 0
+abbrev pub OpeningIsDue : Dictionary → Type 0
+OpeningIsDue d = (k : ℕ) × (k < length d.basic) × (constant_at d k <ℚ whole (pos 0))
+
+-- the row by which pivots are chosen: that of variable 0 while it is basic, else the objective
+abbrev pub IsPriced : Dictionary → ℕ → Type 0
+IsPriced d k = (slice_get d.basic k ≡ Some 0) ⊎ (¬ (InPhaseOne d) × (k ≡ length d.basic))
+
+-- A variable improves: it is not basic and not variable 0, and its number in the priced row is above 0.
+pub record Improves (d : Dictionary) (v : ℕ) : Type 0 where
+  pub other : v ≢ 0
+  pub there : v ≤ d.variables
+  pub not_basic : ¬ (Contains d.basic v)
+  pub above : (k : ℕ) → IsPriced d k → whole (pos 0) <ℚ entry_at d k v
+
+-- a row limits a variable: its number there is above 0
+abbrev pub Limits : Dictionary → ℕ → ℕ → Type 0
+Limits d q k = (k < length d.basic) × (whole (pos 0) <ℚ entry_at d k q)
+
+-- how far a variable may rise by a row
+abbrev pub ratio_at : Dictionary → ℕ → ℕ → Number
+ratio_at d q k = constant_at d k /ℚ entry_at d k q
+
+-- A row ties: it limits the variable, and no row does so earlier.
+pub record Ties (d : Dictionary) (q k : ℕ) : Type 0 where
+  pub limits : Limits d q k
+  pub least : (i : ℕ) → Limits d q i → ratio_at d q k ≤ℚ ratio_at d q i
+
+-- a row has the least constant
+abbrev pub IsLeast : Dictionary → ℕ → Type 0
+IsLeast d k = (k < length d.basic) × ((i : ℕ) → i < length d.basic → constant_at d k ≤ℚ constant_at d i)
+
+-- The opening pivot: variable 0 enters, the variable of a row with the least constant leaves.
+pub record IsOpening (d : Dictionary) (p : Pivot) (k : ℕ) : Type 0 where
+  pub due : OpeningIsDue d
+  pub enters : p.enter ≡ 0
+  pub leaves : slice_get d.basic k ≡ Some p.leave
+  pub least : IsLeast d k
+
+-- A pivot otherwise: an improving variable enters, the variable of a row that ties leaves, and variable 0 where it ties.
+pub record IsStep (d : Dictionary) (p : Pivot) (k : ℕ) : Type 0 where
+  pub not_due : ¬ (OpeningIsDue d)
+  pub improves : Improves d p.enter
+  pub leaves : slice_get d.basic k ≡ Some p.leave
+  pub ties : Ties d p.enter k
+  pub zero_first : (i : ℕ) → slice_get d.basic i ≡ Some 0 → Ties d p.enter i → p.leave ≡ 0
+
+-- a legal pivot; k is the row of the variable that leaves
+abbrev pub IsLegal : Dictionary → Pivot → ℕ → Type 0
+IsLegal d p k = IsOpening d p k ⊎ IsStep d p k
+
+-- Bland's pivot: the least improving variable enters, and the least of the tied ones leaves; at the opening the least
+-- variable among those with the least constant leaves.
+pub record IsBland (d : Dictionary) (p : Pivot) : Type 0 where
+  pub enters : (q : ℕ) → ¬ (OpeningIsDue d) → Improves d q → p.enter ≤ q
+  pub leaves : (i : ℕ) → ¬ (OpeningIsDue d) → Ties d p.enter i → p.leave ≤ basic_at d i
+  pub opens : (i : ℕ) → OpeningIsDue d → IsLeast d i → p.leave ≤ basic_at d i
+
+-- ---- the exchange
+
+-- a number of the row of the variable that leaves, over that of the variable that enters
+abbrev pub divided : Dictionary → ℕ → ℕ → ℕ → Number
+divided d q k c = d.numbers k c /ℚ entry_at d k q
+
+-- the numbers after an exchange: the row k is divided, and every other loses a multiple of it
+abbrev pub exchanged_numbers : Dictionary → ℕ → ℕ → ℕ → ℕ → Number
+exchanged_numbers d q k i c = if i == k then divided d q k c else d.numbers i c -ℚ entry_at d i q *ℚ divided d q k c
+
+-- the dictionary in which q has become basic in row k; variable 0 is dropped where it leaves
+abbrev pub exchanged : Dictionary → ℕ → ℕ → Dictionary
+exchanged d q k =
+    record {
+      variables = d.variables;
+      basic = slice_set d.basic k q;
+      numbers = λ i c. if basic_at d k == 0 && c == 1 then whole (pos 0) else exchanged_numbers d q k i c;
+    }

@@ -1,0 +1,10 @@
+pub mod Sums
+pub mod Entries
+pub mod Feasible
+pub mod WellFormed
+pub mod DualBound
+pub mod Proofs
+pub mod StandardForm
+pub mod Dictionary
+pub mod Steps
+pub mod Answers

@@ -1,0 +1,83 @@
+-- What proves an answer, as inequalities of the program's own rows and bounds (Chvatal, Linear Programming, chapters 5 and 9).
+use Rattle.std.specs.Prelude.{◌≡◌, ℕ, Bool, true, false, pos, List, length, map, replicate, slice_get, Option, Some, None}
+use Rattle.std.specs.List.{All, AllWithin, enumerate_from, range_with_len}
+use Rattle.gq_number.specs.Number.{Number, whole}
+use Rattle.gq_number.specs.Order.{◌≤ℚ◌, ◌<ℚ◌}
+use Rattle.gq_number.specs.Sums.{scaled, added}
+use Rattle.lp_core.specs.declared.program.Sense.{Sense}
+use Rattle.lp_core.specs.declared.program.Sense.TheVariants as sense
+use Rattle.lp_core.specs.declared.program.Column.{Column}
+use Rattle.lp_core.specs.declared.program.Row.{Row}
+use Rattle.lp_core.specs.declared.program.Lp.{Lp}
+use Rattle.lp_core.specs.Sums.{number_of, row_sum}
+use Rattle.lp_core.specs.Feasible.{Feasible}
+use Rattle.lp_core.specs.DualBound.{reduced_cost, objective_costs, no_costs, dual_bound, low}
+
+-- the lower bound passes the upper
+abbrev pub Crosses : {F : Type 0} → (F → Number) → Option F → Option F → Type 0
+Crosses value (Some lower) (Some upper) = value upper <ℚ value lower
+Crosses value lower upper = ⊥
+
+-- what a direction may do with a sum that compares so with a right side
+abbrev pub KeepsSenseAlong : Sense → Number → Type 0
+KeepsSenseAlong sense.E change = change ≡ whole (pos 0)
+KeepsSenseAlong sense.L change = change ≤ℚ whole (pos 0)
+KeepsSenseAlong sense.G change = whole (pos 0) ≤ℚ change
+KeepsSenseAlong sense.N change = Unit {0}
+
+-- what a direction may do with a column: not fall where there is a lower bound
+abbrev pub KeepsLowerAlong : {F : Type 0} → Option F → Number → Type 0
+KeepsLowerAlong None change = Unit {0}
+KeepsLowerAlong (Some bound) change = whole (pos 0) ≤ℚ change
+
+-- not rise where there is an upper bound
+abbrev pub KeepsUpperAlong : {F : Type 0} → Option F → Number → Type 0
+KeepsUpperAlong None change = Unit {0}
+KeepsUpperAlong (Some bound) change = change ≤ℚ whole (pos 0)
+
+-- the objective becomes better along a direction
+abbrev pub Improves : Bool → Number → Type 0
+Improves true change = whole (pos 0) <ℚ change
+Improves false change = change <ℚ whole (pos 0)
+
+module _ {F : Type 0} (value : F → Number) (lp : Lp F) where
+  -- the sum of each row at a point
+  abbrev pub row_sums : List Number → List Number
+  row_sums x = map (λ (row : Row F). row_sum value row.entries x) lp.rows
+
+  -- Optimal: a feasible point whose objective is the bound that the duals give.
+  pub record ProvesOptimal (levels row_levels duals reduced : List Number) : Type 0 where
+    pub feasible : Feasible value lp levels
+    pub rows : row_levels ≡ row_sums levels
+    pub sized : length duals ≡ length lp.rows
+    pub reduced_costs : reduced ≡ map (λ j. reduced_cost value lp (objective_costs lp) duals j) (range_with_len 0 (length lp.columns))
+    pub bound : dual_bound value lp duals ≡ Some (number_of levels lp.objective)
+
+  -- Infeasible by a combination of rows: what it comes to at least is above 0, and is 0 at each point.
+  pub record ProvesInfeasible (duals : List Number) : Type 0 where
+    pub sized : length duals ≡ length lp.rows
+    pub above : (bound : Number) × (low value lp no_costs duals ≡ Some bound) × (whole (pos 0) <ℚ bound)
+
+  -- Infeasible by a column: it is the first whose lower bound passes its upper one.
+  pub record ProvesCrossed (j : ℕ) (duals : List Number) : Type 0 where
+    pub crossed : (column : Column F) × (slice_get lp.columns j ≡ Some column) × Crosses value column.lower column.upper
+    pub first : AllWithin (λ (column : Column F). ¬ (Crosses value column.lower column.upper)) lp.columns 0 j
+    pub duals_zero : duals ≡ replicate (length lp.rows) (whole (pos 0))
+
+  -- A ray: a direction along which bounds and rows stay kept and the objective becomes better.
+  pub record IsRay (ray : List Number) : Type 0 where
+    pub sized : length ray ≡ length lp.columns
+    pub lower : All (λ (p : ℕ × Column F). KeepsLowerAlong p.1.lower (number_of ray p.0)) (enumerate_from 0 lp.columns)
+    pub upper : All (λ (p : ℕ × Column F). KeepsUpperAlong p.1.upper (number_of ray p.0)) (enumerate_from 0 lp.columns)
+    pub rows : All (λ (row : Row F). KeepsSenseAlong row.sense (row_sum value row.entries ray)) lp.rows
+    pub better : Improves lp.maximize (number_of ray lp.objective)
+
+  -- Unbounded: a feasible point and a ray.
+  pub record ProvesUnbounded (levels row_levels ray : List Number) : Type 0 where
+    pub feasible : Feasible value lp levels
+    pub rows : row_levels ≡ row_sums levels
+    pub along : IsRay ray
+
+-- the point as far along the ray as t says
+abbrev pub further : List Number → Number → List Number → List Number
+further levels t ray = added levels (scaled t ray)

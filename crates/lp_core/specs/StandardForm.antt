@@ -1,0 +1,224 @@
+-- The standard form of a program, and the way back (Chvatal, Linear Programming, chapter 1: variables at least 0, rows at most
+-- their right sides, an objective to be greatest).
+use Rattle.std.specs.Prelude.{ℕ, ◌+◌, ◌==◌, Bool, true, false, pos, List, [], ◌∷◌, ◌++◌, map, flat_map, slice_index_or, sum_by, Option, Some, None, if◌then◌else◌}
+use Rattle.std.specs.List.{enumerate_from, range_with_len}
+use Rattle.gq_number.specs.Number.{Number, whole, ◌+ℚ◌, ◌-ℚ◌, ◌*ℚ◌, neg_ℚ}
+use Rattle.gq_number.specs.Sums.{sum_by_ℚ}
+use Rattle.lp_core.specs.declared.program.Sense.{Sense}
+use Rattle.lp_core.specs.declared.program.Sense.TheVariants as sense
+use Rattle.lp_core.specs.declared.program.Column.{Column}
+use Rattle.lp_core.specs.declared.program.Row.{Row}
+use Rattle.lp_core.specs.declared.program.Lp.{Lp}
+use Rattle.lp_core.specs.Sums.{number_of}
+use Rattle.lp_core.specs.Feasible.{bound_value}
+
+-- How a column is told by variables that are at least 0: its lower bound plus one, its upper bound less one, or the
+-- difference of two.
+pub data Shift : Type 0 where
+  from_lower : Number → Shift
+  from_upper : Number → Shift
+  free : Shift
+
+-- where a row of the standard form comes from: a row of the program, with its sign kept or changed, or a column with two bounds
+pub data Origin : Type 0 where
+  of_row : ℕ → Origin
+  of_negated : ℕ → Origin
+  of_bound : ℕ → Origin
+
+-- A row of the standard form: coefficients by the numbers of variables, whose sum is at most the right side.
+pub record StandardRow : Type 0 where
+  pub right : Number
+  pub entries : List (ℕ × Number)
+  pub origin : Origin
+
+-- A program in standard form: each column with the number of its first variable and its shift, the rows, and the objective
+-- that is to be greatest: a constant and a coefficient for each variable from 1.
+pub record Standard : Type 0 where
+  pub columns : List (ℕ × Shift)
+  pub rows : List StandardRow
+  pub objective : List Number
+  pub constant : Number
+
+-- the shift of a column with these bounds
+abbrev pub shift_of : Option Number → Option Number → Shift
+shift_of (Some lower) upper = from_lower lower
+shift_of None (Some upper) = from_upper upper
+shift_of None None = free
+
+-- how many variables a shift has
+abbrev pub width : Shift → ℕ
+width (from_lower b) = 1
+width (from_upper b) = 1
+width free = 2
+
+-- the bound that a shift counts from, 0 where there is none
+abbrev pub base : Shift → Number
+base (from_lower b) = b
+base (from_upper b) = b
+base free = whole (pos 0)
+
+-- shifts with the numbers of their first variables, from n on
+abbrev pub numbered : ℕ → List Shift → List (ℕ × Shift)
+numbered n [] = []
+numbered n (s ∷ shifts) = (n, s) ∷ numbered (n + width s) shifts
+
+-- a coefficient of a column as coefficients of its variables
+abbrev pub spread : ℕ → Shift → Number → List (ℕ × Number)
+spread v (from_lower b) a = (v, a) ∷ []
+spread v (from_upper b) a = (v, neg_ℚ a) ∷ []
+spread v free a = (v, a) ∷ (v + 1, neg_ℚ a) ∷ []
+
+-- the value of a column, by the values of all variables from number 0
+abbrev pub shifted_back : ℕ × Shift → List Number → Number
+shifted_back (v, from_lower b) y = b +ℚ number_of y v
+shifted_back (v, from_upper b) y = b -ℚ number_of y v
+shifted_back (v, free) y = number_of y v -ℚ number_of y (v + 1)
+
+-- the point that values of all variables stand for
+abbrev pub point_of : Standard → List Number → List Number
+point_of s y = map (λ column. shifted_back column y) s.columns
+
+-- the row with its sign changed
+abbrev pub negated_row : ℕ → StandardRow → StandardRow
+negated_row i r = record { right = neg_ℚ r.right; entries = map (λ e. (e.0, neg_ℚ e.1)) r.entries; origin = of_negated i }
+
+-- a row of the program as rows of the standard form, by its sense
+abbrev pub rows_by_sense : Sense → ℕ → StandardRow → List StandardRow
+rows_by_sense sense.E i r = r ∷ negated_row i r ∷ []
+rows_by_sense sense.L i r = r ∷ []
+rows_by_sense sense.G i r = negated_row i r ∷ []
+rows_by_sense sense.N i r = []
+
+-- the row of a column with two bounds: its variable is at most their difference
+abbrev pub bound_rows : ℕ → ℕ → Option Number → Option Number → List StandardRow
+bound_rows j v (Some lower) (Some upper) = record { right = upper -ℚ lower; entries = (v, whole (pos 1)) ∷ []; origin = of_bound j } ∷ []
+bound_rows j v lower upper = []
+
+-- a number kept where the objective is to be greatest, and negated where it is to be least
+abbrev pub directed : Bool → Number → Number
+directed true x = x
+directed false x = neg_ℚ x
+
+-- a column that is not there has a shift without effect
+abbrev pub column_at : List (ℕ × Shift) → ℕ → ℕ × Shift
+column_at columns j = slice_index_or columns j (0, free)
+
+-- the coefficients of the objective: those of its column's variables, 0 elsewhere
+abbrev pub objective_of : ℕ → List (ℕ × Number) → List Number
+objective_of count entries =
+    map (λ v. sum_by_ℚ (λ e. if e.0 == v then e.1 else whole (pos 0)) entries) (range_with_len 1 count)
+
+module _ {F : Type 0} (value : F → Number) (lp : Lp F) where
+  -- the columns with the numbers of their first variables and their shifts
+  abbrev pub columns_of : List (ℕ × Shift)
+  columns_of = numbered 1 (map (λ (column : Column F). shift_of (bound_value value column.lower) (bound_value value column.upper)) lp.columns)
+
+  -- a row as one of the standard form, its sign kept: each column told by its variables, the bounds taken out of the right side
+  abbrev pub shifted_row : ℕ → Row F → StandardRow
+  shifted_row i r =
+      record {
+        right = value r.right -ℚ sum_by_ℚ (λ (e : ℕ × F). value e.1 *ℚ base (column_at columns_of e.0).1) r.entries;
+        entries = flat_map (λ (e : ℕ × F). spread (column_at columns_of e.0).0 (column_at columns_of e.0).1 (value e.1)) r.entries;
+        origin = of_row i;
+      }
+
+  -- the rows of the standard form: those of the program's rows, then those of columns with two bounds
+  abbrev pub rows_of : List StandardRow
+  rows_of =
+      flat_map (λ (p : ℕ × Row F). rows_by_sense p.1.sense p.0 (shifted_row p.0 p.1)) (enumerate_from 0 lp.rows)
+      ++ flat_map (λ (p : ℕ × Column F). bound_rows p.0 (column_at columns_of p.0).0 (bound_value value p.1.lower) (bound_value value p.1.upper)) (enumerate_from 0 lp.columns)
+
+  -- how many variables there are, without slacks
+  abbrev pub variables_of : ℕ
+  variables_of = sum_by (λ (p : ℕ × Shift). width p.1) columns_of
+
+  -- the standard form of a program
+  abbrev pub standard_form : Standard
+  standard_form =
+      let z : ℕ × Shift = column_at columns_of lp.objective in
+      record {
+        columns = columns_of;
+        rows = rows_of;
+        objective = objective_of variables_of (spread z.0 z.1 (directed lp.maximize (whole (pos 1))));
+        constant = directed lp.maximize (base z.1);
+      }
+
+-- ---- the way back
+
+-- What is read from a last dictionary, for all variables from number 0: their values, their coefficients in the objective or,
+-- where the program is infeasible, in the row of variable 0; and their changes along a ray.
+pub record Last : Type 0 where
+  pub values : List Number
+  pub costs : List Number
+  pub changes : List Number
+
+-- the multiplier of the r-th row of the standard form, from 0: the negated coefficient of its slack, which has the number
+-- that many after the variables
+abbrev pub multiplier : ℕ → List Number → ℕ → Number
+multiplier variables costs r = neg_ℚ (number_of costs (variables + 1 + r))
+
+-- how many rows of the standard form a row has
+abbrev pub count_by_sense : Sense → ℕ
+count_by_sense sense.E = 2
+count_by_sense sense.L = 1
+count_by_sense sense.G = 1
+count_by_sense sense.N = 0
+
+-- what a row's multipliers make of its dual; r is the place of its first row in the standard form
+abbrev pub dual_by_sense : Sense → (ℕ → Number) → ℕ → Number
+dual_by_sense sense.E p r = p r -ℚ p (r + 1)
+dual_by_sense sense.L p r = p r
+dual_by_sense sense.G p r = neg_ℚ (p r)
+dual_by_sense sense.N p r = whole (pos 0)
+
+-- the duals of rows of which the first has its first row at place r
+abbrev pub duals_from : {F : Type 0} → (ℕ → Number) → ℕ → List (Row F) → List Number
+duals_from p r [] = []
+duals_from p r (row ∷ rows) = dual_by_sense row.sense p r ∷ duals_from p (r + count_by_sense row.sense) rows
+
+-- the reduced cost of a column: v is its first variable, r the place of its row in the standard form, if it has one
+abbrev pub reduced_by_bounds : {B : Type 0} → List Number → (ℕ → Number) → ℕ → ℕ → Option B → Option B → Number
+reduced_by_bounds costs p v r (Some lower) (Some upper) = number_of costs v +ℚ p r
+reduced_by_bounds costs p v r (Some lower) None = number_of costs v
+reduced_by_bounds costs p v r None (Some upper) = neg_ℚ (number_of costs v)
+reduced_by_bounds costs p v r None None = whole (pos 0)
+
+-- 1 for a column with a row of its own in the standard form, else 0
+abbrev pub count_by_bounds : {B : Type 0} → Option B → Option B → ℕ
+count_by_bounds (Some lower) (Some upper) = 1
+count_by_bounds lower upper = 0
+
+-- the reduced costs of columns, given with the numbers of their first variables; r is the place of the next column's row
+abbrev pub reduced_from : {F : Type 0} → List Number → (ℕ → Number) → ℕ → List (ℕ × Shift) → List (Column F) → List Number
+reduced_from costs p r [] columns = []
+reduced_from costs p r (s ∷ shifts) [] = []
+reduced_from costs p r (s ∷ shifts) (column ∷ columns) =
+    reduced_by_bounds costs p s.0 r column.lower column.upper ∷ reduced_from costs p (r + count_by_bounds column.lower column.upper) shifts columns
+
+-- the change of a column along a ray
+abbrev pub changed_back : ℕ × Shift → List Number → Number
+changed_back (v, from_lower b) changes = number_of changes v
+changed_back (v, from_upper b) changes = neg_ℚ (number_of changes v)
+changed_back (v, free) changes = number_of changes v -ℚ number_of changes (v + 1)
+
+module _ {F : Type 0} (value : F → Number) (lp : Lp F) (last : Last) where
+  -- the value of each column
+  abbrev pub levels_back : List Number
+  levels_back = point_of (standard_form value lp) last.values
+
+  -- the dual of each row of an optimum
+  abbrev pub duals_back : List Number
+  duals_back = map (directed lp.maximize) (duals_from (multiplier (variables_of value lp) last.costs) 0 lp.rows)
+
+  -- the reduced cost of each column of an optimum; the columns' own rows come after those of the program's rows
+  abbrev pub reduced_back : List Number
+  reduced_back =
+      map (directed lp.maximize) (reduced_from last.costs (multiplier (variables_of value lp) last.costs) (sum_by (λ (row : Row F). count_by_sense row.sense) lp.rows) (columns_of value lp) lp.columns)
+
+  -- the factor of each row where no point is feasible
+  abbrev pub farkas_back : List Number
+  farkas_back = map neg_ℚ (duals_from (multiplier (variables_of value lp) last.costs) 0 lp.rows)
+
+  -- the change of each column along the ray
+  abbrev pub ray_back : List Number
+  ray_back = map (λ column. changed_back column last.changes) (columns_of value lp)

@@ -1,0 +1,19 @@
+-- The numbers of a linear program: values of columns, coefficients and sums of rows.
+use Rattle.std.specs.Prelude.{ℕ, ◌==◌, pos, List, slice_index_or, if◌then◌else◌}
+use Rattle.gq_number.specs.Number.{Number, whole, ◌*ℚ◌}
+use Rattle.gq_number.specs.Sums.{sum_by_ℚ}
+
+-- Entries are pairs of a column's place and a coefficient; a point is the list of the columns' values. `value` is the
+-- number that a value of the field means.
+
+-- the value of a column at a point; 0 past the point's end
+abbrev pub number_of : List Number → ℕ → Number
+number_of x j = slice_index_or x j (whole (pos 0))
+
+-- the coefficient of a column: what the entries for it add up to, of which a row in order has one at most
+abbrev pub coefficient : {F : Type 0} → (F → Number) → List (ℕ × F) → ℕ → Number
+coefficient value entries j = sum_by_ℚ (λ e. if e.0 == j then value e.1 else whole (pos 0)) entries
+
+-- the sum of coefficient times value
+abbrev pub row_sum : {F : Type 0} → (F → Number) → List (ℕ × F) → List Number → Number
+row_sum value entries x = sum_by_ℚ (λ e. value e.1 *ℚ number_of x e.0) entries

@@ -1,0 +1,50 @@
+-- When a linear program is well formed.
+use Rattle.std.specs.Prelude.{◌≢◌, ℕ, ◌<◌, ◌≤◌, ◌+◌, pos, List, length, sum_by, Option, Some, None}
+use Rattle.std.specs.List.{All, AllPairs}
+use Rattle.gq_number.specs.Number.{Number, whole}
+use Rattle.lp_core.specs.declared.program.Sense.{Sense}
+use Rattle.lp_core.specs.declared.program.Sense.TheVariants as sense
+use Rattle.lp_core.specs.declared.program.Column.{Column}
+use Rattle.lp_core.specs.declared.program.Row.{Row}
+use Rattle.lp_core.specs.declared.program.Lp.{Lp}
+
+-- how many rows of the standard form a row has: an equation has two, a row that asks nothing none
+abbrev pub rows_of_sense : Sense → ℕ
+rows_of_sense sense.E = 2
+rows_of_sense sense.L = 1
+rows_of_sense sense.G = 1
+rows_of_sense sense.N = 0
+
+-- a column with two bounds has one row of the standard form, any other none
+abbrev pub rows_of_bounds : {F : Type 0} → Option F → Option F → ℕ
+rows_of_bounds (Some lower) (Some upper) = 1
+rows_of_bounds lower upper = 0
+
+-- how many variables of the standard form a column has: two where it has no bound
+abbrev pub variables_of_bounds : {F : Type 0} → Option F → Option F → ℕ
+variables_of_bounds None None = 2
+variables_of_bounds lower upper = 1
+
+-- the rows of the standard form
+abbrev pub standard_rows : {F : Type 0} → Lp F → ℕ
+standard_rows {F} lp = sum_by (λ (row : Row F). rows_of_sense row.sense) lp.rows + sum_by (λ (column : Column F). rows_of_bounds column.lower column.upper) lp.columns
+
+-- the variables of the standard form, without slacks
+abbrev pub standard_columns : {F : Type 0} → Lp F → ℕ
+standard_columns {F} lp = sum_by (λ (column : Column F). variables_of_bounds column.lower column.upper) lp.columns
+
+-- the entries of a row ascend by column, name columns that are there, and are not 0
+pub record AreEntries {F : Type 0} (value : F → Number) (columns : ℕ) (entries : List (ℕ × F)) : Type 0 where
+  pub ascending : AllPairs (λ (a b : ℕ × F). a.0 < b.0) entries
+  pub there : All (λ (e : ℕ × F). e.0 < columns) entries
+  pub not_zero : All (λ (e : ℕ × F). value e.1 ≢ whole (pos 0)) entries
+
+-- A well-formed program: its objective is one of its columns, keys are distinct, each row's entries are in order, and the
+-- standard form has at most 1,500 rows and 3,000 variables.
+pub record IsWellFormed {F : Type 0} (value : F → Number) (lp : Lp F) : Type 0 where
+  pub objective : lp.objective < length lp.columns
+  pub columns_differ : AllPairs (λ (a b : Column F). a.key ≢ b.key) lp.columns
+  pub rows_differ : AllPairs (λ (a b : Row F). a.key ≢ b.key) lp.rows
+  pub entries : All (λ (row : Row F). AreEntries value (length lp.columns) row.entries) lp.rows
+  pub rows_few : standard_rows lp ≤ 1500
+  pub columns_few : standard_columns lp ≤ 3000

@@ -1,0 +1,125 @@
+//! The answer of a linear program, and the steps that can keep it from being found.
+use crate::sequence::Sequence;
+
+/// One pivot of the simplex method: the variables that enter and leave the basis, by their numbers in the standard form.
+#[derive(Clone, Copy, Debug, PartialEq, Eq)]
+pub struct Pivot {
+    /// The variable that enters.
+    pub enter: u32,
+    /// The variable that leaves.
+    pub leave: u32,
+}
+
+/// Which pivots a solver takes.
+#[derive(Clone, Copy, Debug, PartialEq, Eq)]
+pub enum Rule {
+    /// Of the improving variables the least enters, and of the tied ones the least leaves.
+    Bland,
+    /// Any improving variable enters, and any tied one leaves.
+    Legal,
+}
+
+/// A step of the way from a program to its answer that may not fit under the limit of the numbers.
+///
+/// Part 0 of a step is a product or a quotient, part 1 a sum or a difference.
+#[derive(Clone, Copy, Debug, PartialEq, Eq)]
+pub enum StepName {
+    /// In the standard form: a bound is taken out of a row. Rows are standard rows and columns the program's, from 1.
+    Standard {
+        /// The standard row.
+        row: u32,
+        /// The column.
+        column: u32,
+        /// The part.
+        part: u8,
+    },
+    /// In the ratio test of a pivot: the quotient of a row. Pivots and rows count from 1.
+    Ratio {
+        /// The pivot.
+        pivot: u64,
+        /// The row.
+        row: u32,
+    },
+    /// In the exchange of a pivot: an entry of a row. Column 0 is the constant, and variable v is column v + 1.
+    Exchange {
+        /// The pivot.
+        pivot: u64,
+        /// The row; the objective comes after the last.
+        row: u32,
+        /// The column.
+        column: u32,
+        /// The part.
+        part: u8,
+    },
+    /// On the way back from a dictionary: 0 levels, 1 row levels, 2 duals, 3 reduced costs, 4 the ray.
+    Recover {
+        /// Which list.
+        what: u8,
+        /// The place in the list, from 0.
+        index: u64,
+        /// The place of the row's entry, from 0; 0 where there is none.
+        entry: u32,
+        /// The part.
+        part: u8,
+    },
+    /// In a check of a point or of duals: the steps count from 0.
+    Check {
+        /// The number of the step.
+        part: u64,
+    },
+}
+
+/// How the search for an answer ended.
+#[derive(Drop)]
+pub enum End<F> {
+    /// No feasible point is better.
+    Optimal {
+        /// The value of each column.
+        levels: Sequence<F>,
+        /// The sum of each row.
+        row_levels: Sequence<F>,
+        /// The dual value of each row.
+        duals: Sequence<F>,
+        /// The reduced cost of each column.
+        reduced: Sequence<F>,
+    },
+    /// No point is feasible.
+    Infeasible {
+        /// A factor for each row: so combined, the rows ask what no point gives.
+        duals: Sequence<F>,
+        /// The first column whose lower bound passes its upper one, where there is one.
+        crossed: Option<u32>,
+    },
+    /// There are better feasible points without end.
+    Unbounded {
+        /// The value of each column.
+        levels: Sequence<F>,
+        /// The sum of each row.
+        row_levels: Sequence<F>,
+        /// The direction in which points stay feasible and become better.
+        ray: Sequence<F>,
+    },
+    /// The limit of pivots was met.
+    Interrupted {
+        /// 1 until a feasible point is found, then 2.
+        phase: u8,
+        /// The value of each column; empty in phase 1.
+        levels: Sequence<F>,
+        /// The sum of each row; empty in phase 1.
+        row_levels: Sequence<F>,
+    },
+    /// A step does not fit under the limit of the numbers.
+    Refused {
+        /// The step.
+        step: StepName,
+    },
+}
+
+/// The answer of a linear program: the pivots that were taken, in order, and how they ended.
+#[derive(Drop)]
+pub struct Answer<F> {
+    /// The pivots.
+    pub pivots: Sequence<Pivot>,
+    /// The end.
+    pub end: End<F>,
+}

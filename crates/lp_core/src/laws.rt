@@ -1,0 +1,57 @@
+//! What the proofs of answers mean, for every program: laws on functions with empty bodies.
+ghost use Rattle.std.specs.Prelude.{◌≡◌, ℕ, true, false, pos, List, Some};
+ghost use Rattle.gq_number.specs.Number.{Number, whole, ◌+ℚ◌, ◌*ℚ◌};
+ghost use Rattle.gq_number.specs.Order.{◌≤ℚ◌, ◌<ℚ◌};
+ghost use Rattle.lp_core.specs.declared.program.Lp.{Lp};
+ghost use Rattle.lp_core.specs.Sums.{number_of};
+ghost use Rattle.lp_core.specs.Feasible.{Feasible};
+ghost use Rattle.lp_core.specs.WellFormed.{IsWellFormed};
+ghost use Rattle.lp_core.specs.DualBound.{dual_bound};
+ghost use Rattle.lp_core.specs.Proofs.{ProvesOptimal, ProvesInfeasible, ProvesCrossed, ProvesUnbounded, further};
+
+use gq_field::ExactField;
+
+/// No feasible point is better than the bound that duals give, and so none is better than an optimum that has its proof:
+/// weak duality, as in Chvatal, Linear Programming, chapter 5.
+pub fn weak_duality<F: ExactField>()
+    ensures least { (lp : Lp F) (duals x : List Number) (bound : Number) →
+        IsWellFormed F.value lp → Feasible F.value lp x → lp.maximize ≡ false →
+        dual_bound F.value lp duals ≡ Some bound → bound ≤ℚ number_of x lp.objective }
+    ensures greatest { (lp : Lp F) (duals x : List Number) (bound : Number) →
+        IsWellFormed F.value lp → Feasible F.value lp x → lp.maximize ≡ true →
+        dual_bound F.value lp duals ≡ Some bound → number_of x lp.objective ≤ℚ bound }
+    ensures optimum_is_least { (lp : Lp F) (levels row_levels duals reduced x : List Number) →
+        IsWellFormed F.value lp → ProvesOptimal F.value lp levels row_levels duals reduced →
+        lp.maximize ≡ false → Feasible F.value lp x →
+        number_of levels lp.objective ≤ℚ number_of x lp.objective }
+    ensures optimum_is_greatest { (lp : Lp F) (levels row_levels duals reduced x : List Number) →
+        IsWellFormed F.value lp → ProvesOptimal F.value lp levels row_levels duals reduced →
+        lp.maximize ≡ true → Feasible F.value lp x →
+        number_of x lp.objective ≤ℚ number_of levels lp.objective }
+{}
+
+/// A combination of rows that comes to more than 0 leaves no feasible point, since at each point it is 0: Farkas, as in
+/// Chvatal, Linear Programming, chapter 9.
+pub fn farkas<F: ExactField>()
+    ensures { (lp : Lp F) (duals x : List Number) → IsWellFormed F.value lp →
+        ProvesInfeasible F.value lp duals → ¬ (Feasible F.value lp x) }
+{}
+
+/// A column whose lower bound passes its upper one leaves no feasible point.
+pub fn crossed_bounds<F: ExactField>()
+    ensures { (lp : Lp F) (j : ℕ) (duals x : List Number) →
+        ProvesCrossed F.value lp j duals → ¬ (Feasible F.value lp x) }
+{}
+
+/// From the point, each multiple of the ray is feasible; and the objective passes every number on the way.
+pub fn unbounded_ray<F: ExactField>()
+    ensures feasible { (lp : Lp F) (levels row_levels ray : List Number) (t : Number) →
+        IsWellFormed F.value lp → ProvesUnbounded F.value lp levels row_levels ray →
+        whole (pos 0) ≤ℚ t → Feasible F.value lp (further levels t ray) }
+    ensures least { (lp : Lp F) (levels row_levels ray : List Number) (goal : Number) →
+        IsWellFormed F.value lp → ProvesUnbounded F.value lp levels row_levels ray → lp.maximize ≡ false →
+        (t : Number) × (whole (pos 0) ≤ℚ t) × (number_of (further levels t ray) lp.objective ≤ℚ goal) }
+    ensures greatest { (lp : Lp F) (levels row_levels ray : List Number) (goal : Number) →
+        IsWellFormed F.value lp → ProvesUnbounded F.value lp levels row_levels ray → lp.maximize ≡ true →
+        (t : Number) × (whole (pos 0) ≤ℚ t) × (goal ≤ℚ number_of (further levels t ray) lp.objective) }
+{}

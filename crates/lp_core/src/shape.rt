@@ -1,0 +1,198 @@
+//! Whether a program is well formed.
+ghost use Rattle.std.specs.Prelude.{◌≡◌, ◌≢◌, ◌≤◌, ◌+◌, ◌-◌, ◌^◌, ◌↔◌, ℕ, IsTrue, min, sum_by};
+ghost use Rattle.std.specs.List.{All, AllPairs};
+ghost use Rattle.lp_core.specs.WellFormed.{IsWellFormed, AreEntries, rows_of_sense, rows_of_bounds, variables_of_bounds};
+ghost use Rattle.lp_core.specs.Entries.{are_in_order};
+
+use crate::program::{Column, Lp, Row, Sense};
+use gq_field::ExactField;
+use lp_form::Key;
+use std::cmp::Ordering;
+
+/// The most rows of a standard form.
+const MOST_ROWS: usize = 1500;
+
+/// The most variables of a standard form, slacks not counted.
+const MOST_COLUMNS: usize = 3000;
+
+/// Whether two keys are the same.
+fn is_same(key: &Key, other: &Key) -> bool
+    ensures { IsTrue result ↔ (key.now ≡ other.now) }
+{
+    match key.cmp(other) {
+        Ordering::Equal => true,
+        _ => false,
+    }
+}
+
+/// Whether no column has this key.
+fn is_new_column<F>(key: &Key, columns: &[Column<F>]) -> bool
+    ensures { IsTrue result ↔ All (λ column. key.now ≢ column.key) columns.now }
+{
+    for column in columns {
+        if is_same(key, &column.key) {
+            return false;
+        }
+    }
+    true
+}
+
+/// Whether the keys of columns differ.
+fn columns_differ<F>(columns: &[Column<F>]) -> bool
+    ensures { IsTrue result ↔ AllPairs (λ a b. a.key ≢ b.key) columns.now }
+{
+    for (i, column) in columns.iter().enumerate() {
+        if !is_new_column(&column.key, &columns[i + 1..]) {
+            return false;
+        }
+    }
+    true
+}
+
+/// Whether no row has this key.
+fn is_new_row<F>(key: &Key, rows: &[Row<F>]) -> bool
+    ensures { IsTrue result ↔ All (λ row. key.now ≢ row.key) rows.now }
+{
+    for row in rows {
+        if is_same(key, &row.key) {
+            return false;
+        }
+    }
+    true
+}
+
+/// Whether the keys of rows differ.
+fn rows_differ<F>(rows: &[Row<F>]) -> bool
+    ensures { IsTrue result ↔ AllPairs (λ a b. a.key ≢ b.key) rows.now }
+{
+    for (i, row) in rows.iter().enumerate() {
+        if !is_new_row(&row.key, &rows[i + 1..]) {
+            return false;
+        }
+    }
+    true
+}
+
+/// Whether entries ascend by column, name one of so many columns, and are not 0.
+fn are_entries<F: ExactField>(entries: &[(u32, F)], columns: usize) -> bool
+    ensures { IsTrue result ↔ AreEntries F.value columns entries.now }
+{
+    let mut least: usize = 0;
+    for (column, coefficient) in entries {
+        let place = *column as usize;
+        if place < least {
+            return false;
+        }
+        if place >= columns {
+            return false;
+        }
+        if coefficient.is_zero() {
+            return false;
+        }
+        least = place + 1;
+    }
+    true
+}
+
+/// Whether the entries of each row are in order.
+fn have_entries<F: ExactField>(rows: &[Row<F>], columns: usize) -> bool
+    ensures { IsTrue result ↔ All (λ row. AreEntries F.value columns row.entries) rows.now }
+{
+    for row in rows {
+        if !are_entries(row.entries.as_slice(), columns) {
+            return false;
+        }
+    }
+    true
+}
+
+/// How many rows of the standard form a row has.
+fn rows_by_sense(sense: Sense) -> usize
+    ensures { result ≡ rows_of_sense sense }
+{
+    match sense {
+        Sense::E => 2,
+        Sense::L => 1,
+        Sense::G => 1,
+        Sense::N => 0,
+    }
+}
+
+/// How many rows of the standard form rows have, or the greatest `usize`.
+fn count_rows<F>(rows: &[Row<F>]) -> usize
+    ensures { result ≡ min (sum_by (λ row. rows_of_sense row.sense) rows.now) (2 ^ 64 - 1) }
+{
+    let mut count: usize = 0;
+    for row in rows {
+        count = count.saturating_add(rows_by_sense(row.sense));
+    }
+    count
+}
+
+/// How many rows of the standard form the bounds of a column have.
+fn rows_by_bounds<F>(column: &Column<F>) -> usize
+    ensures { result ≡ rows_of_bounds column.now.lower column.now.upper }
+{
+    match (&column.lower, &column.upper) {
+        (Some(_), Some(_)) => 1,
+        _ => 0,
+    }
+}
+
+/// How many variables of the standard form a column has.
+fn variables_by_bounds<F>(column: &Column<F>) -> usize
+    ensures { result ≡ variables_of_bounds column.now.lower column.now.upper }
+{
+    match (&column.lower, &column.upper) {
+        (None, None) => 2,
+        _ => 1,
+    }
+}
+
+/// How many columns have two bounds, or the greatest `usize`.
+fn count_bounds<F>(columns: &[Column<F>]) -> usize
+    ensures { result ≡ min (sum_by (λ column. rows_of_bounds column.lower column.upper) columns.now) (2 ^ 64 - 1) }
+{
+    let mut count: usize = 0;
+    for column in columns {
+        count = count.saturating_add(rows_by_bounds(column));
+    }
+    count
+}
+
+/// How many variables of the standard form columns have, or the greatest `usize`.
+fn count_variables<F>(columns: &[Column<F>]) -> usize
+    ensures { result ≡ min (sum_by (λ column. variables_of_bounds column.lower column.upper) columns.now) (2 ^ 64 - 1) }
+{
+    let mut count: usize = 0;
+    for column in columns {
+        count = count.saturating_add(variables_by_bounds(column));
+    }
+    count
+}
+
+/// Whether a program is well formed: its objective is one of its columns, keys are distinct, the entries of each row are
+/// in order, and its standard form has at most 1,500 rows and 3,000 variables.
+pub fn well_formed<F: ExactField>(lp: &Lp<F>) -> bool
+    ensures { IsTrue result ↔ IsWellFormed F.value lp.now }
+{
+    let columns = lp.columns.as_slice();
+    let rows = lp.rows.as_slice();
+    let standard_rows = count_rows(rows).saturating_add(count_bounds(columns));
+    if lp.objective as usize >= columns.len() {
+        return false;
+    }
+    if standard_rows > MOST_ROWS {
+        return false;
+    }
+    if count_variables(columns) > MOST_COLUMNS {
+        return false;
+    }
+    if !columns_differ(columns) {
+        return false;
+    }
+    if !rows_differ(rows) {
+        return false;
+    }
+    have_entries(rows, columns.len())
+}

@@ -1,0 +1,74 @@
+-- What the calls on affine forms give: a step on the constants, and one at each key.
+use Rattle.std.specs.Prelude.{◌≡◌, ℕ, pos, Bool, true, false, List, [], ◌∷◌, Some, None, Result, Ok, Err, map, if◌then◌else◌}
+use Rattle.std.specs.declared.cmp.Ordering.TheVariants.{Less}
+use Rattle.gq_number.specs.Number.{Number, whole, ◌+ℚ◌, ◌-ℚ◌, ◌*ℚ◌, ◌/ℚ◌, neg_ℚ}
+use Rattle.gq_field.specs.Fits.{fits, sum_fits}
+use Rattle.lp_form.specs.declared.key.Key.{Key}
+use Rattle.lp_form.specs.declared.fault.FormFault.{FormFault}
+use Rattle.lp_form.specs.declared.fault.FormFault.TheVariants as fault
+use Rattle.lp_form.specs.Keys.{key_cmp, same_key}
+use Rattle.lp_form.specs.Affine.{Affine, IsForm}
+
+-- the number that keys and their numbers have at a key; 0 where the key is not among them
+abbrev pub number_at : {F : Type 0} → (F → Number) → List Key → List F → Key → Number
+number_at value [] numbers key = whole (pos 0)
+number_at value (k ∷ keys) [] key = whole (pos 0)
+number_at value (k ∷ keys) (x ∷ numbers) key = if same_key k key then value x else number_at value keys numbers key
+
+-- the number of a form at a key; 0 where the key is not there
+abbrev pub coefficient : {F : Type 0} → (F → Number) → Affine F → Key → Number
+coefficient value form key = number_at value form.keys form.numbers key
+
+-- A step: the number that it gives, and whether the step fits under the limit of a field.
+pub record Step : Type 0 where
+  pub number : Number
+  pub fits : Bool
+
+-- A step on the constants, and one at each key.
+pub record Entrywise : Type 0 where
+  pub constant : Step
+  pub at : Key → Step
+
+-- the sum of two numbers under a limit
+abbrev pub sum_step : ℕ → Number → Number → Step
+sum_step limit x y = record { number = x +ℚ y; fits = sum_fits limit x y }
+
+-- the difference of two numbers under a limit: the sum with the negated second
+abbrev pub difference_step : ℕ → Number → Number → Step
+difference_step limit x y = record { number = x -ℚ y; fits = sum_fits limit x (neg_ℚ y) }
+
+-- the product of two numbers under a limit
+abbrev pub product_step : ℕ → Number → Number → Step
+product_step limit x y = record { number = x *ℚ y; fits = fits limit (x *ℚ y) }
+
+-- the quotient of two numbers under a limit
+abbrev pub quotient_step : ℕ → Number → Number → Step
+quotient_step limit x y = record { number = x /ℚ y; fits = fits limit (x /ℚ y) }
+
+-- a step on the constants of two forms, and on their numbers at each key
+abbrev pub of_two : {F : Type 0} → (Number → Number → Step) → (F → Number) → Affine F → Affine F → Entrywise
+of_two step value a b = record { constant = step (value a.constant) (value b.constant); at = λ key. step (coefficient value a key) (coefficient value b key) }
+
+-- a step on the constant of a form and a number, and on the form's number at each key and that number
+abbrev pub by_number : {F : Type 0} → (Number → Number → Step) → (F → Number) → Affine F → Number → Entrywise
+by_number step value a x = record { constant = step (value a.constant) x; at = λ key. step (coefficient value a key) x }
+
+-- All steps fit and the form has their numbers; or the fault is the first step that does not fit, that of the constants
+-- before those of the keys in order. Want of memory may come at any step.
+abbrev pub Gives : {F : Type 0} → (F → Number) → Entrywise → Result (Affine F) FormFault → Type 0
+Gives value steps (Ok form) =
+    (value form.constant ≡ steps.constant.number) × ((key : Key) → coefficient value form key ≡ (steps.at key).number) × (steps.constant.fits ≡ true) × ((key : Key) → (steps.at key).fits ≡ true) × IsForm value form
+Gives value steps (Err (fault.Limit None)) = steps.constant.fits ≡ false
+Gives value steps (Err (fault.Limit (Some key))) =
+    (steps.constant.fits ≡ true) × ((before : Key) → key_cmp before key ≡ Less → (steps.at before).fits ≡ true) × ((steps.at key).fits ≡ false)
+Gives value steps (Err fault.Memory) = Unit {0}
+
+-- a step on the constant of a form and on its number at each key
+abbrev pub changed_form : {F : Type 0} → (F → Number) → (Number → Step) → Affine F → Entrywise
+changed_form value step a = record { constant = step (value a.constant); at = λ key. step (coefficient value a key) }
+
+-- the second form is the first with its constant and its numbers negated
+pub record IsNegated {F : Type 0} (value : F → Number) (a b : Affine F) : Type 0 where
+  pub constant : value b.constant ≡ neg_ℚ (value a.constant)
+  pub keys : b.keys ≡ a.keys
+  pub numbers : map value b.numbers ≡ map (λ x. neg_ℚ (value x)) a.numbers

@@ -1,0 +1,19 @@
+-- The order of keys (Chvatal, Linear Programming, speaks of variables by their subscripts; here a subscript is a key).
+use Rattle.std.specs.Prelude.{Bool, List}
+use Rattle.std.specs.declared.cmp.Ordering.{Ordering}
+use Rattle.std.specs.Ordering.{nat_cmp, ordering_then, is_eq}
+use Rattle.std.specs.List.Sorted.{IsStrictlySortedBy}
+use Rattle.gms_tuple.specs.TupleOrder.{tuple_cmp}
+use Rattle.lp_form.specs.declared.key.Key.{Key}
+
+-- how two keys compare: by their symbols, and of one symbol by their tuples
+abbrev pub key_cmp : Key → Key → Ordering
+key_cmp a b = ordering_then (nat_cmp a.symbol b.symbol) (tuple_cmp a.tuple b.tuple)
+
+-- whether two keys are the same
+abbrev pub same_key : Key → Key → Bool
+same_key a b = is_eq (key_cmp a b)
+
+-- the keys are distinct and in order: each comes before those after it
+abbrev pub AreOrdered : List Key → Type 0
+AreOrdered keys = IsStrictlySortedBy key_cmp keys

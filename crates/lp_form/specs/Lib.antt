@@ -1,0 +1,5 @@
+pub mod Affine
+pub mod Forms
+pub mod Keys
+pub mod Merging
+pub mod Operations

@@ -1,0 +1,199 @@
+//! An affine form and the calls on it.
+ghost use Rattle.std.specs.Prelude.{◌≡◌, ◌≢◌, ◌∷◌, [], pos, map, IfOk, OnErr};
+ghost use Rattle.std.specs.Result.{result_map_both};
+ghost use Rattle.gq_number.specs.Number.{whole};
+ghost use Rattle.lp_form.specs.Affine.{IsForm};
+ghost use Rattle.lp_form.specs.Forms.{coefficient, sum_step, difference_step, product_step, quotient_step, of_two, by_number, changed_form, Gives, IsNegated};
+ghost use Rattle.lp_form.specs.Operations.{step_by, CanDivide};
+
+use crate::fault::FormFault;
+use crate::key::Key;
+use crate::terms::{Operation, Terms, changed, copied, join, negated};
+use gq_field::ExactField;
+use std::alloc::{AllocError, Global};
+use std::marker::Model;
+
+/// A constant, and a number that is not 0 for each of finitely many keys, in the order of keys.
+///
+/// The left side of `cost.. z - 2*x =e= 5;` is the form with the constant 0, the number 1 at `z` and -2 at `x`. A key
+/// that is not there has the number 0.
+#[derive(Drop)]
+pub struct Form<F: ExactField> {
+    constant: F,
+    keys: Vec<Key>,
+    numbers: Vec<F>,
+}
+
+impl<F: ExactField> Model for Form<F> {
+    ghost use Rattle.lp_form.specs.Affine.{Affine, IsForm};
+
+    ghost Value = { Affine F };
+
+    ghost view = { λ f. record { constant = f.constant; keys = f.keys.items; numbers = f.numbers.items } };
+
+    ghost invariant = { λ f. IsForm F.value (record { constant = f.constant; keys = f.keys.items; numbers = f.numbers.items }) };
+}
+
+impl<F: ExactField> Form<F> {
+    /// The form of a constant alone.
+    pub fn constant(alloc: Global, v: F) -> Form<F>
+        ensures constant { result.constant ≡ v }
+        ensures keys { result.keys ≡ [] }
+        ensures form { IsForm F.value result }
+    {
+        Form {
+            constant: v,
+            keys: Vec::new(alloc),
+            numbers: Vec::new(alloc),
+        }
+    }
+
+    /// The form with the number 1 at one key.
+    pub fn column(alloc: Global, k: Key) -> Result<Form<F>, AllocError>
+        ensures constant { IfOk result (λ form. F.value form.constant ≡ whole (pos 0)) }
+        ensures keys { IfOk result (λ form. form.keys ≡ k ∷ []) }
+        ensures number { IfOk result (λ form. map F.value form.numbers ≡ whole (pos 1) ∷ []) }
+        ensures form { IfOk result (IsForm F.value) }
+    {
+        let mut keys = Vec::new(alloc);
+        let mut numbers = Vec::new(alloc);
+        keys.push(k)?;
+        numbers.push(F::one())?;
+        Ok(Form {
+            constant: F::zero(),
+            keys,
+            numbers,
+        })
+    }
+
+    /// The number of a key, which is 0 where the key is not there.
+    pub fn get(&self, k: &Key) -> F
+        ensures { F.value result ≡ coefficient F.value self.now k.now }
+    {
+        match self.keys.as_slice().binary_search(k) {
+            Ok(place) => self.numbers[place],
+            Err(_) => F::zero(),
+        }
+    }
+
+    /// The constant.
+    pub fn offset(&self) -> F
+        ensures { result ≡ self.now.constant }
+    {
+        self.constant
+    }
+
+    /// The keys, in order.
+    pub fn keys(&self) -> &[Key]
+        ensures keys { result.now ≡ self.now.keys }
+        ensures form { IsForm F.value self.now }
+    {
+        self.keys.as_slice()
+    }
+
+    /// The numbers, in the order of their keys.
+    pub fn numbers(&self) -> &[F]
+        ensures numbers { result.now ≡ self.now.numbers }
+        ensures form { IsForm F.value self.now }
+    {
+        self.numbers.as_slice()
+    }
+
+    /// An equal form.
+    pub fn copy(&self, alloc: Global) -> Result<Form<F>, AllocError>
+        ensures { IfOk result (λ copy. copy ≡ self.now) }
+    {
+        Ok(Form {
+            constant: self.constant,
+            keys: copied(alloc, self.keys.as_slice())?,
+            numbers: Vec::from_slice(alloc, self.numbers.as_slice())?,
+        })
+    }
+
+    /// Adds the other form: the constants, and the numbers at each key.
+    ///
+    /// Where the other's keys come behind all that are there, the cost does not depend on how many these are. After a
+    /// fault the form is as it was.
+    pub fn add_assign(&mut self, alloc: Global, o: &Form<F>) -> Result<(), FormFault>
+        ensures value { Gives F.value (of_two (sum_step F.limit) F.value self.old o.now)
+            (result_map_both (λ _. self.new) (λ fault. fault) result) }
+        ensures unchanged { OnErr result (self.new ≡ self.old) }
+    {
+        let Ok(constant) = self.constant.add(o.constant) else {
+            return Err(FormFault::Limit(None));
+        };
+        join(
+            alloc,
+            &mut self.keys,
+            &mut self.numbers,
+            o.keys.as_slice(),
+            o.numbers.as_slice(),
+        )?;
+        self.constant = constant;
+        Ok(())
+    }
+
+    /// The sum with the other form: of the constants, and of the numbers at each key.
+    pub fn add(&self, alloc: Global, o: &Form<F>) -> Result<Form<F>, FormFault>
+        ensures { Gives F.value (of_two (sum_step F.limit) F.value self.now o.now) result }
+    {
+        let mut sum = self.copy(alloc)?;
+        sum.add_assign(alloc, o)?;
+        Ok(sum)
+    }
+
+    /// The difference with the other form, which is the sum with the other one negated, with its faults.
+    pub fn sub(&self, alloc: Global, o: &Form<F>) -> Result<Form<F>, FormFault>
+        ensures { Gives F.value (of_two (difference_step F.limit) F.value self.now o.now) result }
+    {
+        let negated = o.negated(alloc)?;
+        self.add(alloc, &negated)
+    }
+
+    /// The form with each number times `v`.
+    pub fn scale(&self, alloc: Global, v: F) -> Result<Form<F>, FormFault>
+        ensures { Gives F.value (by_number (product_step F.limit) F.value self.now (F.value v)) result }
+    {
+        self.after(alloc, Operation::Times(v))
+    }
+
+    /// The form with each number over `v`, which is not 0.
+    pub fn divide(&self, alloc: Global, v: F) -> Result<Form<F>, FormFault>
+        requires { F.value v ≢ whole (pos 0) }
+        ensures { Gives F.value (by_number (quotient_step F.limit) F.value self.now (F.value v)) result }
+    {
+        self.after(alloc, Operation::Over(v))
+    }
+
+    /// The form with each number negated.
+    fn negated(&self, alloc: Global) -> Result<Form<F>, AllocError>
+        ensures { IfOk result (IsNegated F.value self.now) }
+    {
+        Ok(Form {
+            constant: self.constant.neg(),
+            keys: copied(alloc, self.keys.as_slice())?,
+            numbers: negated(alloc, self.numbers.as_slice())?,
+        })
+    }
+
+    /// The form with each number after an operation.
+    fn after(&self, alloc: Global, operation: Operation<F>) -> Result<Form<F>, FormFault>
+        requires { CanDivide F.value operation }
+        ensures { Gives F.value (changed_form F.value (step_by F.value F.limit operation) self.now) result }
+    {
+        let Ok(constant) = operation.apply(self.constant) else {
+            return Err(FormFault::Limit(None));
+        };
+        let Terms { keys, numbers } = changed(
+            alloc,
+            operation,
+            self.keys.as_slice(),
+            self.numbers.as_slice(),
+        )?;
+        Ok(Form {
+            constant,
+            keys,
+            numbers,
+        })
+    }
+}

@@ -1,0 +1,28 @@
+//! What an entry of a form belongs to: an element of a symbol.
+ghost use Rattle.std.specs.Prelude.{◌≡◌, IfOk};
+
+use gms_tuple::Tuple;
+use std::alloc::{AllocError, Global};
+
+/// An element of a symbol, such as `x(seattle,chicago)`: the symbol by its number, and the tuple of labels.
+///
+/// Keys are ordered by their symbols, and those of one symbol by their tuples.
+#[derive(PartialEq, Eq, PartialOrd, Ord, Drop)]
+pub struct Key {
+    /// The symbol, by its number.
+    pub symbol: u32,
+    /// The labels of the element, of which there are none for a symbol without indices.
+    pub tuple: Tuple,
+}
+
+impl Key {
+    /// An equal key.
+    pub fn copy(&self, alloc: Global) -> Result<Key, AllocError>
+        ensures { IfOk result (λ copy. copy ≡ self.now) }
+    {
+        Ok(Key {
+            symbol: self.symbol,
+            tuple: self.tuple.copy(alloc)?,
+        })
+    }
+}

@@ -1,0 +1,13 @@
+//! Affine forms: a constant and a number for each key, computed with exactly and entry by entry.
+#![tactic(auto)]
+
+mod fault;
+mod form;
+mod key;
+mod terms;
+#[cfg(test)]
+mod tests;
+
+pub use fault::FormFault;
+pub use form::Form;
+pub use key::Key;
