@@ -1,12 +1,12 @@
 -- The laws of readers at the grammar of the language.
-use Rattle.std.proofs.Common.{◌≡◌, List, []}
+use Rattle.std.proofs.Common.{◌≡◌, List, [], ◌++◌}
 use Rattle.gms_grammar.specs.declared.terminal.Terminal.{Terminal}
-use Rattle.gms_grammar.specs.Grammar.{the, Tree, yield, IsTree, Derives, Stops}
-use Rattle.gms_grammar.specs.Reading.{Found, read, stuck, Reads}
+use Rattle.gms_grammar.specs.Grammar.{the, Tree, yield, IsTree, Derives, Begins, Stops}
+use Rattle.gms_grammar.specs.Reading.{Found, read, stuck, Reads, Takes}
 use Rattle.gms_grammar.specs.GamsGrammar.{Nonterminal, productions}
 use Rattle.gms_grammar.specs.GamsLookAhead.{look_ahead}
 use Rattle.gms_grammar.proofs.Complete.{complete_alone, unique}
-use Rattle.gms_grammar.proofs.Productive.{read_stops, stuck_stops, stuck_none}
+use Rattle.gms_grammar.proofs.Productive.{read_stops, stuck_stops, stuck_none, takes_on}
 use Rattle.gms_grammar.proofs.Sound.{sound}
 use Rattle.gms_grammar.proofs.Total.{finds}
 use Rattle.gms_grammar.proofs.Decided.{gams_decided}
@@ -32,6 +32,11 @@ module _ {D : Type 0} where
   pub gams_stuck_none : D → (n : Nonterminal) (tokens front rest : List (Terminal × D)) → Reads productions look_ahead (the n) tokens (stuck front rest) → Derives productions (the n) front → ⊥
   gams_stuck_none known n tokens front rest r =
       stuck_none productions look_ahead gams_decided known (the n) (look_ahead.follow n) tokens front rest (λ c w. w) r
+
+  pub gams_takes : D → (n : Nonterminal) (tokens front rest : List (Terminal × D)) → Takes productions look_ahead (the n) tokens front rest → (tokens ≡ front ++ rest) × Begins productions (the n) front
+  gams_takes known n tokens front rest r =
+      let t = takes_on productions look_ahead gams_decided known r (look_ahead.follow n) (λ c w. w) in
+      (t.0, record { further = t.1.further; derives = record { tree = t.1.tree; is_tree = t.1.is_tree; yields = t.1.yields } })
 
   pub gams_finds : (n : Nonterminal) (tokens : List (Terminal × D)) → (found : Found (Terminal × D)) × Reads productions look_ahead (the n) tokens found
   gams_finds n tokens =

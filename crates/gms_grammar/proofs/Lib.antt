@@ -9,3 +9,6 @@ pub mod Decided
 pub mod Total
 pub mod Stopping
 pub mod Language
+pub mod Plain
+pub mod PlainProgram
+pub mod PlainNamed

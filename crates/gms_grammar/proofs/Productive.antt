@@ -3,8 +3,8 @@ use Rattle.std.proofs.Common.{◌≡◌, ◌⊎◌, inl, inr, ℕ, zero, suc, �
 use Rattle.std.specs.Prelude.{⊤}
 use Rattle.gms_grammar.specs.Grammar.{Part, one, the, ◌·◌, ◌∣◌, opt, many, Tree, leaf, pair, left, right, none, some, more, node, yield, IsTree, Derives, IsUnexpected, Stops}
 use Rattle.gms_grammar.specs.LookAhead.{LookAhead, may_begin, may_go_on, IsDecided, DecidesEach, ends_below}
-use Rattle.gms_grammar.specs.Reading.{Found, read, stuck, Reads, taken, refused, entered, entered_stuck, both, first_stuck, second_stuck, in_left, in_left_stuck, in_right, in_right_stuck, in_neither, left_out, there, there_stuck, no_more, again, again_stuck, later_stuck}
-use Rattle.gms_grammar.proofs.Basics.{end_nil, not_longer}
+use Rattle.gms_grammar.specs.Reading.{Found, read, stuck, Reads, taken, refused, entered, entered_stuck, both, first_stuck, second_stuck, in_left, in_left_stuck, in_right, in_right_stuck, in_neither, left_out, there, there_stuck, no_more, again, again_stuck, later_stuck, Takes, takes_one, takes_the, takes_first, takes_second, takes_left, takes_right, takes_opt, takes_many, takes_later}
+use Rattle.gms_grammar.proofs.Basics.{end_nil, not_longer, regrouped}
 use Rattle.gms_grammar.proofs.Sound.{sound}
 use Rattle.gms_grammar.proofs.Only.{only}
 
@@ -132,6 +132,58 @@ module _ {C N D : Type 0} (production : N → Part C N) (ahead : LookAhead C N) 
         further = u.further;
         yields = ap (λ w. yield a ++ w) u.yields ∙ sym (append_assoc (yield a) front u.further);
       }
+
+  -- what a reader goes over begins a list that the part derives
+  pub takes_on : {part : Part C N} {tokens front rest : List (C × D)} → Takes production ahead part tokens front rest → (after : C → Bool) → IsDecided ahead part after → (tokens ≡ front ++ rest) × GoesOn part front
+  takes_on (takes_one {token = token} h) after d = (refl, record { tree = leaf token; is_tree = h; further = []; yields = refl })
+  takes_on (takes_the {n = n} r) after d =
+      let t = takes_on r (ahead.follow n) (ok.decided n) in
+      (t.0, record { tree = node t.1.tree; is_tree = t.1.is_tree; further = t.1.further; yields = t.1.yields })
+  takes_on (takes_first {p = p} {q = q} {front = front} r) after d =
+      let t = takes_on r (may_go_on ahead q after) d.0 in
+      let u = has_tree q after d.1 in (
+        t.0,
+        record {
+          tree = pair t.1.tree u.tree;
+          is_tree = (t.1.is_tree, u.is_tree);
+          further = t.1.further ++ yield u.tree;
+          yields = ap (λ w. w ++ yield u.tree) t.1.yields ∙ append_assoc front t.1.further (yield u.tree);
+        },
+      )
+  takes_on (takes_second {p = p} {q = q} {front = front} {a = a} r s) after d =
+      let u = takes_on s after d.1 in
+      let v = sound production ahead r in (
+        regrouped _ _ _ _ _ v.1 u.0,
+        record {
+          tree = pair a u.1.tree;
+          is_tree = (v.0, u.1.is_tree);
+          further = u.1.further;
+          yields = ap (λ w. yield a ++ w) u.1.yields ∙ sym (append_assoc (yield a) front u.1.further);
+        },
+      )
+  takes_on (takes_left r) after d =
+      let t = takes_on r after d.3 in
+      (t.0, record { tree = left t.1.tree; is_tree = t.1.is_tree; further = t.1.further; yields = t.1.yields })
+  takes_on (takes_right r) after d =
+      let t = takes_on r after d.4 in
+      (t.0, record { tree = right t.1.tree; is_tree = t.1.is_tree; further = t.1.further; yields = t.1.yields })
+  takes_on (takes_opt r) after d =
+      let t = takes_on r after d.2 in
+      (t.0, record { tree = some t.1.tree; is_tree = t.1.is_tree; further = t.1.further; yields = t.1.yields })
+  takes_on (takes_many {p = p} r) after d =
+      let t = takes_on r (λ c. may_begin ahead p c || after c) d.2 in
+      (t.0, record { tree = more t.1.tree none; is_tree = (t.1.is_tree, tt); further = t.1.further; yields = end_nil (yield t.1.tree) ∙ t.1.yields })
+  takes_on (takes_later {p = p} {front = front} {a = a} r s) after d =
+      let u = takes_on s after d in
+      let v = sound production ahead r in (
+        regrouped _ _ _ _ _ v.1 u.0,
+        record {
+          tree = more a u.1.tree;
+          is_tree = (v.0, u.1.is_tree);
+          further = u.1.further;
+          yields = ap (λ w. yield a ++ w) u.1.yields ∙ sym (append_assoc (yield a) front u.1.further);
+        },
+      )
 
   -- where a tree is read, its tokens are as many as begin a list that the part derives
   pub read_stops : (part : Part C N) (after : C → Bool) (tokens : List (C × D)) (tree : Tree (C × D)) (rest : List (C × D)) → IsDecided ahead part after → Reads production ahead part tokens (read tree rest) → Stops production part tokens (yield tree) rest

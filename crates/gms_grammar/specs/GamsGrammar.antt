@@ -1,5 +1,6 @@
 -- The grammar of the language (GAMS User's Guide, "GAMS Programs", "Sets", "Data Entry", "Data Manipulation", "Variables",
--- "Equations", "Model and Solve Statements", "Display", "Programming Flow Control Features").
+-- "Equations", "Model and Solve Statements", "Display", "Programming Flow Control Features"). One token decides each production;
+-- where this wanted another form than the plain one, PlainGrammar has the plain one, which derives the same.
 use Rattle.std.specs.Prelude.{List, [], ◌∷◌}
 use Rattle.gms_grammar.specs.declared.terminal.Terminal.{Terminal}
 use Rattle.gms_grammar.specs.declared.terminal.Terminal.TheVariants.{Abort, Alias, Display, Equation, Loop, Model, Option, Parameter, Scalar, Set, Solve, Table, Variable, VariableType, Name, Suffix, Function, OrdCard, FoldOp, Infinity, NotAvailable, YesNo, Not, And, Or, RelationWord, All, Using, Direction, Reserved, Label, Number, Text, LongText, Sense, Power, DotDot, Relation, Circular, Sign, Star, Slash, Equals, LeftParen, RightParen, Comma, Semicolon, Dot, Dollar, Break, TableLine}

@@ -4,3 +4,4 @@ pub mod Reading
 pub mod Terminals
 pub mod GamsGrammar
 pub mod GamsLookAhead
+pub mod PlainGrammar

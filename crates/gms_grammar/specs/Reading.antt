@@ -55,3 +55,18 @@ module _ {C N D : Type 0} (production : N → Part C N) (ahead : LookAhead C N) 
     later_stuck : {p : Part C N} {tokens between front rest : List (C × D)} {a : Tree (C × D)} →
         leads p tokens ≡ true →
         Reads p tokens (read a between) → Reads (many p) between (stuck front rest) → Reads (many p) tokens (stuck (yield a ++ front) rest)
+
+  -- A reader of a part goes over the tokens in front, which are at least one, within the part or up to its end.
+  pub data Takes : Part C N → List (C × D) → List (C × D) → List (C × D) → Type 0 where
+    takes_one : {test : C → Bool} {token : C × D} {rest : List (C × D)} →
+        test token.0 ≡ true → Takes (one test) (token ∷ rest) (token ∷ []) rest
+    takes_the : {n : N} {tokens front rest : List (C × D)} → Takes (production n) tokens front rest → Takes (the n) tokens front rest
+    takes_first : {p q : Part C N} {tokens front rest : List (C × D)} → Takes p tokens front rest → Takes (p · q) tokens front rest
+    takes_second : {p q : Part C N} {tokens between front rest : List (C × D)} {a : Tree (C × D)} →
+        Reads p tokens (read a between) → Takes q between front rest → Takes (p · q) tokens (yield a ++ front) rest
+    takes_left : {p q : Part C N} {tokens front rest : List (C × D)} → Takes p tokens front rest → Takes (p ∣ q) tokens front rest
+    takes_right : {p q : Part C N} {tokens front rest : List (C × D)} → Takes q tokens front rest → Takes (p ∣ q) tokens front rest
+    takes_opt : {p : Part C N} {tokens front rest : List (C × D)} → Takes p tokens front rest → Takes (opt p) tokens front rest
+    takes_many : {p : Part C N} {tokens front rest : List (C × D)} → Takes p tokens front rest → Takes (many p) tokens front rest
+    takes_later : {p : Part C N} {tokens between front rest : List (C × D)} {a : Tree (C × D)} →
+        Reads p tokens (read a between) → Takes (many p) between front rest → Takes (many p) tokens (yield a ++ front) rest

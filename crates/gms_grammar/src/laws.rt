@@ -1,9 +1,10 @@
 //! Laws of the grammar. In each, `D` is what a token tells beside its kind, as its place.
-ghost use Rattle.std.specs.Prelude.{◌≡◌, List, []};
+ghost use Rattle.std.specs.Prelude.{◌≡◌, ◌↔◌, List, [], ◌++◌};
 ghost use Rattle.gms_grammar.specs.declared.terminal.Terminal.{Terminal};
-ghost use Rattle.gms_grammar.specs.Grammar.{the, Tree, yield, IsTree, Derives, Stops};
-ghost use Rattle.gms_grammar.specs.Reading.{Found, read, stuck, Reads};
-ghost use Rattle.gms_grammar.specs.GamsGrammar.{Nonterminal, productions};
+ghost use Rattle.gms_grammar.specs.Grammar.{the, Tree, yield, IsTree, Derives, Begins, Stops};
+ghost use Rattle.gms_grammar.specs.Reading.{Found, read, stuck, Reads, Takes};
+ghost use Rattle.gms_grammar.specs.GamsGrammar.{Nonterminal, Program, NamedStatement, LoopBody, SetItems, SetItem, ParameterItems, ParameterItem, ScalarItems, ScalarItem, PlainItems, PlainItem, ModelItems, ModelItem, productions};
+ghost use Rattle.gms_grammar.specs.PlainGrammar.{plain_program, plain_named, plain_body, plain_items};
 ghost use Rattle.gms_grammar.specs.GamsLookAhead.{look_ahead};
 
 /// What a nonterminal derives, and where tokens cease to begin it.
@@ -24,7 +25,8 @@ pub fn derivation_laws<D>()
 /// It finds something in each list of tokens. Where that is a tree, it is one of the nonterminal, and its tokens are as many
 /// as begin something that this derives: they are the longest part. Where the reader is stuck, it has gone over as many
 /// tokens as begin something, and these alone are nothing that the nonterminal derives: the next token is the first
-/// unexpected one. In the tokens of a tree it finds that tree.
+/// unexpected one. In the tokens of a tree it finds that tree. The tokens that it has gone over, wherever it is, begin
+/// something that the nonterminal derives.
 pub fn reading_laws<D>()
     ensures finds { (n : Nonterminal) (tokens : List (Terminal × D)) →
         (found : Found (Terminal × D)) × Reads productions look_ahead (the n) tokens found }
@@ -38,4 +40,27 @@ pub fn reading_laws<D>()
         Reads productions look_ahead (the n) tokens (stuck front rest) → Derives productions (the n) front → ⊥ }
     ensures complete { (n : Nonterminal) (tree : Tree (Terminal × D)) →
         IsTree productions (the n) tree → Reads productions look_ahead (the n) (yield tree) (read tree []) }
+    ensures gone_over { D → (n : Nonterminal) (tokens front rest : List (Terminal × D)) →
+        Takes productions look_ahead (the n) tokens front rest → (tokens ≡ front ++ rest) × Begins productions (the n) front }
+{}
+
+/// Where the table has a production in another form than the one that reads best, so that one token decides it, both derive
+/// the same.
+pub fn plain_laws<D>()
+    ensures program { (tokens : List (Terminal × D)) →
+        Derives productions (the Program) tokens ↔ Derives productions plain_program tokens }
+    ensures named { (tokens : List (Terminal × D)) →
+        Derives productions (the NamedStatement) tokens ↔ Derives productions plain_named tokens }
+    ensures body { (tokens : List (Terminal × D)) →
+        Derives productions (the LoopBody) tokens ↔ Derives productions plain_body tokens }
+    ensures sets { (tokens : List (Terminal × D)) →
+        Derives productions (the SetItems) tokens ↔ Derives productions (plain_items SetItem) tokens }
+    ensures parameters { (tokens : List (Terminal × D)) →
+        Derives productions (the ParameterItems) tokens ↔ Derives productions (plain_items ParameterItem) tokens }
+    ensures scalars { (tokens : List (Terminal × D)) →
+        Derives productions (the ScalarItems) tokens ↔ Derives productions (plain_items ScalarItem) tokens }
+    ensures variables { (tokens : List (Terminal × D)) →
+        Derives productions (the PlainItems) tokens ↔ Derives productions (plain_items PlainItem) tokens }
+    ensures models { (tokens : List (Terminal × D)) →
+        Derives productions (the ModelItems) tokens ↔ Derives productions (plain_items ModelItem) tokens }
 {}

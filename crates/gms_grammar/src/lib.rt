@@ -4,5 +4,5 @@
 mod laws;
 mod terminal;
 
-pub use laws::{derivation_laws, reading_laws};
+pub use laws::{derivation_laws, plain_laws, reading_laws};
 pub use terminal::Terminal;
