@@ -1,0 +1,142 @@
+-- What the declarations of a program declare.
+-- GAMS User's Guide, "Set Definition", "Variables", "Equations", "Model and Solve Statements". That the first declaration of a name counts is this project's own rule.
+use Rattle.std.specs.Prelude.{ℕ, Bool, true, false, List, [], ◌∷◌, length, map, set, replicate, Option, None, option_map, if◌then◌else◌, ◌&&◌}
+use Rattle.std.specs.List.{fold}
+use Rattle.std.specs.FinMap as finite
+use Rattle.gms_ast.specs.declared.word.Named.{Named}
+use Rattle.gms_ast.specs.declared.declaration.DeclKind.{DeclKind}
+use Rattle.gms_ast.specs.declared.declaration.DeclKind.TheVariants.{Set, Parameter, Scalar, Table, Free, Positive, Negative, Discrete, Equation}
+use Rattle.gms_ast.specs.declared.declaration.Decl.{Decl}
+use Rattle.gms_ast.specs.declared.declaration.ModelDecl.{ModelDecl}
+use Rattle.gms_ast.specs.declared.program.Act.{Act}
+use Rattle.gms_ast.specs.declared.program.Act.TheVariants.{Declare, Alias, Model}
+use Rattle.gms_ast.specs.declared.program.Stmt.{Stmt}
+use Rattle.gms_ast.specs.declared.program.Program.{Program}
+use Rattle.gms_store.specs.declared.kind.VariableType.TheVariants as type
+use Rattle.gms_store.specs.declared.kind.SymbolKind.{SymbolKind}
+use Rattle.gms_store.specs.declared.kind.SymbolKind.TheVariants as kind
+use Rattle.gms_store.specs.declared.settings.Settings.{Settings}
+use Rattle.gms_store.specs.State.{Content, undeclared, alias_of, set_of, parameter_of, variable_of, equation_of, model_with, Symbol, State, with_content, no_symbol, symbol_at, base_of}
+
+-- the sets of a domain, by the numbers of their names
+abbrev pub names_of : List (Option Named) → List (Option ℕ)
+names_of domain = map (λ position. option_map (λ (named : Named). named.name) position) domain
+
+-- the positions of a name: a set has one, of any label, where none is written
+abbrev pub positions_of : DeclKind → List (Option ℕ) → List (Option ℕ)
+positions_of Set [] = None ∷ []
+positions_of kind domain = domain
+
+-- what a kind of declaration declares, with nothing given
+abbrev pub content_of : DeclKind → Content
+content_of Set = set_of []
+content_of Parameter = parameter_of finite.empty
+content_of Scalar = parameter_of finite.empty
+content_of Table = parameter_of finite.empty
+content_of Free = variable_of type.Free finite.empty
+content_of Positive = variable_of type.Positive finite.empty
+content_of Negative = variable_of type.Negative finite.empty
+content_of Discrete = variable_of type.Discrete finite.empty
+content_of Equation = equation_of finite.empty
+
+-- the symbol that a declaration of a new name declares
+abbrev pub symbol_of_kind : DeclKind → List (Option ℕ) → Symbol
+symbol_of_kind kind domain = record { domain = positions_of kind domain; content = content_of kind }
+
+-- a variable whose type is free takes the type of a later declaration, with nothing given; nothing else changes
+abbrev pub retyped : Content → Content → Content
+retyped (variable_of type.Free entries) (variable_of type none) = variable_of type none
+retyped content later = content
+
+-- whether a content is that of a set, or of another name of one
+abbrev pub is_set : Content → Bool
+is_set (set_of members) = true
+is_set (alias_of base) = true
+is_set content = false
+
+-- whether nothing is declared
+abbrev pub is_undeclared : Content → Bool
+is_undeclared undeclared = true
+is_undeclared content = false
+
+-- a symbol after one more declaration of its name: the first counts
+abbrev pub declared_again : DeclKind → List (Option ℕ) → Symbol → Symbol
+declared_again kind domain symbol =
+    if is_undeclared symbol.content then symbol_of_kind kind domain else with_content symbol (retyped symbol.content (content_of kind))
+
+-- the state with another symbol at the name of this number
+abbrev pub put_at : State → ℕ → Symbol → State
+put_at state name symbol = record { symbols = set state.symbols name symbol; settings = state.settings }
+
+-- the state after one more declaration of a name
+abbrev pub declare : DeclKind → List (Option ℕ) → State → ℕ → State
+declare kind domain state name =
+    put_at state name (declared_again kind domain (symbol_at state name))
+
+-- what a name is declared as; another name of a set is a set
+abbrev pub kind_in : Content → SymbolKind
+kind_in undeclared = kind.Undeclared
+kind_in (alias_of base) = kind.Set
+kind_in (set_of members) = kind.Set
+kind_in (parameter_of entries) = kind.Parameter
+kind_in (variable_of type entries) = kind.Variable
+kind_in (equation_of entries) = kind.Equation
+kind_in (model_with model solver) = kind.Model
+
+-- another name of a set
+abbrev pub alias_symbol : ℕ → Symbol
+alias_symbol base = record { domain = []; content = alias_of base }
+
+-- a model before any solve
+abbrev pub model_symbol : Symbol
+model_symbol = record { domain = []; content = model_with 0 0 }
+
+-- the state after a name was made another name of a set
+abbrev pub join_name : State → ℕ → ℕ → State
+join_name state old new = put_at state new (alias_symbol (base_of state old))
+
+-- whether the second name can be made another name of the first: that is a set, and the second is new
+abbrev pub can_join : State → ℕ → ℕ → Bool
+can_join state old new = is_set (symbol_at state old).content && is_undeclared (symbol_at state new).content
+
+-- the state after `alias (first, second)`: one is a set declared before, and the other is new. Where it is not so, which is an error of the program, a name that is not declared becomes a set
+abbrev pub declare_alias : State → ℕ → ℕ → State
+declare_alias state first second =
+    if can_join state first second then join_name state first second else if can_join state second first then join_name state second first else declare Set [] (declare Set [] state first) second
+
+-- the state after a model was declared: the first declaration of a name counts
+abbrev pub declare_model : State → ℕ → State
+declare_model state name =
+    if is_undeclared (symbol_at state name).content then put_at state name model_symbol else state
+
+-- the state after models were declared
+abbrev pub declare_models : State → List ModelDecl → State
+declare_models state models = fold (λ state (model : ModelDecl). declare_model state model.named.name) state models
+
+-- the settings that a run begins with
+abbrev pub first_settings : Settings
+first_settings = record { limrow = 3; limcol = 3; iterlim = 1000; decimals = 3; solprint = true; solver = 0 }
+
+-- the state of so many names, of which none is declared
+abbrev pub blank_state : ℕ → State
+blank_state names = record { symbols = replicate names no_symbol; settings = first_settings }
+
+module _ {F : Type 0} where
+  -- the state after the declarations of one kind
+  abbrev pub declare_each : DeclKind → State → List (Decl F) → State
+  declare_each kind state items = fold (λ state (item : Decl F). declare kind (names_of item.domain) state item.named.name) state items
+
+  -- the state after what a statement declares
+  abbrev pub declared_by : State → Act F → State
+  declared_by state (Declare kind items) = declare_each kind state items
+  declared_by state (Alias first second) = declare_alias state first.name second.name
+  declared_by state (Model models) = declare_models state models
+  declared_by state act = state
+
+  -- the state after the declarations of some statements, in order
+  abbrev pub declared_by_all : State → List (Stmt F) → State
+  declared_by_all state statements = fold (λ state (statement : Stmt F). declared_by state statement.act) state statements
+
+  -- the state that the declarations of a program alone make: nothing is given
+  abbrev pub declared_state : Program F → State
+  declared_state program = declared_by_all (blank_state (length program.names)) program.statements.items

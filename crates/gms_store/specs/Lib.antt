@@ -1,0 +1,4 @@
+pub mod Codes
+pub mod Declarations
+pub mod Shown
+pub mod State

@@ -1,0 +1,27 @@
+-- What the store shows of what it keeps: the numbers that its values mean.
+use Rattle.std.specs.Prelude.{map, option_map}
+use Rattle.std.specs.FinMap as finite
+use Rattle.gq_number.specs.Number.{Number}
+use Rattle.gq_extended.specs.Meaning.{extended}
+use Rattle.gms_store.specs.declared.attributes.Attributes as own
+use Rattle.gms_store.specs.declared.content.Content as kept
+use Rattle.gms_store.specs.declared.content.Content.TheVariants as variant
+use Rattle.gms_store.specs.State.{Entries, Attributes, Content, undeclared, alias_of, set_of, parameter_of, variable_of, equation_of, model_with}
+
+-- a finite map with each of its values seen as another
+abbrev pub entries_shown : {X Y : Type 0} → (X → Y) → Entries X → Entries Y
+entries_shown f entries = finite.from_entries (map (λ e. (e.0, f e.1)) (finite.entries entries))
+
+module _ {F : Type 0} (value : F → Number) where
+  abbrev pub attributes_shown : own.Attributes F → Attributes
+  attributes_shown a =
+      record { lower = option_map value a.lower; upper = option_map value a.upper; level = value a.level; marginal = value a.marginal }
+
+  abbrev pub content_shown : kept.Content F → Content
+  content_shown variant.Undeclared = undeclared
+  content_shown (variant.Alias base) = alias_of base
+  content_shown (variant.Set members) = set_of members
+  content_shown (variant.Parameter entries) = parameter_of (entries_shown (extended value) entries)
+  content_shown (variant.Variable type entries) = variable_of type (entries_shown attributes_shown entries)
+  content_shown (variant.Equation entries) = equation_of (entries_shown attributes_shown entries)
+  content_shown (variant.Model model solver) = model_with model solver

@@ -1,0 +1,267 @@
+-- The state of a run: finite maps from the names of a program to what is known of them.
+-- GAMS User's Guide, "Set Definition", "Data Entry: Parameters, Scalars and Tables", "Variables", "Equations". Which entries are kept is this project's own rule.
+use Rattle.std.specs.Prelude.{◌≡◌, ℕ, Bool, true, false, not, ◌&&◌, ◌==◌, List, [], length, set, slice_get, Option, Some, None, unwrap_or, if◌then◌else◌, pos}
+use Rattle.std.specs.FinMap as finite
+use Rattle.std.specs.Ordering.{eq_by_cmp}
+use Rattle.gq_number.specs.Number.{Number, whole}
+use Rattle.gq_number.specs.Order.{number_cmp}
+use Rattle.gq_extended.specs.Extended as extended
+use Rattle.gms_tuple.specs.TupleOrder.{tuple_cmp}
+use Rattle.gms_tuple.specs.TupleSet.{has, inserted, removed}
+use Rattle.gms_store.specs.declared.kind.VariableType.{VariableType}
+use Rattle.gms_store.specs.declared.kind.VariableType.TheVariants.{Free, Positive, Negative, Discrete}
+use Rattle.gms_store.specs.declared.settings.Settings.{Settings}
+
+-- a finite map from tuples
+abbrev pub Entries : Type 0 → Type 0
+Entries X = finite.FinMap tuple_cmp X
+
+-- What an element of a variable or an equation has.
+pub record Attributes : Type 0 where
+  -- the lower bound, where there is a finite one
+  pub lower : Option Number
+  -- the upper bound, where there is a finite one
+  pub upper : Option Number
+  pub level : Number
+  pub marginal : Number
+
+-- What a name stands for. Of a parameter, a variable and an equation it has the entries that differ from an absent one, and no other.
+pub data Content : Type 0 where
+  -- nothing is declared
+  undeclared : Content
+  -- another name of the set whose name has this number
+  alias_of : ℕ → Content
+  -- a set, with its members
+  set_of : List (List ℕ) → Content
+  parameter_of : Entries extended.Extended → Content
+  variable_of : VariableType → Entries Attributes → Content
+  equation_of : Entries Attributes → Content
+  -- a model, with the model's status and the solver's
+  model_with : ℕ → ℕ → Content
+
+-- A name: the set of each position that it was declared with, None where there is none, and what it stands for.
+pub record Symbol : Type 0 where
+  pub domain : List (Option ℕ)
+  pub content : Content
+
+-- The state of a run.
+pub record State : Type 0 where
+  -- the names of the program, by their numbers
+  pub symbols : List Symbol
+  pub settings : Settings
+
+-- ---- names
+
+-- a name that nothing declares
+abbrev pub no_symbol : Symbol
+no_symbol = record { domain = []; content = undeclared }
+
+-- what the name of this number is
+abbrev pub symbol_at : State → ℕ → Symbol
+symbol_at state name = unwrap_or (slice_get state.symbols name) no_symbol
+
+-- the name that a content stands for: the set behind an alias, and else the name itself
+abbrev pub behind : ℕ → Content → ℕ
+behind name (alias_of base) = base
+behind name content = name
+
+-- the set behind an alias; every other name stands for itself
+abbrev pub base_of : State → ℕ → ℕ
+base_of state name = behind name (symbol_at state name).content
+
+-- what the name of this number stands for
+abbrev pub symbol_of : State → ℕ → Symbol
+symbol_of state name = symbol_at state (base_of state name)
+
+-- the state in which the name of this number stands for another symbol
+abbrev pub with_symbol : State → ℕ → Symbol → State
+with_symbol state name symbol = record { symbols = set state.symbols (base_of state name) symbol; settings = state.settings }
+
+-- ---- what is read
+
+-- 0, which a parameter has where nothing is given
+abbrev pub zero : extended.Extended
+zero = extended.number (whole (pos 0))
+
+-- whether two numbers are the same
+abbrev pub same_number : Number → Number → Bool
+same_number a b = eq_by_cmp number_cmp a b
+
+-- whether a value differs from what a parameter has where nothing is given
+abbrev pub is_given : extended.Extended → Bool
+is_given (extended.number x) = not (same_number x (whole (pos 0)))
+is_given value = true
+
+-- no bound, level 0 and marginal 0
+abbrev pub unbounded : Attributes
+unbounded = record { lower = None; upper = None; level = whole (pos 0); marginal = whole (pos 0) }
+
+-- what an element of a variable has where nothing is given: the bounds of the variable's type
+abbrev pub absent_variable : VariableType → Attributes
+absent_variable Free = unbounded
+absent_variable Positive = record { lower = Some (whole (pos 0)); upper = None; level = whole (pos 0); marginal = whole (pos 0) }
+absent_variable Negative = record { lower = None; upper = Some (whole (pos 0)); level = whole (pos 0); marginal = whole (pos 0) }
+absent_variable Discrete = unbounded
+
+-- what an element has where nothing is given: an equation has no bounds
+abbrev pub absent : Content → Attributes
+absent (variable_of type entries) = absent_variable type
+absent content = unbounded
+
+-- whether two bounds are the same
+abbrev pub same_bound : Option Number → Option Number → Bool
+same_bound None None = true
+same_bound (Some a) (Some b) = same_number a b
+same_bound a b = false
+
+-- whether two elements have the same
+abbrev pub same_attributes : Attributes → Attributes → Bool
+same_attributes a b =
+    same_bound a.lower b.lower && (same_bound a.upper b.upper && (same_number a.level b.level && same_number a.marginal b.marginal))
+
+-- the members of a set; nothing else has any
+abbrev pub members_in : Content → List (List ℕ)
+members_in (set_of members) = members
+members_in content = []
+
+-- the value of a parameter at a tuple
+abbrev pub value_in : Content → List ℕ → extended.Extended
+value_in (parameter_of entries) t = unwrap_or (finite.get entries t) zero
+value_in content t = zero
+
+-- the attributes of a variable or an equation at a tuple
+abbrev pub attributes_in : Content → List ℕ → Attributes
+attributes_in (variable_of type entries) t = unwrap_or (finite.get entries t) (absent_variable type)
+attributes_in (equation_of entries) t = unwrap_or (finite.get entries t) unbounded
+attributes_in content t = unbounded
+
+-- whether a content is that of a variable or an equation
+abbrev pub has_attributes : Content → Bool
+has_attributes (variable_of type entries) = true
+has_attributes (equation_of entries) = true
+has_attributes content = false
+
+-- the tuples at which something is given: the members of a set, and the tuples whose entries are kept
+abbrev pub given_in : Content → List (List ℕ)
+given_in (set_of members) = members
+given_in (parameter_of entries) = finite.keys entries
+given_in (variable_of type entries) = finite.keys entries
+given_in (equation_of entries) = finite.keys entries
+given_in content = []
+
+-- the two statuses of a model
+abbrev pub statuses_in : Content → ℕ × ℕ
+statuses_in (model_with model solver) = (model, solver)
+statuses_in content = (0, 0)
+
+-- the members of the set of this name
+abbrev pub members_of : State → ℕ → List (List ℕ)
+members_of state name = members_in (symbol_of state name).content
+
+-- the value of the parameter of this name at a tuple
+abbrev pub value_of : State → ℕ → List ℕ → extended.Extended
+value_of state name t = value_in (symbol_of state name).content t
+
+-- the attributes of the variable or equation of this name at a tuple
+abbrev pub attributes_of : State → ℕ → List ℕ → Attributes
+attributes_of state name t = attributes_in (symbol_of state name).content t
+
+-- the tuples at which something is given of this name
+abbrev pub given_of : State → ℕ → List (List ℕ)
+given_of state name = given_in (symbol_of state name).content
+
+-- whether the entry at a tuple differs from what an absent one reads as
+abbrev pub differs_in : Content → List ℕ → Bool
+differs_in (set_of members) t = has members t
+differs_in (parameter_of entries) t = is_given (value_in (parameter_of entries) t)
+differs_in content t = not (same_attributes (attributes_in content t) (absent content))
+
+-- the entries of a map stand at tuples of this length, and differ from an absent entry
+abbrev pub AreDifferent : {X : Type 0} → (X → Bool) → ℕ → Entries X → Type 0
+AreDifferent differs arity entries = (t : List ℕ) (x : _) → finite.get entries t ≡ Some x → (length t ≡ arity) × (differs x ≡ true)
+
+-- what a name stands for has no tuple of another length, and no entry that an absent one reads as
+abbrev pub IsKept : ℕ → Content → Type 0
+IsKept arity (set_of members) = (t : List ℕ) → has members t ≡ true → length t ≡ arity
+IsKept arity (parameter_of entries) = AreDifferent is_given arity entries
+IsKept arity (variable_of type entries) = AreDifferent (λ a. not (same_attributes a (absent_variable type))) arity entries
+IsKept arity (equation_of entries) = AreDifferent (λ a. not (same_attributes a unbounded)) arity entries
+IsKept arity content = Unit {0}
+
+-- ---- what is written
+
+-- a map after a write: the entry is kept where it differs from an absent one
+abbrev pub after_write : {X : Type 0} → Bool → Entries X → List ℕ → X → Entries X
+after_write differs entries t x = if differs then finite.insert entries t x else finite.remove entries t
+
+-- a set with a tuple put in or taken out
+abbrev pub with_membership : Content → List ℕ → Bool → Content
+with_membership (set_of members) t on = set_of (if on then inserted members t else removed members t)
+with_membership content t on = content
+
+-- a parameter with another value at a tuple
+abbrev pub with_value : Content → List ℕ → extended.Extended → Content
+with_value (parameter_of entries) t x = parameter_of (after_write (is_given x) entries t x)
+with_value content t x = content
+
+-- a variable or an equation with other attributes at a tuple
+abbrev pub with_attributes : Content → List ℕ → Attributes → Content
+with_attributes (variable_of type entries) t a = variable_of type (after_write (not (same_attributes a (absent_variable type))) entries t a)
+with_attributes (equation_of entries) t a = equation_of (after_write (not (same_attributes a unbounded)) entries t a)
+with_attributes content t a = content
+
+-- a model with other statuses
+abbrev pub with_statuses : Content → ℕ → ℕ → Content
+with_statuses (model_with m s) model solver = model_with model solver
+with_statuses content model solver = content
+
+-- a symbol with another content
+abbrev pub with_content : Symbol → Content → Symbol
+with_content symbol content = record { domain = symbol.domain; content = content }
+
+-- a symbol with another content, where the tuple has as many labels as the symbol has positions
+abbrev pub if_fits : Symbol → List ℕ → Content → Symbol
+if_fits symbol t content = if length t == length symbol.domain then with_content symbol content else symbol
+
+-- After a write one entry of one name is new, and all else stays. A name of another kind and a tuple of another length change nothing.
+
+-- the state after a tuple was put into a set or taken out
+abbrev pub after_membership : State → ℕ → List ℕ → Bool → State
+after_membership state name t on =
+    with_symbol state name (if_fits (symbol_of state name) t (with_membership (symbol_of state name).content t on))
+
+-- the state after a value of a parameter was put at a tuple
+abbrev pub after_value : State → ℕ → List ℕ → extended.Extended → State
+after_value state name t x = with_symbol state name (if_fits (symbol_of state name) t (with_value (symbol_of state name).content t x))
+
+-- the state after the attributes of an element were put
+abbrev pub after_attributes : State → ℕ → List ℕ → Attributes → State
+after_attributes state name t a =
+    with_symbol state name (if_fits (symbol_of state name) t (with_attributes (symbol_of state name).content t a))
+
+-- the state after the two statuses of a model were put
+abbrev pub after_statuses : State → ℕ → ℕ → ℕ → State
+after_statuses state name model solver =
+    with_symbol state name (with_content (symbol_of state name) (with_statuses (symbol_of state name).content model solver))
+
+-- the state after the settings were changed
+abbrev pub with_settings : State → Settings → State
+with_settings state settings = record { symbols = state.symbols; settings = settings }
+
+-- ---- attributes, one of them new
+
+-- the attributes with another lower bound
+abbrev pub with_lower : Attributes → Option Number → Attributes
+with_lower a bound = record { lower = bound; upper = a.upper; level = a.level; marginal = a.marginal }
+
+-- the attributes with another upper bound
+abbrev pub with_upper : Attributes → Option Number → Attributes
+with_upper a bound = record { lower = a.lower; upper = bound; level = a.level; marginal = a.marginal }
+
+-- the attributes with another level
+abbrev pub with_level : Attributes → Number → Attributes
+with_level a x = record { lower = a.lower; upper = a.upper; level = x; marginal = a.marginal }
+
+-- the attributes with another marginal
+abbrev pub with_marginal : Attributes → Number → Attributes
+with_marginal a x = record { lower = a.lower; upper = a.upper; level = a.level; marginal = x }

@@ -1,0 +1,79 @@
+//! What an element of a variable or an equation has.
+ghost use Rattle.std.specs.Prelude.{◌≡◌, option_map};
+ghost use Rattle.gms_store.specs.Shown.{attributes_shown};
+ghost use Rattle.gms_store.specs.State.{unbounded, absent_variable, same_attributes, same_number, same_bound};
+
+use crate::kind::VariableType;
+use gq_field::ExactField;
+use std::cmp::Ordering;
+
+/// The bounds, the level and the marginal of an element. A bound that is `None` is no finite one.
+#[derive(Clone, Copy)]
+pub struct Attributes<F> {
+    pub lower: Option<F>,
+    pub upper: Option<F>,
+    pub level: F,
+    pub marginal: F,
+}
+
+impl<F: ExactField> Attributes<F> {
+    /// No bounds, level 0 and marginal 0: what an element of an equation has where nothing is given.
+    pub fn unbounded() -> Attributes<F>
+        ensures { attributes_shown F.value result ≡ unbounded }
+    {
+        Attributes {
+            lower: None,
+            upper: None,
+            level: F::zero(),
+            marginal: F::zero(),
+        }
+    }
+
+    /// What an element of a variable has where nothing is given.
+    pub fn of_type(kind: VariableType) -> Attributes<F>
+        ensures { attributes_shown F.value result ≡ absent_variable kind }
+    {
+        let free = Attributes::unbounded();
+        let zero = F::zero();
+        match kind {
+            VariableType::Free => free,
+            VariableType::Positive => Attributes {
+                lower: Some(zero),
+                ..free
+            },
+            VariableType::Negative => Attributes {
+                upper: Some(zero),
+                ..free
+            },
+            VariableType::Discrete => free,
+        }
+    }
+
+    /// Whether both elements have the same.
+    pub fn is_same(self, other: Attributes<F>) -> bool
+        ensures { result ≡ same_attributes (attributes_shown F.value self) (attributes_shown F.value other) }
+    {
+        is_same_bound(self.lower, other.lower)
+            && is_same_bound(self.upper, other.upper)
+            && is_same_number(self.level, other.level)
+            && is_same_number(self.marginal, other.marginal)
+    }
+}
+
+/// Whether two numbers are the same.
+pub fn is_same_number<F: ExactField>(a: F, b: F) -> bool
+    ensures { result ≡ same_number (F.value a) (F.value b) }
+{
+    a.cmp_value(b) == Ordering::Equal
+}
+
+/// Whether two bounds are the same.
+fn is_same_bound<F: ExactField>(a: Option<F>, b: Option<F>) -> bool
+    ensures { result ≡ same_bound (option_map F.value a) (option_map F.value b) }
+{
+    match (a, b) {
+        (None, None) => true,
+        (Some(a), Some(b)) => is_same_number(a, b),
+        _ => false,
+    }
+}

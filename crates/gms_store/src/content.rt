@@ -1,0 +1,22 @@
+//! What a name stands for.
+use crate::attributes::Attributes;
+use crate::entries::Entries;
+use crate::kind::VariableType;
+use gms_tuple::TupleSet;
+use gq_extended::Ext;
+
+/// What a name stands for. Of a parameter, a variable and an equation only the entries that differ from an absent one are kept.
+#[derive(Drop)]
+pub enum Content<F> {
+    /// Nothing is declared.
+    Undeclared,
+    /// Another name of the set of this number.
+    Alias(u32),
+    /// A set, with its members.
+    Set(TupleSet),
+    Parameter(Entries<Ext<F>>),
+    Variable(VariableType, Entries<Attributes<F>>),
+    Equation(Entries<Attributes<F>>),
+    /// A model, with the model's status and the solver's.
+    Model(u8, u8),
+}

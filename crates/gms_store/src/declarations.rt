@@ -1,0 +1,153 @@
+//! What the declarations of a program declare.
+ghost use Rattle.std.specs.Prelude.{◌≡◌, List, Option, OnOk};
+ghost use Rattle.gms_store.specs.Declarations.{declare, names_of, declare_alias, join_name, declare_model, declare_models, declare_each, declared_by, declared_by_all, put_at, can_join, is_set, is_undeclared};
+ghost use Rattle.gms_store.specs.State.{symbol_at};
+
+use crate::store::Store;
+use crate::symbol::Symbol;
+use gms_ast::{Act, Decl, DeclKind, ModelDecl, Named, Stmt};
+use gq_field::ExactField;
+use std::alloc::{AllocError, Global};
+
+impl<F: ExactField> Store<F> {
+    /// Declares what the statements declare, in order.
+    pub(crate) fn declare_all(
+        &mut self,
+        alloc: Global,
+        statements: &[Stmt<F>],
+    ) -> Result<(), AllocError>
+        ensures { OnOk result (self.new ≡ declared_by_all self.old statements.now) }
+    {
+        for statement in statements {
+            self.declare_act(alloc, &statement.act)?;
+        }
+        Ok(())
+    }
+
+    /// Declares what a statement declares.
+    fn declare_act(&mut self, alloc: Global, act: &Act<F>) -> Result<(), AllocError>
+        ensures { OnOk result (self.new ≡ declared_by self.old act.now) }
+    {
+        match act {
+            Act::Declare { kind, items } => self.declare_each(alloc, *kind, items.as_slice()),
+            Act::Alias { first, second } => self.declare_alias(alloc, first.name, second.name),
+            Act::Model { models } => {
+                self.declare_models(alloc, models.as_slice());
+                Ok(())
+            }
+            _ => Ok(()),
+        }
+    }
+
+    /// Declares names of one kind.
+    fn declare_each(
+        &mut self,
+        alloc: Global,
+        kind: DeclKind,
+        items: &[Decl<F>],
+    ) -> Result<(), AllocError>
+        ensures { OnOk result (self.new ≡ declare_each kind self.old items.now) }
+    {
+        for item in items {
+            self.declare(alloc, kind, item.domain.as_slice(), item.named.name)?;
+        }
+        Ok(())
+    }
+
+    /// Declares a name. Of several declarations of one name the first counts, but for the type of a free variable.
+    fn declare(
+        &mut self,
+        alloc: Global,
+        kind: DeclKind,
+        domain: &[Option<Named>],
+        name: u32,
+    ) -> Result<(), AllocError>
+        ensures { OnOk result (self.new ≡ declare kind (names_of domain.now) self.old name) }
+    {
+        let at = name as usize;
+        if at < self.symbols.len() {
+            let symbol = &mut self.symbols[at];
+            symbol.declare(alloc, kind, domain)?;
+        }
+        Ok(())
+    }
+
+    /// Makes one of two names another name of the other, which is a set. Where neither can be, both are declared as sets.
+    fn declare_alias(&mut self, alloc: Global, first: u32, second: u32) -> Result<(), AllocError>
+        ensures { OnOk result (self.new ≡ declare_alias self.old first second) }
+    {
+        if self.can_join(first, second) {
+            self.join_name(alloc, first, second);
+            return Ok(());
+        }
+        if self.can_join(second, first) {
+            self.join_name(alloc, second, first);
+            return Ok(());
+        }
+        self.declare(alloc, DeclKind::Set, &[], first)?;
+        self.declare(alloc, DeclKind::Set, &[], second)
+    }
+
+    /// Whether the second name can be made another name of the first: that is a set, and the second is new.
+    fn can_join(&self, old: u32, new: u32) -> bool
+        ensures { result ≡ can_join self.now old new }
+    {
+        self.is_set(old) && self.is_undeclared(new)
+    }
+
+    /// Whether a name is that of a set, or another name of one.
+    fn is_set(&self, name: u32) -> bool
+        ensures { result ≡ is_set (symbol_at self.now name).content }
+    {
+        match self.symbols.get(name as usize) {
+            Some(symbol) => symbol.is_set(),
+            None => false,
+        }
+    }
+
+    /// Whether nothing declares a name.
+    fn is_undeclared(&self, name: u32) -> bool
+        ensures { result ≡ is_undeclared (symbol_at self.now name).content }
+    {
+        match self.symbols.get(name as usize) {
+            Some(symbol) => symbol.is_undeclared(),
+            None => true,
+        }
+    }
+
+    /// Makes a name another name of a set.
+    fn join_name(&mut self, alloc: Global, old: u32, new: u32)
+        ensures { self.new ≡ join_name self.old old new }
+    {
+        let alias = Symbol::alias(alloc, self.base(old));
+        self.replace(new, alias);
+    }
+
+    /// Declares models.
+    fn declare_models(&mut self, alloc: Global, models: &[ModelDecl])
+        ensures { self.new ≡ declare_models self.old models.now }
+    {
+        for model in models {
+            self.declare_model(alloc, model.named.name);
+        }
+    }
+
+    /// Declares a model. The first declaration of a name counts.
+    fn declare_model(&mut self, alloc: Global, name: u32)
+        ensures { self.new ≡ declare_model self.old name }
+    {
+        if self.is_undeclared(name) {
+            self.replace(name, Symbol::model(alloc));
+        }
+    }
+
+    /// Puts another symbol at a name.
+    fn replace(&mut self, name: u32, symbol: Symbol<F>)
+        ensures { self.new ≡ put_at self.old name symbol }
+    {
+        let at = name as usize;
+        if at < self.symbols.len() {
+            self.symbols[at] = symbol;
+        }
+    }
+}

@@ -1,0 +1,107 @@
+//! A finite map from tuples.
+ghost use Rattle.std.specs.Prelude.{◌≡◌, ℕ, OnOk, OnErr};
+ghost use Rattle.std.specs.FinMap as finite;
+ghost use Rattle.gms_tuple.specs.TupleOrder.{IsOrdered};
+ghost use Rattle.gms_store.specs.State.{after_write};
+
+use gms_tuple::{Tuple, TupleSet};
+use std::alloc::{AllocError, Global};
+use std::collections::BTreeMap;
+use std::marker::Model;
+
+/// A finite map from tuples, and the set of the tuples at which it has a value.
+#[derive(Drop)]
+pub struct Entries<X> {
+    values: BTreeMap<Tuple, X>,
+    given: TupleSet,
+}
+
+impl<X> Model for Entries<X> {
+    ghost use Rattle.std.specs.Prelude.{◌≡◌, ℕ};
+    ghost use Rattle.std.specs.Map.{keys_of};
+    ghost use Rattle.std.specs.Coded.{coded_list, coded_ℕ};
+    ghost use Rattle.std.specs.FinMap as finite;
+    ghost use Rattle.gms_tuple.specs.TupleOrder.{tuple_cmp};
+
+    ghost Value = { finite.FinMap tuple_cmp X };
+
+    ghost coded = { finite.code (coded_list coded_ℕ) X.code };
+
+    ghost view = { λ e. finite.from_entries e.values.entries };
+
+    ghost invariant = { λ e. e.given ≡ keys_of e.values.entries };
+}
+
+impl<X: Copy> Entries<X> {
+    /// The map without entries.
+    pub fn new(alloc: Global) -> Entries<X>
+        ensures { result ≡ finite.empty }
+    {
+        Entries {
+            values: BTreeMap::new(alloc),
+            given: TupleSet::new(alloc),
+        }
+    }
+
+    /// The value at a tuple, where there is one.
+    pub fn get(&self, t: &Tuple) -> Option<X>
+        ensures { result ≡ finite.get self.now t.now }
+    {
+        self.values.get(t).copied()
+    }
+
+    /// The tuples at which there is a value.
+    pub fn given(&self) -> &TupleSet
+        ensures value { result.now ≡ finite.keys self.now }
+        ensures ordered { IsOrdered result.now }
+    {
+        let _ordered = self.values.len();
+        let _given = self.given.len();
+        &self.given
+    }
+
+    /// Puts a value at a tuple. After want of memory the map is as it was.
+    pub fn insert(&mut self, alloc: Global, t: &Tuple, value: X) -> Result<(), AllocError>
+        ensures ok { OnOk result (self.new ≡ finite.insert self.old t.now value) }
+        ensures err { OnErr result (self.new ≡ self.old) }
+    {
+        let key = t.copy(alloc)?;
+        let member = t.copy(alloc)?;
+        self.given.insert(alloc, member)?;
+        match self.values.insert(key, value) {
+            Ok(_) => Ok(()),
+            Err(failed) => {
+                self.given.remove(t);
+                Err(failed.into())
+            }
+        }
+    }
+
+    /// Puts a value at a tuple where it is to be kept, and takes the one there out where it is not. After want of memory
+    /// the map is as it was.
+    pub fn write(
+        &mut self,
+        alloc: Global,
+        t: &Tuple,
+        value: X,
+        keep: bool,
+    ) -> Result<(), AllocError>
+        ensures ok { OnOk result (self.new ≡ after_write keep self.old t.now value) }
+        ensures err { OnErr result (self.new ≡ self.old) }
+    {
+        if keep {
+            return self.insert(alloc, t, value);
+        }
+        self.remove(t);
+        Ok(())
+    }
+
+    /// Takes the value at a tuple out, where there is one.
+    pub fn remove(&mut self, t: &Tuple)
+        ensures { self.new ≡ finite.remove self.old t.now }
+    {
+        let _ordered = self.values.len();
+        self.given.remove(t);
+        self.values.remove(t);
+    }
+}

@@ -1,0 +1,19 @@
+//! The state of a run: what is known of each name of a program.
+#![tactic(auto)]
+
+mod attributes;
+mod content;
+mod declarations;
+mod entries;
+mod kind;
+mod laws;
+mod settings;
+mod store;
+mod symbol;
+#[cfg(test)]
+mod tests;
+
+pub use kind::SymbolKind;
+pub use laws::write_laws;
+pub use settings::Settings;
+pub use store::Store;
