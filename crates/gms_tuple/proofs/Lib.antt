@@ -1,3 +1,5 @@
+pub mod Combined
+pub mod Forks
 pub mod Members
 pub mod Ordered
 pub mod Spans

@@ -1,8 +1,9 @@
 -- Laws of membership: what has which members, and that an ordered list is known by its members.
-use Rattle.std.proofs.Common.{◌≡◌, ℕ, Bool, true, false, not, ◌||◌, ◌&&◌, List, [], ◌∷◌, ◌++◌, filter, fold, length, drop, insert, refl, sym, ap, ◌∙◌, cond, arith, ◌+◌, ◌<◌, ◌≤◌, suc, ltb, remove, Some, None}
+use Rattle.std.proofs.Common.{◌≡◌, ℕ, Bool, true, false, not, ◌||◌, ◌&&◌, List, [], ◌∷◌, ◌++◌, filter, fold, length, drop, insert, refl, sym, ap, ◌∙◌, cond, arith, ◌+◌, ◌<◌, ◌≤◌, suc, ltb, remove, Some, None, Result, Ok, Err, IfOk, is_ok, Contains}
 use Rattle.std.specs.declared.cmp.Ordering.{Ordering}
 use Rattle.std.specs.declared.cmp.Ordering.TheVariants.{Less, Equal, Greater}
 use Rattle.std.specs.Ordering.{is_lt}
+use Rattle.std.specs.Result.{IfErr}
 use Rattle.std.specs.List.{All, position_or_len}
 use Rattle.std.proofs.lemmas.List.{take_at, drop_at}
 use Rattle.std.proofs.lemmas.List.Sums.{length-filter, fails_before_first}
@@ -252,3 +253,24 @@ has-no_place xs t none =
 -- a list without the tuple stays
 pub removed-absent : (xs : List (List ℕ)) (t : List ℕ) → has xs t ≡ false → removed xs t ≡ xs
 removed-absent xs t none = filter_all (λ member. not (same_tuple member t)) xs (All-weaker (λ x. same_tuple x t ≡ false) (λ x. not (same_tuple x t) ≡ true) (λ x other. ap not other) xs (all-other xs t none))
+
+-- putting in a member changes nothing
+pub inserted-known : (xs : List (List ℕ)) (t : List ℕ) → has xs t ≡ true → xs ≡ inserted xs t
+inserted-known xs t there = rw there refl
+
+-- whether a search has found a place tells whether the tuple is a member
+pub has-searched : (xs : List (List ℕ)) (t : List ℕ) (r : Result ℕ ℕ) → IfOk r (λ n. place_of xs t ≡ Some n) → IfErr r (λ n. (has xs t ≡ false) × (n ≡ count_before xs t)) → is_ok r ≡ has xs t
+has-searched xs t (Ok n) found absent = sym (has-place xs t n found)
+has-searched xs t (Err n) found absent = sym absent.0
+
+-- a member stands in the list
+pub Contains-has : (xs : List (List ℕ)) (t : List ℕ) → has xs t ≡ true → Contains xs t
+Contains-has [] t there = absurd cc
+Contains-has (x ∷ xs) t there =
+    elim (same_tuple x t) as (λ b. same_tuple x t ≡ b → (b || has xs t) ≡ true → Contains (x ∷ xs) t) [
+      | true ↦ λ same _. (0, omega arith, (same_tuple-Decides x t).0 same)
+      | false ↦ λ _ later. let rest = Contains-has xs t later in (suc rest.0, omega (arith, rest.1), rest.2)
+    ] refl there
+
+pub has-Contains : (xs : List (List ℕ)) (t : List ℕ) → Contains xs t → has xs t ≡ true
+has-Contains xs t at = list_any_at (λ member. same_tuple member t) xs at.0 t at.1 ((same_tuple-Decides _ t).1 at.2)

@@ -26,7 +26,7 @@ filter-filter p q implies (x ∷ xs) = by (filter-filter p q implies xs) (p x) r
     by rest false e false f = rest
 
 -- a tuple that begins with a prefix does not come before it
-begins-not-before : (prefix x : List ℕ) → begins_with x prefix ≡ true → is_before x prefix ≡ false
+pub begins-not-before : (prefix x : List ℕ) → begins_with x prefix ≡ true → is_before x prefix ≡ false
 begins-not-before [] [] begins = refl
 begins-not-before [] (b ∷ x) begins = refl
 begins-not-before (a ∷ prefix) [] begins = absurd cc
@@ -36,7 +36,7 @@ begins-not-before (a ∷ prefix) (b ∷ x) begins =
     rw level (begins-not-before prefix x parts.1)
 
 -- a tuple between a prefix and one that begins with it begins with it
-begins-between : (prefix x y : List ℕ) → is_before x prefix ≡ false → tuple_cmp x y ≡ Less → begins_with y prefix ≡ true → begins_with x prefix ≡ true
+pub begins-between : (prefix x y : List ℕ) → is_before x prefix ≡ false → tuple_cmp x y ≡ Less → begins_with y prefix ≡ true → begins_with x prefix ≡ true
 begins-between [] x y after before begins = refl
 begins-between (a ∷ prefix) [] y after before begins = absurd cc
 begins-between (a ∷ prefix) (b ∷ x) [] after before begins = absurd cc
@@ -53,7 +53,7 @@ begins-between (a ∷ prefix) (b ∷ x) (c ∷ y) after before begins =
     by rest later Greater e after before = absurd cc
 
 -- what comes after a tuple that is not before a prefix is not before it either, so those before it stand first
-before-closed : (prefix x y : List ℕ) → tuple_cmp x y ≡ Less → is_before y prefix ≡ true → is_before x prefix ≡ true
+pub before-closed : (prefix x y : List ℕ) → tuple_cmp x y ≡ Less → is_before y prefix ≡ true → is_before x prefix ≡ true
 before-closed prefix x y less before = ap is_lt (tuple_cmp-total.trans x y prefix less (Less-from_before y prefix before))
 
 -- the members after those that begin with a prefix

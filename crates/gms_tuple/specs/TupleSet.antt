@@ -1,5 +1,5 @@
 -- Sets of tuples, each seen as the ordered list of its members.
-use Rattle.std.specs.Prelude.{ℕ, Bool, not, List, ◌∷◌, ◌++◌, filter, count_by, Option, position, if◌then◌else◌}
+use Rattle.std.specs.Prelude.{ℕ, Bool, not, ◌||◌, ◌&&◌, List, ◌∷◌, ◌++◌, filter, count_by, Option, position, if◌then◌else◌}
 use Rattle.std.specs.List.{list_any}
 use Rattle.gms_tuple.specs.TupleOrder.{is_before, same_tuple, begins_with}
 
@@ -35,6 +35,10 @@ count_before members prefix = count_by (λ member. is_before member prefix) memb
 -- how many members begin with a prefix
 abbrev pub count_with : List (List ℕ) → List ℕ → ℕ
 count_with members prefix = count_by (λ member. begins_with member prefix) members
+
+-- whether a member comes before a prefix, or where `through` is so begins with it
+abbrev pub is_within : Bool → List ℕ → List ℕ → Bool
+is_within through prefix member = is_before member prefix || (through && begins_with member prefix)
 
 -- the members that begin with a prefix, in order
 abbrev pub those_with : List (List ℕ) → List ℕ → List (List ℕ)

@@ -1,9 +1,11 @@
 //! Tuples of labels in their one order, and sets of tuples as ordered lists.
 #![tactic(auto)]
 
+mod merge;
 mod set;
 #[cfg(test)]
 mod tests;
+mod tree;
 mod tuple;
 
 pub use set::TupleSet;

@@ -1,17 +1,22 @@
-//! A set of tuples, kept as a list in order.
-ghost use Rattle.std.specs.Prelude.{◌≡◌, ◌<◌, ◌≤◌, ◌+◌, ◌^◌, ◌↔◌, ◌||◌, ◌&&◌, ℕ, List, [], length, not, slice_get, slice_range, if◌then◌else◌, Contains, IsTrue, IsOk, IfOk, OnOk, OnErr};
+//! A set of tuples, kept in order in a balanced tree.
+ghost use Rattle.std.specs.Prelude.{◌≡◌, ◌<◌, ◌≤◌, ◌+◌, ◌^◌, ◌↔◌, ◌||◌, ◌&&◌, ℕ, List, [], length, not, slice_get, slice_range, Contains, IsTrue, IsOk, IfOk, IfErr, OnOk, OnErr, Some, false};
 ghost use Rattle.gms_tuple.specs.TupleOrder.{same_tuple, IsOrdered};
 ghost use Rattle.gms_tuple.specs.TupleSet.{has, place_of, inserted, removed, difference, intersection, count_before, count_with, those_with};
+ghost use Rattle.gms_tuple.specs.Operations.{takes};
 
+use crate::merge::{Operation, combined};
+use crate::tree::{Fork, Tree};
 use crate::tuple::Tuple;
 use std::alloc::{AllocError, Global};
-use std::cmp::Ordering;
 use std::marker::Model;
 
 /// A set of tuples, seen as the list of its members: distinct, and in the order of tuples.
+///
+/// A member is found, put in and taken out, by its labels or by its place, in as many steps as the logarithm of their
+/// number.
 #[derive(Drop)]
 pub struct TupleSet {
-    tuples: Vec<Tuple>,
+    tree: Tree,
 }
 
 impl Model for TupleSet {
@@ -20,19 +25,17 @@ impl Model for TupleSet {
 
     ghost Value = { List (List ℕ) };
 
-    ghost view = { λ s. s.tuples.items };
+    ghost view = { λ s. s.tree };
 
-    ghost invariant = { λ s. IsOrdered s.tuples.items };
+    ghost invariant = { λ s. IsOrdered s.tree };
 }
 
 impl TupleSet {
     /// The set of no tuples.
-    pub fn new(alloc: Global) -> TupleSet
+    pub fn new(_alloc: Global) -> TupleSet
         ensures { result ≡ [] }
     {
-        TupleSet {
-            tuples: Vec::new(alloc),
-        }
+        TupleSet { tree: Tree::new() }
     }
 
     /// How many members there are.
@@ -40,14 +43,14 @@ impl TupleSet {
         ensures len { result ≡ length self.now }
         ensures ordered { IsOrdered self.now }
     {
-        self.tuples.len()
+        self.tree.len()
     }
 
     /// Whether there is no member.
     pub fn is_empty(&self) -> bool
         ensures { IsTrue result ↔ (self.now ≡ []) }
     {
-        self.tuples.is_empty()
+        self.tree.len() == 0
     }
 
     /// The member at a place of the order.
@@ -55,7 +58,7 @@ impl TupleSet {
         requires { n < length self.now }
         ensures { slice_get self.now n ≡ Some result.now }
     {
-        &self.tuples[n]
+        self.tree.get(n)
     }
 
     /// Whether the tuple is a member.
@@ -64,11 +67,11 @@ impl TupleSet {
         ensures member { IsTrue result ↔ Contains self.now t.now }
         ensures ordered { IsOrdered self.now }
     {
-        self.tuples.iter().any(|member| member == t)
+        self.place(t).is_ok()
     }
 
     /// Puts a tuple at its place in the order. True where it was new. After want of memory the set is as it was.
-    pub fn insert(&mut self, _alloc: Global, t: Tuple) -> Result<bool, AllocError>
+    pub fn insert(&mut self, alloc: Global, t: Tuple) -> Result<bool, AllocError>
         ensures new { IfOk result (λ new. new ≡ not (has self.old t)) }
         ensures ok { OnOk result (self.new ≡ inserted self.old t) }
         ensures err { OnErr result (self.new ≡ self.old) }
@@ -79,11 +82,14 @@ impl TupleSet {
             ((other : List ℕ) → has self.new other ≡ (same_tuple t other || has self.old other)) }
         ensures ordered { IsOrdered self.new }
     {
-        if self.contains(&t) {
+        let Err(place) = self.place(&t) else {
             return Ok(false);
+        };
+        if self.tree.len() == usize::MAX {
+            return Err(AllocError);
         }
-        let place = self.count_before(&t);
-        self.tuples.insert(place, t)?;
+        let fork = Fork::single(alloc, t)?;
+        self.tree.insert(place, fork);
         Ok(true)
     }
 
@@ -96,10 +102,10 @@ impl TupleSet {
         ensures members { (other : List ℕ) → has self.new other ≡ (has self.old other && not (same_tuple t.now other)) }
         ensures ordered { IsOrdered self.new }
     {
-        let Some(place) = self.place(t) else {
+        let Ok(place) = self.place(t) else {
             return false;
         };
-        self.tuples.remove(place);
+        self.tree.remove(place);
         true
     }
 
@@ -112,38 +118,24 @@ impl TupleSet {
         ensures within { result.1 ≤ length self.now }
         ensures range { slice_range self.now result.0 result.1 ≡ those_with self.now prefix.now }
     {
-        let from = self.count_before(prefix);
-        (from, from + self.count_with(prefix))
+        (
+            self.tree.count(prefix, false),
+            self.tree.count(prefix, true),
+        )
     }
 
-    /// The place of a member.
-    fn place(&self, t: &Tuple) -> Option<usize>
-        ensures place { result ≡ place_of self.now t.now }
+    /// The place of a member, or the place at which the tuple would stand.
+    fn place(&self, t: &Tuple) -> Result<usize, usize>
+        ensures member { IfOk result (λ place. place_of self.now t.now ≡ Some place) }
+        ensures absent { IfErr result (λ place. (has self.now t.now ≡ false) × (place ≡ count_before self.now t.now)) }
         ensures ordered { IsOrdered self.now }
     {
-        self.tuples.iter().position(|member| member == t)
-    }
-
-    /// How many members come before a tuple.
-    fn count_before(&self, t: &Tuple) -> usize
-        ensures count { result ≡ count_before self.now t.now }
-        ensures ordered { IsOrdered self.now }
-    {
-        self.tuples
-            .iter()
-            .filter(|member| member.order(t) == Ordering::Less)
-            .count()
-    }
-
-    /// How many members begin with a prefix.
-    fn count_with(&self, prefix: &Tuple) -> usize
-        ensures count { result ≡ count_with self.now prefix.now }
-        ensures room { length self.now < 2 ^ 63 }
-    {
-        self.tuples
-            .iter()
-            .filter(|member| member.begins_with(prefix))
-            .count()
+        let place = self.tree.count(t, false);
+        if place < self.tree.len() && self.tree.get(place) == t {
+            Ok(place)
+        } else {
+            Err(place)
+        }
     }
 
     /// The members of either set.
@@ -156,11 +148,7 @@ impl TupleSet {
         ensures only { IfOk result (λ set. (other : List (List ℕ)) → IsOrdered other →
             ((t : List ℕ) → has other t ≡ (has self.now t || has o.now t)) → other ≡ set) }
     {
-        let mut all = self.copy(alloc)?;
-        for t in o.tuples.iter() {
-            all.insert(alloc, t.copy(alloc)?)?;
-        }
-        Ok(all)
+        self.combined(alloc, Operation::Union, o)
     }
 
     /// The members that the other set lacks.
@@ -170,7 +158,7 @@ impl TupleSet {
             (t : List ℕ) → has set t ≡ (has self.now t && not (has o.now t))) }
         ensures ordered { IfOk result IsOrdered }
     {
-        self.chosen(alloc, o, false)
+        self.combined(alloc, Operation::Difference, o)
     }
 
     /// The members that the other set has.
@@ -180,7 +168,7 @@ impl TupleSet {
             (t : List ℕ) → has set t ≡ (has self.now t && has o.now t)) }
         ensures ordered { IfOk result IsOrdered }
     {
-        self.chosen(alloc, o, true)
+        self.combined(alloc, Operation::Intersection, o)
     }
 
     /// An equal set.
@@ -188,25 +176,39 @@ impl TupleSet {
         ensures value { IfOk result (λ copy. copy ≡ self.now) }
         ensures ordered { IsOrdered self.now }
     {
-        let mut tuples = Vec::new(alloc);
-        for t in self.tuples.iter() {
-            tuples.push(t.copy(alloc)?)?;
-        }
-        Ok(TupleSet { tuples })
+        Ok(TupleSet {
+            tree: self.tree.copy(alloc)?,
+        })
     }
 
-    /// The members that the other set has, or those that it lacks.
-    fn chosen(&self, alloc: Global, o: &TupleSet, there: bool) -> Result<TupleSet, AllocError>
-        ensures value { IfOk result
-            (λ set. set ≡ (if there then intersection self.now o.now else difference self.now o.now)) }
+    /// The result of an operation on both sets.
+    fn combined(
+        &self,
+        alloc: Global,
+        operation: Operation,
+        o: &TupleSet,
+    ) -> Result<TupleSet, AllocError>
+        ensures members { IfOk result (λ set.
+            (t : List ℕ) → has set t ≡ takes operation (has self.now t) (has o.now t)) }
         ensures ordered { IfOk result IsOrdered }
+        ensures first { IsOrdered self.now }
     {
-        let mut tuples = Vec::new(alloc);
-        for t in self.tuples.iter() {
-            if o.contains(t) == there {
-                tuples.push(t.copy(alloc)?)?;
-            }
-        }
-        Ok(TupleSet { tuples })
+        let first = self.members(alloc)?;
+        let second = o.members(alloc)?;
+        let mut made = combined(alloc, operation, &first, &second)?;
+        let size = made.len();
+        Ok(TupleSet {
+            tree: Tree::build(alloc, &mut made, size)?,
+        })
+    }
+
+    /// Equal tuples, in order.
+    fn members(&self, alloc: Global) -> Result<Vec<Tuple>, AllocError>
+        ensures value { IfOk result (λ members. members.items ≡ self.now) }
+        ensures ordered { IsOrdered self.now }
+    {
+        let mut members = Vec::with_capacity(alloc, self.tree.len())?;
+        self.tree.push_all(alloc, &mut members)?;
+        Ok(members)
     }
 }

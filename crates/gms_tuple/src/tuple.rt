@@ -1,6 +1,7 @@
 //! A tuple of labels, and the order of tuples.
 ghost use Rattle.std.specs.Prelude.{◌≡◌, ◌<◌, ◌≤◌, ℕ, List, [], ◌∷◌, ◌++◌, length, nat_eq, IfOk, OnOk, OnErr};
 ghost use Rattle.gms_tuple.specs.TupleOrder.{tuple_cmp, begins_with};
+ghost use Rattle.gms_tuple.specs.TupleSet.{is_within};
 
 use smallvec::SmallVec;
 use std::alloc::{AllocError, Global};
@@ -77,6 +78,13 @@ impl Tuple {
         ensures { result ≡ begins_with self.now prefix.now }
     {
         self.labels.as_slice().starts_with(prefix.labels.as_slice())
+    }
+
+    /// Whether the tuple comes before `prefix`, or where `through` is so begins with it.
+    pub(crate) fn is_within(&self, prefix: &Tuple, through: bool) -> bool
+        ensures { result ≡ is_within through prefix.now self.now }
+    {
+        self.order(prefix) == Ordering::Less || through && self.begins_with(prefix)
     }
 }
 

@@ -1,18 +1,30 @@
-use Rattle.std.proofs.Common.{◌≡◌, ◌∙◌, sym, false}
-use Rattle.gms_tuple.specs.TupleSet.{has}
-use Rattle.gms_tuple.proofs.Members.{insert-counted, IsOrdered-inserted, has-inserted}
+use Rattle.std.proofs.Common.{◌≡◌, ◌∙◌, ap, not, sym, insert}
+use Rattle.gms_tuple.specs.TupleSet.{has, count_before}
+use Rattle.gms_tuple.proofs.Members.{has-place, inserted-known, has-inserted, insert-counted, IsOrdered-inserted}
 use Rattle.gms_tuple.proofs.set.TupleSet.insert.Goals as goal
+
+pub returns-in_default-clause-new : goal.returns-in_default-clause-new
+returns-in_default-clause-new c = sym (ap not (has-place c.args.self.now c.args.t c.in_default.field-0 c.in_default.ensures.member))
+
+pub returns-in_default-clause-ok : goal.returns-in_default-clause-ok
+returns-in_default-clause-ok c =
+    inserted-known c.args.self.now c.args.t (has-place c.args.self.now c.args.t c.in_default.field-0 c.in_default.ensures.member)
+
+pub returns-in_default-clause-members : goal.returns-in_default-clause-members
+returns-in_default-clause-members c = λ other. ap (λ xs. has xs other) (returns-in_default-clause-ok c) ∙ has-inserted c.args.self.now c.args.t other
 
 pub returns-clause-ok : goal.returns-clause-ok
 returns-clause-ok c =
-    let new : has c.args.self.now c.args.t ≡ false = sym c.if-contains.ensures.value in
-    c.in_ok-insert.ensures.items ∙ rw (c.count_before-place.ensures.count, c.self.view_is) (insert-counted c.args.self.now c.args.t c.if-contains.ensures.ordered new)
+    let t = c.in_ok-fork.fork.value.tuple in
+    let same : t ≡ c.args.t = c.in_ok-fork.ensures.1 in
+    c.insert.ensures ∙ ap (λ xs. insert xs c.in-Err.place t) c.self.view_is ∙ ap (λ n. insert c.args.self.now n t) c.in-Err.ensures.absent.1
+    ∙ ap (insert c.args.self.now (count_before c.args.self.now c.args.t)) same ∙ insert-counted c.args.self.now c.args.t c.in-Err.ensures.ordered c.in-Err.ensures.absent.0
 
-pub invariant_of-self-2 : goal.invariant_of-self-2
-invariant_of-self-2 c = rw (returns-clause-ok c) (IsOrdered-inserted c.args.self.now c.args.t c.if-contains.ensures.ordered)
+pub invariant_of-self : goal.invariant_of-self
+invariant_of-self c = rw (returns-clause-ok c) (IsOrdered-inserted c.args.self.now c.args.t c.in-Err.ensures.ordered)
 
 pub returns-clause-members : goal.returns-clause-members
 returns-clause-members c = λ other. rw (returns-clause-ok c) (has-inserted c.args.self.now c.args.t other)
 
 pub returns-clause-ordered : goal.returns-clause-ordered
-returns-clause-ordered c = invariant_of-self-2 c
+returns-clause-ordered c = invariant_of-self c

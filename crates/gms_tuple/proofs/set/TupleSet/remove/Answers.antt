@@ -1,29 +1,23 @@
-use Rattle.std.proofs.Common.{◌∙◌, sym, ap, not, List, ℕ}
+use Rattle.std.proofs.Common.{◌∙◌, sym, ap, not, List, ℕ, remove}
 use Rattle.gms_tuple.specs.TupleOrder.{same_tuple}
-use Rattle.gms_tuple.specs.TupleSet.{has}
-use Rattle.gms_tuple.proofs.Members.{remove-at, removed-absent, has-place, has-no_place, IsOrdered-filter, has-removed}
+use Rattle.gms_tuple.proofs.Members.{remove-at, removed-absent, has-place, IsOrdered-filter, has-removed}
 use Rattle.gms_tuple.proofs.set.TupleSet.remove.Goals as goal
 
-pub returns-in_default-clause-had : goal.returns-in_default-clause-had
-returns-in_default-clause-had c = sym (has-no_place c.args.self.now c.args.t.now (sym c.in_default.ensures.place))
-
 pub returns-in_default-clause-rest : goal.returns-in_default-clause-rest
-returns-in_default-clause-rest c = sym (removed-absent c.args.self.now c.args.t.now (sym (returns-in_default-clause-had c)))
+returns-in_default-clause-rest c = sym (removed-absent c.args.self.now c.args.t.now c.in_default.ensures.absent.0)
 
-pub returns-in_default-clause-members : goal.returns-in_default-clause-members
-returns-in_default-clause-members c = λ other. ap (λ members. has members other) (returns-in_default-clause-rest c) ∙ has-removed c.args.self.now c.args.t.now other
+pub returns-clause-had : goal.returns-clause-had
+returns-clause-had c = sym (has-place c.args.self.now c.args.t.now c.in-Ok.place c.in-Ok.ensures.member)
 
 pub returns-clause-rest : goal.returns-clause-rest
-returns-clause-rest c = c.remove.ensures.items ∙ rw c.self.view_is (remove-at c.args.self.now c.args.t.now c.in-Some.place c.in-Some.ensures.ordered (sym c.in-Some.ensures.place))
+returns-clause-rest c =
+    c.remove.ensures ∙ ap (λ xs. remove xs c.in-Ok.place) c.self.view_is ∙ remove-at c.args.self.now c.args.t.now c.in-Ok.place c.in-Ok.ensures.ordered c.in-Ok.ensures.member
 
 pub invariant_of-self : goal.invariant_of-self
-invariant_of-self c = rw (returns-clause-rest c) (IsOrdered-filter (λ (member : List ℕ). not (same_tuple member c.args.t.now)) c.args.self.now c.in-Some.ensures.ordered)
+invariant_of-self c = rw (returns-clause-rest c) (IsOrdered-filter (λ (member : List ℕ). not (same_tuple member c.args.t.now)) c.args.self.now c.in-Ok.ensures.ordered)
 
 pub returns-clause-members : goal.returns-clause-members
 returns-clause-members c = λ other. rw (returns-clause-rest c) (has-removed c.args.self.now c.args.t.now other)
 
 pub returns-clause-ordered : goal.returns-clause-ordered
 returns-clause-ordered c = invariant_of-self c
-
-pub returns-clause-had : goal.returns-clause-had
-returns-clause-had c = sym (has-place c.args.self.now c.args.t.now c.in-Some.place (sym c.in-Some.ensures.place))
