@@ -1,0 +1,6 @@
+use Rattle.std.proofs.Common.{◌≡◌, ◌-◌, ◌^◌, min, length, take}
+use Rattle.gms_set.specs.Expansion.{product}
+use Rattle.gms_set.proofs.product.count.Given as goal
+
+abbrev pub invariant-loop-part : goal.invariant-loop-part
+invariant-loop-part l = l.count ≡ min (length (product (take l.part-index l.parts))) (2 ^ 64 - 1)

@@ -1,0 +1,73 @@
+-- What the items of a data list give: tuples with their values, in order, or the first fault.
+-- GAMS User's Guide, "Set Definition", "Data Entry: Parameters, Scalars and Tables". Which fault comes first is this project's own rule.
+use Rattle.std.specs.Prelude.{ℕ, ◌≡◌, Bool, false, not, ◌||◌, ◌+◌, nat_lt, List, [], ◌∷◌, ◌++◌, length, map, Option, Some, None, Result, Ok, Err, if◌then◌else◌}
+use Rattle.std.specs.List.{list_any, flat_map}
+use Rattle.gms_labels.specs.declared.place.Place.{Place}
+use Rattle.gms_ast.specs.declared.declaration.Item.{Item}
+use Rattle.gq_extended.specs.declared.extended.Ext.{Ext}
+use Rattle.gms_tuple.specs.TupleSet.{has}
+use Rattle.gms_store.specs.State.{State, members_of}
+use Rattle.gms_set.specs.declared.fault.SetError.{SetError}
+use Rattle.gms_set.specs.declared.fault.SetError.TheVariants.{BadRange, Repeated, Outside, Full}
+use Rattle.gms_set.specs.declared.fault.SetFault.{SetFault}
+use Rattle.gms_set.specs.declared.fault.SetFaultOrMemory.{SetFaultOrMemory}
+use Rattle.gms_set.specs.declared.fault.SetFaultOrMemory.TheVariants.{Memory, Fault}
+
+-- the tuples that have at each position one of the labels there, the last position fastest
+abbrev pub product : List (List ℕ) → List (List ℕ)
+product [] = [] ∷ []
+product (labels ∷ rest) = flat_map (λ label. map (λ tuple. label ∷ tuple) (product rest)) labels
+
+-- whether a tuple stands twice in a list
+abbrev pub has_repeat : List (List ℕ) → Bool
+has_repeat [] = false
+has_repeat (tuple ∷ tuples) = has tuples tuple || has_repeat tuples
+
+-- whether a label is none of the position's set; a position without a set takes any label
+abbrev pub is_outside : State → Option ℕ → ℕ → Bool
+is_outside state None label = false
+is_outside state (Some set) label = not (has (members_of state set) (label ∷ []))
+
+-- whether some position has a label that is none of its set
+abbrev pub has_outside : State → List (Option ℕ) → List (List ℕ) → Bool
+has_outside state (set ∷ sets) (labels ∷ rest) = list_any (is_outside state set) labels || has_outside state sets rest
+has_outside state sets parts = false
+
+-- tuples in the order of the data, each with the value of its item
+abbrev pub Given : Type 0 → Type 0
+Given F = List (List ℕ × Option (Ext F))
+
+module _ {F : Type 0} where
+  -- the tuples alone
+  abbrev pub tuples_of : Given F → List (List ℕ)
+  tuples_of given = map (λ (pair : List ℕ × Option (Ext F)). pair.0) given
+
+  -- tuples with one value
+  abbrev pub with_value : Option (Ext F) → List (List ℕ) → Given F
+  with_value value tuples = map (λ tuple. (tuple, value)) tuples
+
+  -- what is wrong with an item, where the items before it gave these tuples: a label outside its set comes before a bad
+  -- range, that before more than 1,048,576 tuples in all, and that before a tuple that is given twice
+  abbrev pub error_of : State → List (Option ℕ) → List (List ℕ) → Item F → Option SetError
+  error_of state domain before item =
+      if has_outside state domain item.parts then Some Outside else if item.bad_range then Some BadRange else if nat_lt 1048576 (length before + length (product item.parts)) then Some Full else if has_repeat (before ++ product item.parts) then Some Repeated else None
+
+  -- the fault of an item that has an error, and else what the items give from there on
+  abbrev pub unless : Option SetError → Place → Result (Given F) SetFault → Result (Given F) SetFault
+  unless (Some error) at rest = Err (record { error = error; at = at })
+  unless None at rest = rest
+
+  -- the items one after another, where those before them gave these tuples
+  abbrev pub with_items : State → List (Option ℕ) → Given F → List (Item F) → Result (Given F) SetFault
+  with_items state domain given [] = Ok given
+  with_items state domain given (item ∷ items) =
+      unless (error_of state domain (tuples_of given) item) item.at (with_items state domain (given ++ with_value item.value (product item.parts)) items)
+
+  -- what the items of a list give
+  abbrev pub expanded : State → List (Option ℕ) → List (Item F) → Result (Given F) SetFault
+  expanded state domain items = with_items state domain [] items
+
+  -- the error is the fault that the list has, or want of memory
+  abbrev pub IsFaultOf : Result (Given F) SetFault → SetFaultOrMemory → Type 0
+  IsFaultOf meant Memory = Unit {0}
+  IsFaultOf meant (Fault fault) = meant ≡ Err fault

@@ -1,0 +1,70 @@
+-- Ranges of labels: `a1*a3` is `a1`, `a2`, `a3`.
+-- GAMS User's Guide, "Set Definition". The limits, and when digits keep their width, are this project's own rule.
+use Rattle.std.specs.Prelude.{ℕ, ◌+◌, ◌-◌, ◌≡◌, Bool, false, not, ◌&&◌, ◌==◌, nat_le, nat_lt, List, ◌++◌, length, map, take, drop, get_or, replicate, decimal, if◌then◌else◌}
+use Rattle.std.specs.List.{range_with_len, suffix_len}
+use Rattle.std.specs.Char.{is_ascii_digit}
+use Rattle.std.specs.Str.{str_eq_ignore_ascii_case}
+use Rattle.std.specs.Str.Parse.{digits_value}
+use Rattle.gms_set.specs.declared.fault.SetError.TheVariants.{BadRange}
+use Rattle.gms_set.specs.declared.fault.SetFault.{SetFault}
+use Rattle.gms_set.specs.declared.fault.SetFaultOrMemory.{SetFaultOrMemory}
+use Rattle.gms_set.specs.declared.fault.SetFaultOrMemory.TheVariants.{Memory, Fault}
+
+-- how long a label is without the digits at its end
+abbrev pub text_length : List ℕ → ℕ
+text_length label = length label - suffix_len is_ascii_digit label
+
+-- the text before the digits at the end of a label
+abbrev pub text_of : List ℕ → List ℕ
+text_of label = take (text_length label) label
+
+-- the digits at the end of a label
+abbrev pub digits_of : List ℕ → List ℕ
+digits_of label = drop (text_length label) label
+
+-- the number of a label
+abbrev pub number_of : List ℕ → ℕ
+number_of label = digits_value 10 (digits_of label)
+
+-- whether digits begin with a 0 and are more than one, so that their width counts
+abbrev pub is_padded : List ℕ → Bool
+is_padded digits = nat_lt 1 (length digits) && get_or digits 0 0 == 48
+
+-- whether a label ends in 1 to 9 digits
+abbrev pub is_numbered : List ℕ → Bool
+is_numbered label = nat_le 1 (length (digits_of label)) && nat_le (length (digits_of label)) 9
+
+-- whether the digits of two labels go together: as wide as each other where the first are padded, and else not padded
+abbrev pub go_together : List ℕ → List ℕ → Bool
+go_together first last = if is_padded first then length first == length last else not (is_padded last)
+
+-- whether the numbers from one to another are at least one and at most 65,536
+abbrev pub is_short : ℕ → ℕ → Bool
+is_short first last = nat_le first last && nat_lt (last - first) 65536
+
+-- whether `from*to` is a range: a common text, letter case ignored, with numbers that go together, and at most 65,536 members
+abbrev pub is_range : List ℕ → List ℕ → Bool
+is_range from to =
+    str_eq_ignore_ascii_case (text_of from) (text_of to) && (is_numbered from && (is_numbered to && (go_together (digits_of from) (digits_of to) && is_short (number_of from) (number_of to))))
+
+-- how many digits the members of a range have at least: as many as the first, where that one's are padded
+abbrev pub width_of : List ℕ → ℕ
+width_of digits = if is_padded digits then length digits else 0
+
+-- a number in digits, with zeros before it up to this width
+abbrev pub written : ℕ → ℕ → List ℕ
+written width n = replicate (width - length (decimal n)) 48 ++ decimal n
+
+-- the members of a range, in order, each with the text of the first
+abbrev pub members : List ℕ → List ℕ → List (List ℕ)
+members from to =
+    map (λ n. text_of from ++ written (width_of (digits_of from)) n) (range_with_len (number_of from) (number_of to - number_of from + 1))
+
+-- a fault of a range by itself, which stands nowhere
+abbrev pub no_range : SetFault
+no_range = record { error = BadRange; at = record { line = 0; column = 0 } }
+
+-- the error of a range is that it is none, or want of memory
+abbrev pub IsRangeError : Bool → SetFaultOrMemory → Type 0
+IsRangeError range Memory = Unit {0}
+IsRangeError range (Fault fault) = (range ≡ false) × (fault ≡ no_range)

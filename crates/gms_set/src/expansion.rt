@@ -1,0 +1,133 @@
+//! The tuples that are given so far.
+ghost use Rattle.std.specs.Prelude.{◌≡◌, ◌≤◌, ◌++◌, ◌∷◌, [], false, not, length, None, IfOk, IsTrue};
+ghost use Rattle.gms_tuple.specs.TupleSet.{has};
+ghost use Rattle.gms_set.specs.Expansion.{error_of, has_repeat, product, tuples_of, with_value};
+
+use crate::fault::SetError;
+use crate::outside::has_outside;
+use crate::product::{count, tuple_at};
+use gms_ast::{Item, Sequence};
+use gms_store::Store;
+use gms_tuple::{Tuple, TupleSet};
+use gq_extended::Ext;
+use gq_field::ExactField;
+use std::alloc::{AllocError, Global};
+use std::marker::Model;
+
+/// How many tuples the data of a symbol may have.
+const MOST_TUPLES: usize = 1_048_576;
+
+/// The tuples that are given so far, each with its value. No tuple stands twice.
+#[derive(Drop)]
+pub struct Expansion<F> {
+    given: Vec<(Tuple, Option<Ext<F>>)>,
+    seen: TupleSet,
+}
+
+impl<F> Model for Expansion<F> {
+    ghost use Rattle.std.specs.Prelude.{◌≡◌, ℕ, List, false};
+    ghost use Rattle.gms_tuple.specs.TupleSet.{has};
+    ghost use Rattle.gms_set.specs.Expansion.{Given, has_repeat, tuples_of};
+
+    ghost Value = { Given F };
+
+    ghost view = { λ e. e.given.items };
+
+    ghost invariant = { λ e. ((tuple : List ℕ) → has e.seen tuple ≡ has (tuples_of e.given.items) tuple)
+        × (has_repeat (tuples_of e.given.items) ≡ false) };
+}
+
+impl<F: ExactField> Expansion<F> {
+    /// No tuples.
+    pub fn new(alloc: Global) -> Expansion<F>
+        ensures { result ≡ [] }
+    {
+        Expansion {
+            given: Vec::new(alloc),
+            seen: TupleSet::new(alloc),
+        }
+    }
+
+    /// The tuples with their values.
+    pub fn into_given(self) -> Vec<(Tuple, Option<Ext<F>>)>
+        ensures { result.items ≡ self }
+    {
+        let Expansion { given, seen } = self;
+        drop(seen);
+        given
+    }
+
+    /// Adds the tuples of an item, and tells its error where it has one.
+    pub fn add(
+        &mut self,
+        alloc: Global,
+        item: &Item<F>,
+        domain: &[Option<u32>],
+        store: &Store<F>,
+    ) -> Result<Option<SetError>, AllocError>
+        requires parts { length item.now.parts ≡ length domain.now }
+        requires few { length domain.now ≤ 10 }
+        ensures error { IfOk result (λ error. error ≡ error_of store.now domain.now (tuples_of self.old) item.now) }
+        ensures given { IfOk result (λ error. error ≡ None → self.new ≡ self.old ++ with_value item.now.value (product item.now.parts)) }
+    {
+        let parts = item.parts.as_slice();
+        if has_outside(alloc, store, domain, parts)? {
+            return Ok(Some(SetError::Outside));
+        }
+        if item.bad_range {
+            return Ok(Some(SetError::BadRange));
+        }
+        let count = count(parts);
+        if self.given.len().saturating_add(count) > MOST_TUPLES {
+            return Ok(Some(SetError::Full));
+        }
+        if self.add_product(alloc, parts, count, item.value)? {
+            Ok(None)
+        } else {
+            Ok(Some(SetError::Repeated))
+        }
+    }
+
+    /// Adds the tuples of the product with a value. False where one is given twice.
+    fn add_product(
+        &mut self,
+        alloc: Global,
+        parts: &[Sequence<u32>],
+        count: usize,
+        value: Option<Ext<F>>,
+    ) -> Result<bool, AllocError>
+        requires distinct { has_repeat (tuples_of self.old) ≡ false }
+        requires count { count ≡ length (product parts.now) }
+        requires few { length parts.now ≤ 10 }
+        ensures new { IfOk result (λ new. new ≡ not (has_repeat (tuples_of self.old ++ product parts.now))) }
+        ensures given { IfOk result (λ new. IsTrue new → self.new ≡ self.old ++ with_value value (product parts.now)) }
+    {
+        for place in 0..count {
+            let tuple = tuple_at(alloc, parts, count, place)?;
+            if !self.add_tuple(alloc, tuple, value)? {
+                return Ok(false);
+            }
+        }
+        Ok(true)
+    }
+
+    /// Adds a tuple with a value. False where it is given already.
+    fn add_tuple(
+        &mut self,
+        alloc: Global,
+        tuple: Tuple,
+        value: Option<Ext<F>>,
+    ) -> Result<bool, AllocError>
+        ensures new { IfOk result (λ new. new ≡ not (has (tuples_of self.old) tuple)) }
+        ensures given { IfOk result (λ new. IsTrue new → self.new ≡ self.old ++ (tuple, value) ∷ []) }
+        ensures distinct { has_repeat (tuples_of self.new) ≡ false }
+    {
+        self.given.reserve(1)?;
+        let member = tuple.copy(alloc)?;
+        if !self.seen.insert(alloc, member)? {
+            return Ok(false);
+        }
+        self.given.push((tuple, value))?;
+        Ok(true)
+    }
+}

@@ -1,0 +1,40 @@
+//! The tuples that the items of a data list give.
+ghost use Rattle.std.specs.Prelude.{◌≡◌, ◌≤◌, All, length, Ok, MatchResult};
+ghost use Rattle.gms_set.specs.Expansion.{expanded, IsFaultOf};
+
+use crate::expansion::Expansion;
+use crate::fault::{SetFault, SetFaultOrMemory};
+use gms_ast::Item;
+use gms_store::Store;
+use gms_tuple::Tuple;
+use gq_extended::Ext;
+use gq_field::ExactField;
+use std::alloc::Global;
+
+/// The tuples that the items give, in the order of the data, each with the value of its item.
+///
+/// The item `(a1*a3).x 5` gives three tuples, the last position fastest. The fault is that of the first item that has one:
+/// a label that the set of its position does not have, then a range that is none, then the 1,048,577th tuple, then a tuple
+/// that is given twice. A position without a set takes any label. Every item has one list of labels for each position, and
+/// there are at most ten positions, whose sets are one-dimensional. GAMS User's Guide, "Set Definition", "Data Entry:
+/// Parameters, Scalars and Tables".
+pub fn expand<F: ExactField>(
+    alloc: Global,
+    items: &[Item<F>],
+    domain: &[Option<u32>],
+    store: &Store<F>,
+) -> Result<Vec<(Tuple, Option<Ext<F>>)>, SetFaultOrMemory>
+    requires parts { All (λ item. length item.parts ≡ length domain.now) items.now }
+    requires few { length domain.now ≤ 10 }
+    ensures { MatchResult result
+        (λ given. expanded store.now domain.now items.now ≡ Ok given.items)
+        (IsFaultOf (expanded store.now domain.now items.now)) }
+{
+    let mut expansion = Expansion::new(alloc);
+    for item in items {
+        if let Some(error) = expansion.add(alloc, item, domain, store)? {
+            return Err(SetFaultOrMemory::Fault(SetFault { error, at: item.at }));
+        }
+    }
+    Ok(expansion.into_given())
+}

@@ -1,0 +1,15 @@
+//! Lists of data: ranges of labels, and the tuples that items give.
+#![tactic(auto)]
+
+mod expansion;
+mod fault;
+mod items;
+mod outside;
+mod product;
+mod ranges;
+#[cfg(test)]
+mod tests;
+
+pub use fault::{SetError, SetFault, SetFaultOrMemory};
+pub use items::expand;
+pub use ranges::range;

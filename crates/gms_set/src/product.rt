@@ -1,0 +1,42 @@
+//! The tuples that have at each position one of the labels there.
+ghost use Rattle.std.specs.Prelude.{◌≡◌, ◌≤◌, ◌<◌, ◌^◌, ◌-◌, min, Some, IfOk, length, slice_get};
+ghost use Rattle.gms_set.specs.Expansion.{product};
+
+use gms_ast::Sequence;
+use gms_tuple::Tuple;
+use std::alloc::{AllocError, Global};
+
+/// How many tuples have at each position one of the labels there, or the greatest number where there are more.
+pub fn count(parts: &[Sequence<u32>]) -> usize
+    ensures { result ≡ min (length (product parts.now)) (2 ^ 64 - 1) }
+{
+    let mut count: usize = 1;
+    for part in parts {
+        count = count.saturating_mul(part.len());
+    }
+    count
+}
+
+/// The tuple at a place of the product, of which this is the number.
+pub fn tuple_at(
+    alloc: Global,
+    parts: &[Sequence<u32>],
+    count: usize,
+    place: usize,
+) -> Result<Tuple, AllocError>
+    requires count { count ≡ length (product parts.now) }
+    requires place { place < count }
+    requires few { length parts.now ≤ 10 }
+    ensures { IfOk result (λ tuple. slice_get (product parts.now) place ≡ Some tuple) }
+{
+    let mut tuple = Tuple::new(alloc);
+    let mut below = count;
+    let mut rest = place;
+    for part in parts {
+        let labels = part.as_slice();
+        below /= labels.len();
+        tuple.push(alloc, labels[rest / below])?;
+        rest %= below;
+    }
+    Ok(tuple)
+}

@@ -1,0 +1,143 @@
+//! Ranges of labels: `a1*a3` is `a1`, `a2`, `a3`.
+ghost use Rattle.std.specs.Prelude.{ℕ, ◌≡◌, ◌≤◌, ◌<◌, ◌+◌, ◌-◌, ◌^◌, ◌++◌, true, map, length, IfOk, string_bytes, get_or, Some, None, if◌then◌else◌, IfSome};
+ghost use Rattle.std.specs.Result.{IfErr};
+ghost use Rattle.std.specs.List.{range_with_len};
+ghost use Rattle.std.specs.Int.{IsInRange};
+ghost use Rattle.std.specs.Str.{IsCharBoundary};
+ghost use Rattle.gms_set.specs.Ranges.{digits_of, go_together, IsRangeError, is_numbered, is_padded, is_range, members, number_of, text_length, text_of, width_of, written};
+
+use crate::fault::{SetError, SetFault, SetFaultOrMemory};
+use gms_labels::Place;
+use std::alloc::{AllocError, Global};
+
+/// How many members a range may have.
+const MOST_MEMBERS: u32 = 65_536;
+
+/// How many digits the number of a label may have.
+const MOST_DIGITS: usize = 9;
+
+/// The members of the range `from*to`, in order: the text of `from` with each number from that of `from` to that of `to`.
+///
+/// It is none where the texts before the digits differ, letter case ignored; where a label ends in no digits or in more than
+/// nine; where the second number is less, or there would be more than 65,536 members; and where only one of the numbers is
+/// written with zeros before it, or both in another width. Members keep the width of numbers with zeros before them. The
+/// fault is then BadRange at line 0 and column 0. GAMS User's Guide, "Set Definition".
+pub fn range(alloc: Global, from: &str, to: &str) -> Result<Vec<String>, SetFaultOrMemory>
+    ensures members { IfOk result (λ labels. (is_range from.now to.now ≡ true) × (map string_bytes labels.items ≡ members from.now to.now)) }
+    ensures fault { IfErr result (IsRangeError (is_range from.now to.now)) }
+{
+    match numbers(from, to) {
+        Some((first, count)) => Ok(labels(alloc, from, first, count)?),
+        None => Err(SetFaultOrMemory::Fault(SetFault {
+            error: SetError::BadRange,
+            at: Place { line: 0, column: 0 },
+        })),
+    }
+}
+
+/// The first number of a range, and how many it has.
+fn numbers(from: &str, to: &str) -> Option<(u32, u32)>
+    ensures value { result ≡ (if is_range from.now to.now then Some (number_of from.now, number_of to.now - number_of from.now + 1) else None) }
+    ensures room { IfSome result (λ numbers. numbers.0 + numbers.1 ≤ 2 ^ 32) }
+{
+    let (first_text, first_digits) = parts(from);
+    let (last_text, last_digits) = parts(to);
+    if !first_text.eq_ignore_ascii_case(last_text) {
+        return None;
+    }
+    let first = number(from)?;
+    let last = number(to)?;
+    if goes_together(first_digits, last_digits) && first <= last && last - first < MOST_MEMBERS {
+        Some((first, last - first + 1))
+    } else {
+        None
+    }
+}
+
+/// So many labels, with the text of this one and the numbers from the first on.
+fn labels(alloc: Global, from: &str, first: u32, count: u32) -> Result<Vec<String>, AllocError>
+    requires room { first + count ≤ 2 ^ 32 }
+    ensures { IfOk result (λ labels. map string_bytes labels.items
+        ≡ map (λ n. text_of from.now ++ written (width_of (digits_of from.now)) n) (range_with_len first count)) }
+{
+    let (text, digits) = parts(from);
+    let width = width(digits);
+    let mut labels = Vec::new(alloc);
+    for place in 0..count {
+        labels.push(label(alloc, text, width, first + place)?)?;
+    }
+    Ok(labels)
+}
+
+/// The text, and behind it the number with zeros before it up to this width.
+fn label(alloc: Global, text: &str, width: usize, number: u32) -> Result<String, AllocError>
+    ensures { IfOk result (λ label. string_bytes label ≡ text.now ++ written width number) }
+{
+    let digits = format!(in alloc; "{number}")?;
+    let mut label = String::from_str(alloc, text)?;
+    for _ in 0..width.saturating_sub(digits.len()) {
+        label.push('0')?;
+    }
+    label.push_str(digits.as_str())?;
+    Ok(label)
+}
+
+/// The number of a label that ends in 1 to 9 digits.
+fn number(label: &str) -> Option<u32>
+    ensures { result ≡ (if is_numbered label.now then Some (number_of label.now) else None) }
+{
+    let (_, digits) = parts(label);
+    if digits.is_empty() || digits.len() > MOST_DIGITS {
+        return None;
+    }
+    digits.parse::<u32>().ok()
+}
+
+/// Whether the numbers of two labels are written alike: with zeros in one width, or both without.
+fn goes_together(first: &str, last: &str) -> bool
+    ensures { result ≡ go_together first.now last.now }
+{
+    if is_padded(first) {
+        first.len() == last.len()
+    } else {
+        !is_padded(last)
+    }
+}
+
+/// How many digits a member has at least.
+fn width(digits: &str) -> usize
+    ensures { result ≡ width_of digits.now }
+{
+    if is_padded(digits) { digits.len() } else { 0 }
+}
+
+/// Whether digits begin with a 0 that is not all of them.
+fn is_padded(digits: &str) -> bool
+    ensures { result ≡ is_padded digits.now }
+{
+    let digits = digits.as_bytes();
+    digits.len() > 1 && digits[0] == b'0'
+}
+
+/// A label without the digits at its end, and these.
+fn parts(label: &str) -> (&str, &str)
+    ensures text { result.0.now ≡ text_of label.now }
+    ensures digits { result.1.now ≡ digits_of label.now }
+    ensures decimal { (i : ℕ) → i < length result.1.now → IsInRange 48 57 (get_or result.1.now i 0) }
+{
+    label.split_at(text_length(label))
+}
+
+/// How long a label is without the digits at its end.
+fn text_length(label: &str) -> usize
+    ensures value { result ≡ text_length label.now }
+    ensures boundary { IsCharBoundary label.now result }
+    ensures decimal { (i : ℕ) → result ≤ i → i < length label.now → IsInRange 48 57 (get_or label.now i 0) }
+{
+    let bytes = label.as_bytes();
+    let mut length = bytes.len();
+    while length > 0 && bytes[length - 1].is_ascii_digit() {
+        length -= 1;
+    }
+    length
+}
