@@ -1,0 +1,53 @@
+-- What a last dictionary is, and what is read from it (Chvatal, Linear Programming, chapters 2, 3 and 8).
+use Rattle.std.specs.Prelude.{◌≡◌, ◌≢◌, ◌↔◌, ◌⊎◌, ℕ, ◌+◌, ◌<◌, ◌≤◌, pos, List, map, length, slice_get, Some}
+use Rattle.std.specs.List.{All}
+use Rattle.gq_number.specs.Number.{Number, whole}
+use Rattle.gq_number.specs.Order.{◌<ℚ◌}
+use Rattle.lp_core.specs.declared.answer.Rule.TheVariants.{Legal}
+use Rattle.lp_core.specs.Sums.{number_of}
+use Rattle.lp_core.specs.StandardForm as form
+use Rattle.lp_core.specs.Dictionary.{Dictionary, basic_at, constant_at, entry_at, Meets, InPhaseOne, OpeningIsDue, Improves, first_dictionary}
+use Rattle.lp_core.specs.Answers.{NothingImproves, IsUnlimited, last_of, last_along}
+use Rattle.lp_std.specs.declared.types.Standard.{Standard}
+use Rattle.lp_std.specs.declared.types.Final.{Final}
+use Rattle.lp_std.specs.declared.types.FinalKind.{FinalKind}
+use Rattle.lp_std.specs.declared.types.FinalKind.TheVariants as kind
+use Rattle.lp_std.specs.Meaning.{standard_value}
+
+-- variable 0 has a part in a dictionary: it is basic, or is still to enter
+abbrev pub HasZero : Dictionary → Type 0
+HasZero d = InPhaseOne d ⊎ OpeningIsDue d
+
+-- A dictionary of a standard form: its basic variables are variables of the form, each told by its own row alone; and the
+-- lists of values that meet it are those that meet the first dictionary, with the same objective. Where variable 0 has no part
+-- this is said of lists with 0 at it. While it is basic, and no opening pivot is due, its constant is above 0.
+pub record IsDictionaryOf (s : form.Standard) (d : Dictionary) : Type 0 where
+  pub variables : d.variables ≡ length s.objective + length s.rows
+  pub sized : length d.basic ≡ length s.rows
+  pub there : All (λ v. v ≤ d.variables) d.basic
+  pub own : (k : ℕ) → k < length d.basic → entry_at d k (basic_at d k) ≡ whole (pos 1)
+  pub alone : (i k : ℕ) → i ≤ length d.basic → k < length d.basic → i ≢ k → entry_at d i (basic_at d k) ≡ whole (pos 0)
+  pub same : (x : List Number) (objective : Number) → (¬ (HasZero d) → number_of x 0 ≡ whole (pos 0)) → Meets d x objective ↔ Meets (first_dictionary s) x objective
+  pub zero_above : (k : ℕ) → slice_get d.basic k ≡ Some 0 → ¬ (OpeningIsDue d) → whole (pos 0) <ℚ constant_at d k
+
+-- the lists of a last dictionary, as numbers
+abbrev pub last_value : {F : Type 0} → (F → Number) → Final F → form.Last
+last_value value final = record { values = map value final.values; costs = map value final.costs; changes = map value final.ray }
+
+-- A dictionary at which the walk ends so, and what is read from it. Nothing improves: an optimum, or in phase 1 a program
+-- without feasible points. A variable improves that no row limits: that is the ray. Or the walk is broken off in phase 2 though
+-- a variable improves.
+abbrev pub EndsAt : Dictionary → FinalKind → form.Last → Type 0
+EndsAt d kind.Optimal last = ¬ (InPhaseOne d) × NothingImproves d × (last ≡ last_of d)
+EndsAt d kind.Infeasible last = InPhaseOne d × NothingImproves d × (last ≡ last_of d)
+EndsAt d kind.Unbounded last = ¬ (InPhaseOne d) × ((q : ℕ) × IsUnlimited Legal d q × (last ≡ last_along d q))
+EndsAt d kind.Interrupted last = ¬ (InPhaseOne d) × ¬ (OpeningIsDue d) × ((q : ℕ) × Improves d q) × (last ≡ last_of d)
+
+module _ {F : Type 0} (value : F → Number) where
+  -- what is read from this dictionary at its end
+  abbrev pub IsReadFrom : Dictionary → Final F → Type 0
+  IsReadFrom d final = EndsAt d final.kind (last_value value final)
+
+  -- what is read from a last dictionary of this standard form
+  abbrev pub IsLast : Standard F → Final F → Type 0
+  IsLast s final = (d : Dictionary) × IsDictionaryOf (standard_value value s) d × IsReadFrom d final

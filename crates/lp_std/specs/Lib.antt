@@ -1,0 +1,5 @@
+pub mod Meaning
+pub mod Pieces
+pub mod Last
+pub mod Back
+pub mod Points

@@ -1,0 +1,61 @@
+-- What the types of the code mean: the standard form of Chvatal, Linear Programming, chapter 1.
+use Rattle.std.specs.Prelude.{◌≡◌, ℕ, List, map, slice_get, Option, Some, None}
+use Rattle.std.specs.List.{All, AllWithin}
+use Rattle.gq_number.specs.Number.{Number}
+use Rattle.lp_core.specs.declared.program.Column.{Column}
+use Rattle.lp_core.specs.declared.program.Lp.{Lp}
+use Rattle.lp_core.specs.Proofs.{Crosses}
+use Rattle.lp_core.specs.StandardForm as form
+use Rattle.lp_core.specs.Steps.{FirstStop, standard_steps}
+use Rattle.lp_std.specs.declared.types.Shift.{Shift}
+use Rattle.lp_std.specs.declared.types.Shift.TheVariants as shift
+use Rattle.lp_std.specs.declared.types.Origin.{Origin}
+use Rattle.lp_std.specs.declared.types.Origin.TheVariants as origin
+use Rattle.lp_std.specs.declared.types.StdRow.{StdRow}
+use Rattle.lp_std.specs.declared.types.Standard.{Standard}
+use Rattle.lp_std.specs.declared.stop.Stop.{Stop}
+use Rattle.lp_std.specs.declared.stop.Stop.TheVariants as stop
+
+-- what a shift means
+abbrev pub shift_value : {F : Type 0} → (F → Number) → Shift F → form.Shift
+shift_value value (shift.Lower b) = form.from_lower (value b)
+shift_value value (shift.Upper b) = form.from_upper (value b)
+shift_value value shift.Free = form.free
+
+-- what an origin means
+abbrev pub origin_value : Origin → form.Origin
+origin_value (origin.Row i) = form.of_row i
+origin_value (origin.Negated i) = form.of_negated i
+origin_value (origin.Bound j) = form.of_bound j
+
+-- entries as numbers
+abbrev pub entries_value : {F : Type 0} → (F → Number) → List (ℕ × F) → List (ℕ × Number)
+entries_value {F} value entries = map (λ (e : ℕ × F). (e.0, value e.1)) entries
+
+-- what a row means
+abbrev pub row_value : {F : Type 0} → (F → Number) → StdRow F → form.StandardRow
+row_value value row = record { right = value row.right; entries = entries_value value row.entries; origin = origin_value row.origin }
+
+-- what a standard form means; the variables of the shifts are numbered from 1
+abbrev pub standard_value : {F : Type 0} → (F → Number) → Standard F → form.Standard
+standard_value value s =
+    record {
+      columns = form.numbered 1 (map (shift_value value) s.shifts);
+      rows = map (row_value value) s.rows;
+      objective = map value s.objective;
+      constant = value s.constant;
+    }
+
+module _ {F : Type 0} (value : F → Number) where
+  -- the first of these columns whose lower bound passes its upper one, if there is one
+  abbrev pub FirstCrossed : List (Column F) → Option ℕ → Type 0
+  FirstCrossed columns (Some j) =
+      ((column : Column F) × (slice_get columns j ≡ Some column) × Crosses value column.lower column.upper)
+      × AllWithin (λ (column : Column F). ¬ (Crosses value column.lower column.upper)) columns 0 j
+  FirstCrossed columns None = All (λ (column : Column F). ¬ (Crosses value column.lower column.upper)) columns
+
+  -- Why a program has no standard form: a column's bounds cross, or else a step does not fit. Want of memory has no cause.
+  abbrev pub HasNoForm : ℕ → Lp F → Stop → Type 0
+  HasNoForm limit lp (stop.Limit step) = FirstCrossed lp.columns None × FirstStop (standard_steps value limit lp) step
+  HasNoForm limit lp (stop.Crossed j) = FirstCrossed lp.columns (Some j)
+  HasNoForm limit lp stop.Memory = Unit {0}

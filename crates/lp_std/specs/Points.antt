@@ -1,0 +1,26 @@
+-- Values of the variables of a standard form (Chvatal, Linear Programming, chapter 1).
+use Rattle.std.specs.Prelude.{ℕ, pos, List}
+use Rattle.std.specs.List.{All, enumerate_from}
+use Rattle.gq_number.specs.Number.{Number, whole, ◌+ℚ◌, ◌*ℚ◌}
+use Rattle.gq_number.specs.Order.{◌≤ℚ◌}
+use Rattle.gq_number.specs.Sums.{sum_by_ℚ}
+use Rattle.lp_core.specs.Sums.{number_of}
+use Rattle.lp_core.specs.StandardForm.{Standard, StandardRow}
+
+-- A list has the values of all variables by their numbers, that of variable 0 first; a variable past its end has the value 0.
+
+-- each value is at least 0
+abbrev pub AreAtLeastZero : List Number → Type 0
+AreAtLeastZero y = All (λ x. whole (pos 0) ≤ℚ x) y
+
+-- the sum of coefficient times value
+abbrev pub sum_at : List (ℕ × Number) → List Number → Number
+sum_at entries y = sum_by_ℚ (λ (e : ℕ × Number). e.1 *ℚ number_of y e.0) entries
+
+-- the sum of each row is at most its right side
+abbrev pub KeepsRows : Standard → List Number → Type 0
+KeepsRows s y = All (λ (row : StandardRow). sum_at row.entries y ≤ℚ row.right) s.rows
+
+-- the objective: the constant, and each variable's coefficient times its value
+abbrev pub objective_at : Standard → List Number → Number
+objective_at s y = s.constant +ℚ sum_at (enumerate_from 1 s.objective) y

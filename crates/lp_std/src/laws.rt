@@ -1,0 +1,22 @@
+//! What a standard form has to do with its program: a law on a function with an empty body.
+ghost use Rattle.std.specs.Prelude.{◌≡◌, ◌↔◌, ℕ, List};
+ghost use Rattle.gq_number.specs.Number.{Number};
+ghost use Rattle.lp_core.specs.declared.program.Lp.{Lp};
+ghost use Rattle.lp_core.specs.Sums.{number_of};
+ghost use Rattle.lp_core.specs.Feasible.{Feasible};
+ghost use Rattle.lp_core.specs.WellFormed.{IsWellFormed};
+ghost use Rattle.lp_core.specs.StandardForm.{standard_form, point_of, directed};
+ghost use Rattle.lp_std.specs.Points.{AreAtLeastZero, KeepsRows, objective_at};
+
+use gq_field::ExactField;
+
+/// Values of variables that are at least 0 keep the rows of a standard form exactly where the point that they stand for is
+/// feasible; and the objective at them is that of the point, negated where it is to be least: Chvatal, Linear Programming,
+/// chapter 1.
+pub fn same_points<F: ExactField>()
+    ensures points { (lp : Lp F) (y : List Number) → IsWellFormed F.value lp → AreAtLeastZero y →
+        KeepsRows (standard_form F.value lp) y ↔ Feasible F.value lp (point_of (standard_form F.value lp) y) }
+    ensures objective { (lp : Lp F) (y : List Number) → IsWellFormed F.value lp →
+        objective_at (standard_form F.value lp) y
+        ≡ directed lp.maximize (number_of (point_of (standard_form F.value lp) y) lp.objective) }
+{}

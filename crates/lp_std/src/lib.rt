@@ -1,0 +1,20 @@
+//! Linear programs in standard form, and the way back from a last dictionary to an answer of the program.
+#![tactic(auto)]
+
+mod back;
+mod bounds;
+mod duals;
+mod form;
+mod laws;
+mod levels;
+mod rows;
+mod stop;
+#[cfg(test)]
+mod tests;
+mod types;
+
+pub use back::recover;
+pub use form::standard;
+pub use laws::same_points;
+pub use stop::Stop;
+pub use types::{Final, FinalKind, Origin, Shift, Standard, StdRow};

@@ -1,0 +1,77 @@
+//! A program in standard form.
+use lp_core::Sequence;
+
+/// How a column of a program is told by variables that are at least 0.
+#[derive(Clone, Copy, Debug)]
+pub enum Shift<F> {
+    /// The column is this lower bound plus its variable.
+    Lower(F),
+    /// The column is this upper bound less its variable.
+    Upper(F),
+    /// The column is the difference of two variables.
+    Free,
+}
+
+/// Where a row of a standard form comes from; places count from 0.
+#[derive(Clone, Copy, Debug, PartialEq, Eq)]
+pub enum Origin {
+    /// The row of the program at this place.
+    Row(u64),
+    /// The row of the program at this place, its sign changed.
+    Negated(u64),
+    /// The column of the program at this place, which has two bounds.
+    Bound(u32),
+}
+
+/// A row of a standard form: the sum of its entries is at most the right side.
+#[derive(Drop)]
+pub struct StdRow<F> {
+    /// The right side.
+    pub right: F,
+    /// The numbers of variables with their coefficients, by ascending number, without the slack.
+    pub entries: Sequence<(u32, F)>,
+    /// Where the row comes from.
+    pub origin: Origin,
+}
+
+/// A program in standard form: variables that are at least 0, rows at most their right sides, an objective to be greatest.
+///
+/// The variables of the columns have the numbers from 1 in the order of the columns, a free column having two; then come
+/// the slacks in the order of the rows. Chvatal, Linear Programming, chapter 1.
+#[derive(Drop)]
+pub struct Standard<F> {
+    /// The shift of each column of the program.
+    pub shifts: Sequence<Shift<F>>,
+    /// The rows: those of the program's rows, then those of its columns with two bounds.
+    pub rows: Sequence<StdRow<F>>,
+    /// The coefficient of each variable in the objective, from number 1.
+    pub objective: Sequence<F>,
+    /// The constant of the objective.
+    pub constant: F,
+}
+
+/// How the walk over dictionaries came to its end.
+#[derive(Clone, Copy, Debug, PartialEq, Eq)]
+pub enum FinalKind {
+    /// No variable improves the objective, and 0 is the value of variable 0.
+    Optimal,
+    /// The first phase is over, and variable 0 is above 0.
+    Infeasible,
+    /// A variable improves the objective, and no row limits it.
+    Unbounded,
+    /// The walk was ended before any of these.
+    Interrupted,
+}
+
+/// What is read off a last dictionary; the lists have one entry for each variable, from number 0.
+#[derive(Drop)]
+pub struct Final<F> {
+    /// How the walk came to its end.
+    pub kind: FinalKind,
+    /// The value of each variable at the dictionary's point.
+    pub values: Sequence<F>,
+    /// The coefficient of each variable: in the row of variable 0 where infeasible, else in the objective.
+    pub costs: Sequence<F>,
+    /// The direction without end where unbounded, else an empty list.
+    pub ray: Sequence<F>,
+}
