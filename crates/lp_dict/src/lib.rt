@@ -1,0 +1,14 @@
+//! The dictionary of the simplex method, sparse and exact, over any field.
+#![tactic(auto)]
+
+mod choice;
+mod dict;
+mod exchange;
+mod fault;
+mod first;
+mod last;
+mod row;
+#[cfg(test)]
+mod tests;
+
+pub use dict::Dict;
