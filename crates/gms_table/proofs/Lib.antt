@@ -1,0 +1,15 @@
+pub mod StretchLemmas
+pub mod WordLemmas
+pub mod TextLemmas
+pub mod LabelLemmas
+pub mod EnterLemmas
+pub mod HeadingLemmas
+pub mod GivenLemmas
+pub mod CellLemmas
+pub mod PartLemmas
+pub mod StandLemmas
+pub mod NumberLemmas
+pub mod RowLemmas
+pub mod CellSteps
+pub mod RowSteps
+pub mod TableLemmas

@@ -1,0 +1,26 @@
+-- The numbers in a row of a table: decimals, each with or without a sign (GAMS User's Guide, "Language Items", numbers).
+use Rattle.std.specs.Prelude.{◌≡◌, ℕ, ◌==◌, if◌then◌else◌, List, drop}
+use Rattle.gms_lines.specs.Lines.{begins}
+use Rattle.gms_tokens.specs.Numbers.{is_sign}
+use Rattle.gq_number.specs.Number.{Number, neg_ℚ}
+use Rattle.gq_text.specs.Decimal.{MeansNumber}
+use Rattle.gq_text.specs.Literal.{FitsLiteral}
+
+-- a text without the sign that it begins with, if it does
+abbrev pub unsigned : List ℕ → List ℕ
+unsigned text = if begins is_sign text then drop 1 text else text
+
+-- a number with the sign that a text begins with
+abbrev pub signed : List ℕ → Number → Number
+signed text x = if begins (λ b. b == 45) text then neg_ℚ x else x
+
+-- the text is a number, of any size, with or without a sign
+abbrev pub IsNumber : List ℕ → Type 0
+IsNumber text = (x : Number) × MeansNumber (unsigned text) x
+
+-- the text is this number, which is within the limit by the rule for literals
+pub record IsValue (limit : ℕ) (text : List ℕ) (y : Number) : Type 0 where
+  pub magnitude : Number
+  pub means : MeansNumber (unsigned text) magnitude
+  pub fits : FitsLiteral limit magnitude
+  pub value : y ≡ signed text magnitude

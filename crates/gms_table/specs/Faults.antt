@@ -1,0 +1,22 @@
+-- The numbers and names of the errors of tables.
+use Rattle.std.specs.Prelude.{ℕ, List, codes}
+use Rattle.gms_table.specs.declared.fault.TableError.{TableError}
+use Rattle.gms_table.specs.declared.fault.TableError.TheVariants.{NoColumn, TwoColumns, RepeatedEntry, BadRow, NoHeading, Labels}
+
+-- the number of an error
+abbrev pub error_code : TableError → ℕ
+error_code NoColumn = 1
+error_code TwoColumns = 2
+error_code RepeatedEntry = 3
+error_code BadRow = 4
+error_code NoHeading = 5
+error_code Labels = 6
+
+-- the name of an error
+abbrev pub error_name : TableError → List ℕ
+error_name NoColumn = codes "NoColumn"
+error_name TwoColumns = codes "TwoColumns"
+error_name RepeatedEntry = codes "RepeatedEntry"
+error_name BadRow = codes "BadRow"
+error_name NoHeading = codes "NoHeading"
+error_name Labels = codes "Labels"

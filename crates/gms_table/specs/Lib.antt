@@ -1,0 +1,12 @@
+pub mod Words
+pub mod WordLabels
+pub mod CellNumbers
+pub mod Faults
+pub mod TableEntries
+pub mod Stretches
+pub mod Shown
+pub mod Names
+pub mod ReadNumbers
+pub mod Given
+pub mod Cells
+pub mod Progress

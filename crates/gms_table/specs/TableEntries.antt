@@ -1,0 +1,165 @@
+-- The entries of a table: each number stands under one heading, by the columns that they take, and in the row of a label; or the
+-- first fault (GAMS User's Guide, "Data Entry: Parameters, Scalars and Tables"). Which faults there are, and which comes first, is
+-- this project's own rule.
+use Rattle.std.specs.Prelude.{◌≡◌, ◌⊎◌, ℕ, ◌≤◌, ◌<◌, Bool, ◌&&◌, ◌==◌, nat_lt, if◌then◌else◌, List, [], ◌∷◌, ◌++◌, length, map, filter, Contains, None, string_bytes}
+use Rattle.gms_labels.specs.declared.place.Place.{Place}
+use Rattle.gms_labels.specs.Labels.{folded}
+use Rattle.gms_lines.specs.Lines.{begins}
+use Rattle.gq_number.specs.Number.{Number}
+use Rattle.gms_table.specs.declared.entry.TableLine.{TableLine}
+use Rattle.gms_table.specs.declared.entry.Entry.{Entry}
+use Rattle.gms_table.specs.declared.fault.TableError.{TableError}
+use Rattle.gms_table.specs.declared.fault.TableError.TheVariants.{NoColumn, TwoColumns, RepeatedEntry, BadRow, NoHeading, Labels}
+use Rattle.gms_table.specs.declared.fault.TableFault.{TableFault}
+use Rattle.gms_table.specs.declared.fault.TableFaultOrMemory.{TableFaultOrMemory}
+use Rattle.gms_table.specs.declared.fault.TableFaultOrMemory.TheVariants.{Memory, Fault}
+use Rattle.gms_table.specs.Words.{Word, words_of}
+use Rattle.gms_table.specs.WordLabels.{labels_of, names_of, all_entered, AreNumbers, most_labels}
+use Rattle.gms_table.specs.CellNumbers.{IsNumber, IsValue}
+use Rattle.gms_table.specs.Faults.{error_code}
+
+-- ---- what the words of a table are
+
+-- A word of a table.
+pub data Part : Type 0 where
+  -- a heading or a row label
+  name : Word → Part
+  -- a later word of a row, where a number is due: with the row's label and the headings that hold there
+  cell : Word → List Word → Word → Part
+
+-- the word `+`
+abbrev pub is_plus : Word → Bool
+is_plus word = begins (λ b. b == 43) word.text && length word.text == 1
+
+-- the words of lines under these headings: behind a `+` stand new headings, and any other line is a row
+abbrev pub under : List Word → List (List Word) → List Part
+under headings [] = []
+under headings ([] ∷ lines) = under headings lines
+under headings ((first ∷ words) ∷ lines) =
+    if is_plus first then map name words ++ under words lines else name first ∷ (map (cell first headings) words ++ under headings lines)
+
+-- the words of a table, whose first line with words has the headings
+abbrev pub table_of : List (List Word) → List Part
+table_of [] = []
+table_of ([] ∷ lines) = table_of lines
+table_of ((first ∷ words) ∷ lines) = map name (first ∷ words) ++ under (first ∷ words) lines
+
+-- the words of the lines of a table
+abbrev pub parts_of : List TableLine → List Part
+parts_of lines = table_of (map (λ line. words_of line.line (string_bytes line.text)) lines)
+
+-- where a word of a table stands
+abbrev pub place_of_part : Part → Place
+place_of_part (name word) = word.at
+place_of_part (cell row headings word) = word.at
+
+-- the labels of headings and row labels, in order
+abbrev pub texts_of : List Part → List (List ℕ)
+texts_of [] = []
+texts_of (name word ∷ parts) = names_of word ++ texts_of parts
+texts_of (cell row headings word ∷ parts) = texts_of parts
+
+-- ---- which heading a number stands under
+
+-- a number at columns p up to q and a heading at columns r up to s meet where p < s and r < q
+abbrev pub meet : Word → Word → Bool
+meet number heading = nat_lt number.at.column heading.end && nat_lt heading.at.column number.end
+
+-- the headings that a number meets
+abbrev pub met : List Word → Word → List Word
+met headings number = filter (meet number) headings
+
+-- a row label and a heading as labels, letter case ignored
+abbrev pub Key : Type 0
+Key = List (List ℕ) × List (List ℕ)
+
+-- the labels of a row and of a heading
+abbrev pub key_of : Word → Word → Key
+key_of row heading = (map folded (names_of row), map folded (names_of heading))
+
+-- the rows and headings at which numbers stand
+abbrev pub keys_of : List Part → List Key
+keys_of [] = []
+keys_of (name word ∷ parts) = keys_of parts
+keys_of (cell row headings word ∷ parts) = map (key_of row) (met headings word) ++ keys_of parts
+
+-- ---- entries
+
+module _ {F : Type 0} (limit : ℕ) (value : F → Number) (labels : List (List ℕ)) where
+  -- An entry is that of a number in a row under these headings: the one heading that it meets, its place and its value; the labels
+  -- have their numbers in the table of labels.
+  pub record IsEntry (row : Word) (headings : List Word) (word : Word) (entry : Entry F) : Type 0 where
+    pub heading : Word
+    pub under_one : met headings word ≡ heading ∷ []
+    pub at : entry.at ≡ word.at
+    pub row_is : AreNumbers labels entry.row (names_of row)
+    pub column_is : AreNumbers labels entry.column (names_of heading)
+    pub value_is : IsValue limit word.text (value entry.value)
+
+  -- the entries of a table: one for each number, in order
+  abbrev pub AreEntries : List Part → List (Entry F) → Type 0
+  AreEntries [] entries = entries ≡ []
+  AreEntries (name word ∷ parts) entries = AreEntries parts entries
+  AreEntries (cell row headings word ∷ parts) [] = ⊥
+  AreEntries (cell row headings word ∷ parts) (entry ∷ entries) = IsEntry row headings word entry × AreEntries parts entries
+
+-- ---- faults
+
+module _ (limit : ℕ) (labels : List (List ℕ)) where
+  -- The error stands at a part of a table behind these others. A heading or a row label is not made of labels, or one of its labels
+  -- is one too many. Where a number is due, a number meets no heading, meets two or more, or is the second one of its row and
+  -- heading; or there is no number within the limit.
+  abbrev pub Stands : List Part → Part → TableError → Type 0
+  Stands before (name word) BadRow = labels_of word.text ≡ None
+  Stands before (name word) Labels = most_labels < length (all_entered labels (texts_of before ++ names_of word))
+  Stands before (name word) NoColumn = ⊥
+  Stands before (name word) TwoColumns = ⊥
+  Stands before (name word) RepeatedEntry = ⊥
+  Stands before (name word) NoHeading = ⊥
+  Stands before (cell row headings word) NoColumn = IsNumber word.text × (met headings word ≡ [])
+  Stands before (cell row headings word) TwoColumns = IsNumber word.text × (1 < length (met headings word))
+  Stands before (cell row headings word) RepeatedEntry =
+      IsNumber word.text × ((heading : Word) × (met headings word ≡ heading ∷ []) × Contains (keys_of before) (key_of row heading))
+  Stands before (cell row headings word) BadRow = (x : Number) → ¬ IsValue limit word.text x
+  Stands before (cell row headings word) NoHeading = ⊥
+  Stands before (cell row headings word) Labels = ⊥
+
+  -- no error stands at any of these parts, which follow others
+  abbrev pub AreSound : List Part → List Part → Type 0
+  AreSound before [] = Unit {0}
+  AreSound before (part ∷ parts) = ((error : TableError) → ¬ Stands before part error) × AreSound (before ++ part ∷ []) parts
+
+  -- The first fault of a table: nothing stands before its part, and it is the least that stands there.
+  pub record IsFirstFault (parts : List Part) (fault : TableFault) : Type 0 where
+    pub before : List Part
+    pub part : Part
+    pub behind : List Part
+    pub parts_are : parts ≡ before ++ part ∷ behind
+    pub sound : AreSound [] before
+    pub at : fault.at ≡ place_of_part part
+    pub stands : Stands before part fault.error
+    pub least : (other : TableError) → Stands before part other → error_code fault.error ≤ error_code other
+
+-- ---- the whole
+
+-- a place that is none
+abbrev pub nowhere : Place
+nowhere = record { line = 0; column = 0 }
+
+-- These are the entries of a table, in which there are headings and nothing is wrong, and these are the labels after it, where
+-- before it the others were.
+pub record IsTable {F : Type 0} (limit : ℕ) (value : F → Number) (lines : List TableLine) (before after : List (List ℕ)) (entries : List (Entry F)) : Type 0 where
+  pub headed : ¬ (parts_of lines ≡ [])
+  pub sound : AreSound limit before [] (parts_of lines)
+  pub labels_are : after ≡ all_entered before (texts_of (parts_of lines))
+  pub entries_are : AreEntries limit value after (parts_of lines) entries
+
+-- the fault of a table: that no line has a heading, or the first in its lines
+abbrev pub IsFault : ℕ → List TableLine → List (List ℕ) → TableFault → Type 0
+IsFault limit lines labels fault =
+    ((parts_of lines ≡ []) × (fault ≡ record { error = NoHeading; at = nowhere })) ⊎ IsFirstFault limit labels (parts_of lines) fault
+
+-- an answer in place of entries: the first fault of the table, or want of memory
+abbrev pub IsRefusal : ℕ → List TableLine → List (List ℕ) → TableFaultOrMemory → Type 0
+IsRefusal limit lines labels (Fault fault) = IsFault limit lines labels fault
+IsRefusal limit lines labels Memory = Unit {0}

@@ -1,0 +1,96 @@
+//! Why a table has no entries, and where.
+ghost use Rattle.std.specs.Prelude.{◌≡◌};
+ghost use Rattle.gms_table.specs.Faults.{error_code, error_name};
+ghost use Rattle.gms_table.specs.declared.fault.TableFaultOrMemory.TheVariants.{Memory};
+
+use gms_labels::Place;
+use std::alloc::{AllocError, AllocFailed};
+use thiserror::Error;
+
+/// An error of a table.
+#[derive(Clone, Copy, Debug, PartialEq, Eq, Error)]
+pub enum TableError {
+    /// A number that stands under no heading.
+    #[error("the number stands under no heading")]
+    NoColumn,
+    /// A number that stands under two headings or more.
+    #[error("the number stands under two headings")]
+    TwoColumns,
+    /// A second number for the same row label and the same heading.
+    #[error("the entry is given twice")]
+    RepeatedEntry,
+    /// A heading or a row label that is not made of labels joined by dots, or a later word of a row that is no number within the
+    /// limit.
+    #[error("this is neither a label nor a number of a table")]
+    BadRow,
+    /// A table without a line of headings.
+    #[error("the table has no headings")]
+    NoHeading,
+    /// A label that is one more than a table of labels may have.
+    #[error("the table of labels is full")]
+    Labels,
+}
+
+impl TableError {
+    /// The number of the error.
+    pub fn code(self) -> u8
+        ensures { result ≡ error_code self }
+    {
+        match self {
+            TableError::NoColumn => 1,
+            TableError::TwoColumns => 2,
+            TableError::RepeatedEntry => 3,
+            TableError::BadRow => 4,
+            TableError::NoHeading => 5,
+            TableError::Labels => 6,
+        }
+    }
+
+    /// The name of the error.
+    pub fn name(self) -> &'static str
+        ensures { result.now ≡ error_name self }
+    {
+        match self {
+            TableError::NoColumn => "NoColumn",
+            TableError::TwoColumns => "TwoColumns",
+            TableError::RepeatedEntry => "RepeatedEntry",
+            TableError::BadRow => "BadRow",
+            TableError::NoHeading => "NoHeading",
+            TableError::Labels => "Labels",
+        }
+    }
+}
+
+/// An error of a table and the place of its word.
+#[derive(Clone, Copy, Debug, PartialEq, Eq)]
+pub struct TableFault {
+    /// The error.
+    pub error: TableError,
+    /// Where the word stands; line 0 and column 0 for a table without headings.
+    pub at: Place,
+}
+
+/// A fault of a table, or want of memory.
+#[derive(Clone, Copy, Debug, PartialEq, Eq)]
+pub enum TableFaultOrMemory {
+    /// A growth found no memory.
+    Memory,
+    /// The table has this fault.
+    Fault(TableFault),
+}
+
+impl From<AllocError> for TableFaultOrMemory {
+    ghost from_gives = { λ _ e. e ≡ Memory };
+
+    fn from(_error: AllocError) -> TableFaultOrMemory {
+        TableFaultOrMemory::Memory
+    }
+}
+
+impl<T: Drop> From<AllocFailed<T>> for TableFaultOrMemory {
+    ghost from_gives = { λ _ e. e ≡ Memory };
+
+    fn from(_error: AllocFailed<T>) -> TableFaultOrMemory {
+        TableFaultOrMemory::Memory
+    }
+}

@@ -1,0 +1,139 @@
+//! The labels of a heading or a row label.
+ghost use Rattle.std.specs.Prelude.{◌≡◌, ◌≤◌, ◌<◌, ◌==◌, true, not, length, IfOk, IfSome, All, vec_len};
+ghost use Rattle.std.specs.List.{list_all, prefix_len};
+ghost use Rattle.std.specs.Char.{is_ascii_alphanumeric};
+ghost use Rattle.std.specs.Option.{option_copied};
+ghost use Rattle.gms_lines.specs.Lines.{begins};
+ghost use Rattle.gms_tokens.specs.Bytes.{is_plain};
+ghost use Rattle.gms_table.specs.WordLabels.{quoted_label, plain_label, label_of, labels_of, GoesOn};
+ghost use Rattle.gms_table.specs.Names.{Enters, IsEntering, read, read_all};
+ghost use Rattle.gms_table.specs.Shown.{seen};
+
+use crate::fault::{TableError, TableFaultOrMemory};
+use crate::stretch::{Separator, stretch_length};
+use crate::word::Word;
+use gms_labels::{LabelFault, Labels, MOST_BYTES};
+use gms_tokens::label_length;
+use std::alloc::{AllocError, Global};
+
+/// Whether all bytes are of ASCII.
+fn are_plain(bytes: &[u8]) -> bool
+    ensures { result ≡ list_all is_plain bytes.now }
+{
+    bytes.iter().all(|byte| *byte <= 127)
+}
+
+/// The text of bytes that are all of ASCII.
+fn plain_text(bytes: &[u8]) -> Option<&str>
+    requires { list_all is_plain bytes.now ≡ true }
+    ensures { option_copied result ≡ Some bytes.now }
+{
+    str::from_utf8(bytes).ok()
+}
+
+/// How many bytes stand before a mark.
+fn inner_length(mark: u8, rest: &[u8]) -> usize
+    ensures value { result ≡ prefix_len (λ b. not (b == mark)) rest.now }
+    ensures within { result ≤ length rest.now }
+{
+    rest.iter().take_while(|byte| **byte != mark).count()
+}
+
+/// The label that stands between a mark and the next one, with nothing behind that.
+fn quoted_label(mark: u8, rest: &[u8]) -> Option<&str>
+    ensures label { option_copied result ≡ quoted_label mark rest.now }
+    ensures short { IfSome result (λ label. length label.now ≤ 63) }
+{
+    let inner = inner_length(mark, rest);
+    let text = &rest[..inner];
+    if inner + 1 == rest.len() && inner <= MOST_BYTES && are_plain(text) {
+        plain_text(text)
+    } else {
+        None
+    }
+}
+
+/// Whether a text begins with a letter or a digit.
+fn begins_label(text: &[u8]) -> bool
+    ensures { result ≡ begins is_ascii_alphanumeric text.now }
+{
+    matches!(text, [byte, ..] if byte.is_ascii_alphanumeric())
+}
+
+/// The label that is written without marks: a letter or a digit, and then letters, digits, `+`, `-` and `_`.
+fn plain_label(text: &[u8]) -> Option<&str>
+    ensures label { option_copied result ≡ plain_label text.now }
+    ensures short { IfSome result (λ label. length label.now ≤ 63) }
+{
+    if begins_label(text) && label_length(text) == text.len() && text.len() <= MOST_BYTES {
+        plain_text(text)
+    } else {
+        None
+    }
+}
+
+/// The label that a text writes, if it does.
+fn label_of(text: &[u8]) -> Option<&str>
+    ensures label { option_copied result ≡ label_of text.now }
+    ensures short { IfSome result (λ label. length label.now ≤ 63) }
+{
+    match text {
+        [mark @ (b'"' | b'\''), rest @ ..] => quoted_label(*mark, rest),
+        _ => plain_label(text),
+    }
+}
+
+/// The labels that a text joins by dots, if it is made of labels.
+fn labels_of(alloc: Global, text: &[u8]) -> Result<Option<Vec<&str>>, AllocError>
+    ensures labels { IfOk result (λ labels. read labels ≡ labels_of text.now) }
+    ensures short { IfOk result (λ labels. IfSome labels (λ labels. All (λ label. length label.now ≤ 63) labels.items)) }
+    ensures some { IfOk result (λ labels. IfSome labels (λ labels. 0 < vec_len labels)) }
+{
+    let mut labels = Vec::new(alloc);
+    let mut rest = text;
+    loop {
+        let (front, behind) = rest.split_at(stretch_length(Separator::Dot, rest));
+        let Some(label) = label_of(front) else {
+            return Ok(None);
+        };
+        labels.push(label)?;
+        match behind {
+            [] => return Ok(Some(labels)),
+            [_, others @ ..] => rest = others,
+        }
+    }
+}
+
+/// The numbers of labels in a table of labels, in which they are entered.
+fn enter_all(alloc: Global, table: &mut Labels, labels: &[&str]) -> Result<Vec<u32>, LabelFault>
+    requires { All (λ label. length label.now ≤ 63) labels.now }
+    ensures entered { IsEntering table.old table.new (read_all labels.now) result }
+    ensures goes_on { GoesOn table.old table.new }
+{
+    let mut numbers = Vec::with_capacity(alloc, labels.len())?;
+    for label in labels {
+        numbers.push(table.enter(alloc, *label)?)?;
+    }
+    Ok(numbers)
+}
+
+/// The numbers of the labels of a heading or a row label, in a table of labels in which they are entered.
+///
+/// `BadRow` comes exactly where the word is not made of labels, and `Labels` exactly where one of them is one too many.
+pub(crate) fn enter(
+    alloc: Global,
+    table: &mut Labels,
+    word: Word<'_>,
+) -> Result<Vec<u32>, TableFaultOrMemory>
+    ensures entered { Enters table.old table.new (seen word.entry) result }
+    ensures goes_on { GoesOn table.old table.new }
+{
+    let Some(labels) = labels_of(alloc, word.text)? else {
+        return Err(word.fault(TableError::BadRow));
+    };
+    match enter_all(alloc, table, labels.as_slice()) {
+        Ok(numbers) => Ok(numbers),
+        Err(LabelFault::Full) => Err(word.fault(TableError::Labels)),
+        Err(LabelFault::Memory) => Err(TableFaultOrMemory::Memory),
+    }
+}

@@ -1,0 +1,18 @@
+//! Tables of data: numbers under headings and behind row labels, each with its entry, or the first fault of the table.
+#![tactic(auto)]
+
+mod entry;
+mod fault;
+mod given;
+mod heading;
+mod label;
+mod number;
+mod stretch;
+mod tables;
+#[cfg(test)]
+mod tests;
+mod word;
+
+pub use entry::{Entry, TableLine};
+pub use fault::{TableError, TableFault, TableFaultOrMemory};
+pub use tables::{LONGEST_LINE, table};

@@ -1,0 +1,96 @@
+//! The words of a line of a table, and the columns that they take.
+ghost use Rattle.std.specs.Prelude.{◌≡◌, ◌≤◌, ◌<◌, ◌+◌, ◌*◌, ◌^◌, ◌++◌, length, fold, IfOk, OnOk};
+ghost use Rattle.gms_table.specs.Words.{column_after, word_of, words_of};
+ghost use Rattle.gms_table.specs.Shown.{seen, seen_all, AreSpaced};
+
+use crate::fault::{TableError, TableFault, TableFaultOrMemory};
+use crate::stretch::{Separator, stretch_length};
+use gms_labels::Place;
+use std::alloc::{AllocError, Global};
+
+/// A word of a line.
+#[derive(Clone, Copy)]
+pub(crate) struct Word<'a> {
+    /// The place of its first byte.
+    pub(crate) at: Place,
+    /// The column behind it.
+    pub(crate) end: u32,
+    /// Its bytes.
+    pub(crate) text: &'a [u8],
+}
+
+impl Word<'_> {
+    /// This error, at the place of the word.
+    pub(crate) fn fault(self, error: TableError) -> TableFaultOrMemory
+        ensures { result ≡ TableFaultOrMemory.Fault (record { error = error; at = self.entry.at }) }
+    {
+        TableFaultOrMemory::Fault(TableFault { error, at: self.at })
+    }
+}
+
+/// The column behind a byte; a tab goes to the next column that is one more than a multiple of 8.
+fn column_after(column: u32, byte: u8) -> u32
+    requires { column + 8 < 2 ^ 32 }
+    ensures { result ≡ column_after column byte }
+{
+    if byte == b'\t' {
+        (column + 7) / 8 * 8 + 1
+    } else {
+        column + 1
+    }
+}
+
+/// The column behind bytes of which the first stands in this column.
+fn column_behind(mut column: u32, text: &[u8]) -> u32
+    requires { column + 8 * length text.now < 2 ^ 32 }
+    ensures value { result ≡ fold column_after column text.now }
+    ensures grows { column + length text.now ≤ result }
+    ensures within { result ≤ column + 8 * length text.now }
+{
+    for byte in text {
+        column = column_after(column, *byte);
+    }
+    column
+}
+
+/// Adds the word of these bytes, if there are any.
+fn push_word<'a>(
+    words: &mut Vec<Word<'a>>,
+    at: Place,
+    end: u32,
+    text: &'a [u8],
+) -> Result<(), AllocError>
+    ensures { OnOk result (seen_all words.new.items ≡ seen_all words.old.items ++ word_of at end text.now) }
+{
+    if !text.is_empty() {
+        words.push(Word { at, end, text })?;
+    }
+    Ok(())
+}
+
+/// The words of a line, in order, each with its columns; no two of them meet.
+pub(crate) fn words_of(alloc: Global, number: u32, line: &[u8]) -> Result<Vec<Word<'_>>, AllocError>
+    requires { length line.now ≤ 32768 }
+    ensures words { IfOk result (λ words. seen_all words.items ≡ words_of number line.now) }
+    ensures spaced { IfOk result (λ words. AreSpaced (seen_all words.items)) }
+{
+    let mut words = Vec::new(alloc);
+    let mut start = 0;
+    let mut column = 1;
+    loop {
+        let rest = &line[start..];
+        let text = &rest[..stretch_length(Separator::Blank, rest)];
+        let end = column_behind(column, text);
+        let at = Place {
+            line: number,
+            column,
+        };
+        push_word(&mut words, at, end, text)?;
+        start += text.len();
+        if start == line.len() {
+            return Ok(words);
+        }
+        column = column_after(end, line[start]);
+        start += 1;
+    }
+}
