@@ -1,0 +1,20 @@
+//! Expressions, read from tokens.
+#![tactic(auto)]
+
+mod chain;
+mod constant;
+mod fault;
+mod grammar;
+mod name;
+mod node;
+mod operand;
+mod read;
+mod reader;
+mod reference;
+mod spelling;
+mod word;
+
+pub use fault::{SyntaxError, SyntaxFault, SyntaxFaultOrMemory};
+pub use read::{control, expression, primary, target};
+pub use reader::MOST_OPEN;
+pub use word::{bytes_of, terminal_of};
