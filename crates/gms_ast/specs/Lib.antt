@@ -2,3 +2,6 @@ pub mod Greatest
 pub mod Nesting
 pub mod TreeView
 pub mod Trees
+pub mod Numbers
+pub mod StatementTrees
+pub mod StatementView

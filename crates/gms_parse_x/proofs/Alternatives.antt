@@ -18,7 +18,7 @@ use Rattle.gms_parse_x.specs.declared.fault.SyntaxFaultOrMemory.{SyntaxFaultOrMe
 use Rattle.gms_parse_x.specs.declared.reader.Reader.{Reader}
 use Rattle.gms_parse_x.specs.declared.reader.Tables.{Tables}
 use Rattle.gms_parse_x.specs.ExpressionTrees.{condition as condition_in_tree}
-use Rattle.gms_parse_x.specs.Numbers.{control_in_numbers}
+use Rattle.gms_ast.specs.Numbers.{control_in_numbers}
 use Rattle.gms_parse_x.specs.Nodes.{view}
 use Rattle.gms_parse_x.specs.Readings.{Seen, Derivation, GamsPart, Refuses, Sense, IsSense, IsGot, IsAnswer, IsMeant, AreSets, IsControl, seen_from, walk_of}
 use Rattle.gms_parse_x.proofs.TokenKinds.{also, leads_by_kind}

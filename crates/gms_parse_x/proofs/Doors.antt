@@ -12,7 +12,7 @@ use Rattle.gms_parse_x.specs.declared.reader.Reader.{Reader}
 use Rattle.gms_parse_x.specs.declared.reader.Tables.{Tables}
 use Rattle.gms_parse_x.specs.ExpressionTrees.{no_token}
 use Rattle.gms_parse_x.specs.Outcomes.{Walk, IsRefused}
-use Rattle.gms_parse_x.specs.Numbers.{IsValuation}
+use Rattle.gms_parse_x.specs.Valuations.{IsValuation}
 use Rattle.gms_parse_x.specs.Calls.{IsRead, IsRefusal}
 use Rattle.gms_parse_x.specs.Readings.{Seen, Derivation, Gives, Refuses, IsStuck, IsWrong, Sense, IsGot, seen_from, walk_of}
 

@@ -23,7 +23,7 @@ use Rattle.gms_parse_x.specs.declared.fault.SyntaxFaultOrMemory.{SyntaxFaultOrMe
 use Rattle.gms_parse_x.specs.declared.reader.Reader.{Reader}
 use Rattle.gms_parse_x.specs.declared.reader.Tables.{Tables}
 use Rattle.gms_parse_x.specs.ExpressionTrees.{index as index_in, indices as indices_in, more_indices, lag as lag_in_tree}
-use Rattle.gms_parse_x.specs.Numbers.{indices_in_numbers}
+use Rattle.gms_ast.specs.Numbers.{indices_in_numbers}
 use Rattle.gms_parse_x.specs.Readings.{Seen, Derivation, GamsPart, Refuses, Sense, IsSense, IsGot, IsAnswer, IsNext, IsName, IsLabel, IsLag, IsIndex, AreIndices, seen_from, walk_of, kind_of}
 use Rattle.gms_parse_x.proofs.TokenKinds.{leads_by_kind, same_test}
 use Rattle.gms_parse_x.proofs.Steps.{Within, within_the, within_second, within_then, within_again, gives_both, gives_the, gives_left, gives_right, gives_none, gives_some, gives_no_more, refuses_the, refuses_right, refuses_second, refuses_some, refuses_again}

@@ -5,7 +5,7 @@ use Rattle.gq_number.specs.Number.{Number}
 use Rattle.gms_ast.specs.Trees.{Mark, Tree as Syntax, Parts, part}
 use Rattle.gms_ast.specs.TreeView.{parts_of}
 use Rattle.gms_parse_x.specs.ExpressionTrees.{or_alone}
-use Rattle.gms_parse_x.specs.Numbers.{in_numbers, parts_in_numbers}
+use Rattle.gms_ast.specs.Numbers.{in_numbers, parts_in_numbers}
 use Rattle.gms_parse_x.specs.Nodes.{joined}
 
 module _ {F X : Type 0} (value : F → Number) (mark : X → Mark) (tree : X → Syntax F) where

@@ -26,7 +26,7 @@ use Rattle.gms_parse_x.specs.declared.fault.SyntaxFaultOrMemory.{SyntaxFaultOrMe
 use Rattle.gms_parse_x.specs.declared.reader.Reader.{Reader}
 use Rattle.gms_parse_x.specs.declared.reader.Tables.{Tables}
 use Rattle.gms_parse_x.specs.ExpressionTrees.{is_word, token_of, name_in, function_of, fold_op_of, function_call, set_call, fold_of, scalar, target as target_in_tree, expression, bracketed_arguments, control as control_in_tree}
-use Rattle.gms_parse_x.specs.Numbers.{in_numbers, indices_in_numbers, control_in_numbers}
+use Rattle.gms_ast.specs.Numbers.{in_numbers, indices_in_numbers, control_in_numbers}
 use Rattle.gms_parse_x.specs.Nodes.{view, plain_views}
 use Rattle.gms_parse_x.specs.Readings.{Derivation, GamsPart, Refuses, Sense, IsSense, IsGot, IsMeant, IsNext, IsBefore, IsOpened, IsName, IsSuffix, AreNames, AreSets, AreArguments, AreIndices, IsControl, IsTarget, inside, seen_from, walk_of}
 use Rattle.gms_parse_x.proofs.Made.{numbers_in_parts}

@@ -8,7 +8,7 @@ use Rattle.gms_grammar.specs.GamsGrammar.{Nonterminal}
 use Rattle.gms_parse_x.specs.declared.fault.SyntaxFaultOrMemory.{SyntaxFaultOrMemory}
 use Rattle.gms_parse_x.specs.declared.fault.SyntaxFaultOrMemory.TheVariants.{Fault, Memory}
 use Rattle.gms_parse_x.specs.Outcomes.{Walk, seen, IsPart, IsRefused}
-use Rattle.gms_parse_x.specs.Numbers.{IsValuation}
+use Rattle.gms_parse_x.specs.Valuations.{IsValuation}
 
 -- so many parentheses are open before a part, and these are the names and the labels
 abbrev pub walk_from : ℕ → List (List ℕ) → List (List ℕ) → Walk

@@ -7,7 +7,7 @@ use Rattle.gms_ast.specs.declared.expression.RelOp.{RelOp}
 use Rattle.gms_ast.specs.Trees.{Mark, plain, placed, signed, related, chosen, Tree as Syntax, Parts, part}
 use Rattle.gms_ast.specs.TreeView.{tree_of, parts_of}
 use Rattle.gms_parse_x.specs.ExpressionTrees.{or_alone}
-use Rattle.gms_parse_x.specs.Numbers.{in_numbers}
+use Rattle.gms_ast.specs.Numbers.{in_numbers}
 
 -- a first part alone, or the node of it and others
 abbrev pub joined : {N : Type 0} → (Parts N → Syntax N) → Mark → Syntax N → List (Mark × Syntax N) → Syntax N

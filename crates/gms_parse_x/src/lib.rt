@@ -17,4 +17,5 @@ mod word;
 pub use fault::{SyntaxError, SyntaxFault, SyntaxFaultOrMemory};
 pub use read::{control, expression, primary, target};
 pub use reader::MOST_OPEN;
+pub use spelling::suffix_of;
 pub use word::{bytes_of, terminal_of};

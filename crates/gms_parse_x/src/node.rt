@@ -3,7 +3,7 @@ ghost use Rattle.std.specs.Prelude.{◌≡◌, if◌then◌else◌, MatchResult}
 ghost use Rattle.gms_ast.specs.Trees.{negated, not_so, fold_over};
 ghost use Rattle.gms_ast.specs.TreeView.{control_tree};
 ghost use Rattle.gms_parse_x.specs.declared.fault.SyntaxFaultOrMemory.TheVariants.{Memory};
-ghost use Rattle.gms_parse_x.specs.Numbers.{control_in_numbers};
+ghost use Rattle.gms_ast.specs.Numbers.{control_in_numbers};
 ghost use Rattle.gms_parse_x.specs.Nodes.{view};
 
 use crate::fault::SyntaxFaultOrMemory;

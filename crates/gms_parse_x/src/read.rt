@@ -5,7 +5,7 @@ ghost use Rattle.gms_ast.specs.Trees.{reference};
 ghost use Rattle.gms_ast.specs.TreeView.{tree_of, control_tree, indices_of, index_tree};
 ghost use Rattle.gms_grammar.specs.GamsGrammar.{Expression, Primary, Control as ControlPart, Target as TargetPart};
 ghost use Rattle.gms_parse_x.specs.ExpressionTrees as trees;
-ghost use Rattle.gms_parse_x.specs.Numbers.{in_numbers, indices_in_numbers, control_in_numbers};
+ghost use Rattle.gms_ast.specs.Numbers.{in_numbers, indices_in_numbers, control_in_numbers};
 ghost use Rattle.gms_parse_x.specs.Calls.{walk_from, tokens_from, IsRead, IsRefusal};
 ghost use Rattle.gms_parse_x.specs.Readings.{IsReady};
 

@@ -6,9 +6,11 @@ ghost use Rattle.gms_parse_x.specs.ExpressionTrees.{is_word, suffix_of, fold_op_
 use gms_ast::{FoldOp, Function, LagOp, RelOp, Suffix};
 use gms_tokens::{Kind, Sym};
 
-/// The suffix that a word is.
+/// The suffix that a word behind a dot is, in capital or small letters (GAMS User's Guide, "Variables").
+///
+/// A word that is none of `lo`, `up`, `l`, `m`, `fx` and `modelstat` is answered as `solvestat`, the one suffix that is left.
 #[tactic(auto, unfolding(crate::specs::ExpressionTrees::suffix_of))]
-pub(crate) fn suffix_of(word: &[u8]) -> Suffix
+pub fn suffix_of(word: &[u8]) -> Suffix
     ensures { result ≡ suffix_of word.now }
 {
     if word.eq_ignore_ascii_case(b"lo") {

@@ -6,7 +6,7 @@ use Rattle.std.proofs.lemmas.Nat.{div-add-mod'}
 use Rattle.std.proofs.lemmas.List.{length-append, length-map, length-take-le, drop_more, take_more, get_or-map, drop_all, length_push}
 use Rattle.std.proofs.lemmas.List.Concat.{get_or-flat_map}
 use Rattle.std.proofs.lemmas.Bool.{cases_lt}
-use Rattle.gms_set.specs.Expansion.{product}
+use Rattle.gms_tuple.specs.Products.{product}
 
 module _ {X A : Type 0} (f : X → List A) (m : ℕ) (same : (x : X) → length (f x) ≡ m) where
   -- pieces of one length, one after another

@@ -1,10 +1,11 @@
 -- What the items of a data list give: tuples with their values, in order, or the first fault.
 -- GAMS User's Guide, "Set Definition", "Data Entry: Parameters, Scalars and Tables". Which fault comes first is this project's own rule.
 use Rattle.std.specs.Prelude.{ℕ, ◌≡◌, Bool, false, not, ◌||◌, ◌+◌, nat_lt, List, [], ◌∷◌, ◌++◌, length, map, Option, Some, None, Result, Ok, Err, if◌then◌else◌}
-use Rattle.std.specs.List.{list_any, flat_map}
+use Rattle.std.specs.List.{list_any}
 use Rattle.gms_labels.specs.declared.place.Place.{Place}
 use Rattle.gms_ast.specs.declared.declaration.Item.{Item}
 use Rattle.gq_extended.specs.declared.extended.Ext.{Ext}
+use Rattle.gms_tuple.specs.Products.{product}
 use Rattle.gms_tuple.specs.TupleSet.{has}
 use Rattle.gms_store.specs.State.{State, members_of}
 use Rattle.gms_set.specs.declared.fault.SetError.{SetError}
@@ -12,11 +13,6 @@ use Rattle.gms_set.specs.declared.fault.SetError.TheVariants.{BadRange, Repeated
 use Rattle.gms_set.specs.declared.fault.SetFault.{SetFault}
 use Rattle.gms_set.specs.declared.fault.SetFaultOrMemory.{SetFaultOrMemory}
 use Rattle.gms_set.specs.declared.fault.SetFaultOrMemory.TheVariants.{Memory, Fault}
-
--- the tuples that have at each position one of the labels there, the last position fastest
-abbrev pub product : List (List ℕ) → List (List ℕ)
-product [] = [] ∷ []
-product (labels ∷ rest) = flat_map (λ label. map (λ tuple. label ∷ tuple) (product rest)) labels
 
 -- whether a tuple stands twice in a list
 abbrev pub has_repeat : List (List ℕ) → Bool

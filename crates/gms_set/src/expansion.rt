@@ -1,7 +1,8 @@
 //! The tuples that are given so far.
 ghost use Rattle.std.specs.Prelude.{◌≡◌, ◌≤◌, ◌++◌, ◌∷◌, [], false, not, length, None, IfOk, IsTrue};
 ghost use Rattle.gms_tuple.specs.TupleSet.{has};
-ghost use Rattle.gms_set.specs.Expansion.{error_of, has_repeat, product, tuples_of, with_value};
+ghost use Rattle.gms_tuple.specs.Products.{product};
+ghost use Rattle.gms_set.specs.Expansion.{error_of, has_repeat, tuples_of, with_value};
 
 use crate::fault::SetError;
 use crate::outside::has_outside;

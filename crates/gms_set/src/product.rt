@@ -1,6 +1,6 @@
 //! The tuples that have at each position one of the labels there.
 ghost use Rattle.std.specs.Prelude.{◌≡◌, ◌≤◌, ◌<◌, ◌^◌, ◌-◌, min, Some, IfOk, length, slice_get};
-ghost use Rattle.gms_set.specs.Expansion.{product};
+ghost use Rattle.gms_tuple.specs.Products.{product};
 
 use gms_ast::Sequence;
 use gms_tuple::Tuple;

@@ -48,6 +48,11 @@ abbrev pub retyped : Content → Content → Content
 retyped (variable_of type.Free entries) (variable_of type none) = variable_of type none
 retyped content later = content
 
+-- whether a content is that of a variable whose type is free
+abbrev pub is_free : Content → Bool
+is_free (variable_of type.Free entries) = true
+is_free content = false
+
 -- whether a content is that of a set, or of another name of one
 abbrev pub is_set : Content → Bool
 is_set (set_of members) = true

@@ -24,8 +24,10 @@ impl<F: ExactField> Store<F> {
         Ok(())
     }
 
-    /// Declares what a statement declares.
-    fn declare_act(&mut self, alloc: Global, act: &Act<F>) -> Result<(), AllocError>
+    /// Declares what a statement declares (GAMS User's Guide, "GAMS Programs", the statements that declare).
+    ///
+    /// A statement that is no declaration, no alias and no model changes nothing. Data are not put: names stand empty.
+    pub fn declare_act(&mut self, alloc: Global, act: &Act<F>) -> Result<(), AllocError>
         ensures { OnOk result (self.new ≡ declared_by self.old act.now) }
     {
         match act {
@@ -54,8 +56,9 @@ impl<F: ExactField> Store<F> {
         Ok(())
     }
 
-    /// Declares a name. Of several declarations of one name the first counts, but for the type of a free variable.
-    fn declare(
+    /// Declares a name with its domain. Of several declarations of one name the first counts, but for the type of a free
+    /// variable (GAMS User's Guide, "Variables"). A name past the last one of the program changes nothing.
+    pub fn declare(
         &mut self,
         alloc: Global,
         kind: DeclKind,
@@ -72,8 +75,14 @@ impl<F: ExactField> Store<F> {
         Ok(())
     }
 
-    /// Makes one of two names another name of the other, which is a set. Where neither can be, both are declared as sets.
-    fn declare_alias(&mut self, alloc: Global, first: u32, second: u32) -> Result<(), AllocError>
+    /// Makes one of two names another name of the other, which is a set (GAMS User's Guide, "Set Definition", aliases).
+    /// Where neither can be, both are declared as sets.
+    pub fn declare_alias(
+        &mut self,
+        alloc: Global,
+        first: u32,
+        second: u32,
+    ) -> Result<(), AllocError>
         ensures { OnOk result (self.new ≡ declare_alias self.old first second) }
     {
         if self.can_join(first, second) {
@@ -132,8 +141,8 @@ impl<F: ExactField> Store<F> {
         }
     }
 
-    /// Declares a model. The first declaration of a name counts.
-    fn declare_model(&mut self, alloc: Global, name: u32)
+    /// Declares a model (GAMS User's Guide, "Model and Solve Statements"). The first declaration of a name counts.
+    pub fn declare_model(&mut self, alloc: Global, name: u32)
         ensures { self.new ≡ declare_model self.old name }
     {
         if self.is_undeclared(name) {

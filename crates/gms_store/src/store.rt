@@ -5,7 +5,7 @@ ghost use Rattle.gms_tuple.specs.TupleOrder.{IsOrdered};
 ghost use Rattle.gms_tuple.specs.TupleSet.{has};
 ghost use Rattle.gms_store.specs.Shown.{attributes_shown};
 ghost use Rattle.gms_store.specs.State.{base_of, symbol_of, symbol_at, members_of, value_of, attributes_of, given_of, statuses_in, differs_in, after_membership, after_value, after_attributes, after_statuses, with_lower, with_upper, with_level, with_marginal, with_settings};
-ghost use Rattle.gms_store.specs.Declarations.{kind_in, declared_state, first_settings, blank_state};
+ghost use Rattle.gms_store.specs.Declarations.{is_free, kind_in, declared_state, first_settings, blank_state};
 
 use crate::attributes::Attributes;
 use crate::kind::SymbolKind;
@@ -59,7 +59,7 @@ impl<F: ExactField> Store<F> {
     }
 
     /// A state of so many names, of which none is declared.
-    fn blank(alloc: Global, names: u32) -> Result<Store<F>, AllocError>
+    pub fn blank(alloc: Global, names: u32) -> Result<Store<F>, AllocError>
         ensures { IfOk result (λ store. store ≡ blank_state names) }
     {
         let mut symbols = Vec::new(alloc);
@@ -81,6 +81,16 @@ impl<F: ExactField> Store<F> {
         match self.symbols.get(name as usize) {
             Some(symbol) => symbol.kind(),
             None => SymbolKind::Undeclared,
+        }
+    }
+
+    /// Whether a name is that of a variable whose type is free.
+    pub fn is_free(&self, name: u32) -> bool
+        ensures { result ≡ is_free (symbol_at self.now name).content }
+    {
+        match self.symbols.get(name as usize) {
+            Some(symbol) => symbol.is_free(),
+            None => false,
         }
     }
 

@@ -5,7 +5,7 @@ ghost use Rattle.gms_tuple.specs.TupleOrder.{IsOrdered};
 ghost use Rattle.gms_tuple.specs.TupleSet.{has};
 ghost use Rattle.gms_store.specs.Shown.{attributes_shown, content_shown};
 ghost use Rattle.gms_store.specs.State.{no_symbol, behind, if_fits, given_in, members_in, value_in, attributes_in, statuses_in, with_content, with_membership, with_value, with_attributes, with_statuses, is_given, IsKept};
-ghost use Rattle.gms_store.specs.Declarations.{symbol_of_kind, positions_of, names_of, declared_again, retyped, content_of, alias_symbol, model_symbol, is_set, is_undeclared, kind_in};
+ghost use Rattle.gms_store.specs.Declarations.{symbol_of_kind, positions_of, names_of, declared_again, retyped, content_of, alias_symbol, model_symbol, is_free, is_set, is_undeclared, kind_in};
 
 use crate::attributes::{Attributes, is_same_number};
 use crate::content::Content;
@@ -93,6 +93,16 @@ impl<F: ExactField> Symbol<F> {
     {
         match &self.content {
             Content::Undeclared => true,
+            _ => false,
+        }
+    }
+
+    /// Whether the name is that of a variable whose type is free.
+    pub fn is_free(&self) -> bool
+        ensures { result ≡ is_free self.now.content }
+    {
+        match &self.content {
+            Content::Variable(VariableType::Free, _) => true,
             _ => false,
         }
     }

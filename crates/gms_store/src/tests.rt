@@ -207,6 +207,24 @@ fn members_through_an_alias(rt: HostRuntime) -> Result<(), Fail> {
 }
 
 #[test]
+fn names_declared_one_by_one(rt: HostRuntime) -> Result<(), Fail> {
+    let alloc = rt.alloc();
+    let mut store = Store::<Half>::blank(alloc, 6)?;
+    store.declare(alloc, DeclKind::Free, &[Some(named(B))], A)?;
+    assert!(rt; store.is_free(A) && !store.is_free(B));
+    store.declare(alloc, DeclKind::Positive, &[], A)?;
+    assert!(rt; !store.is_free(A));
+    assert_eq!(rt; store.domain_of(A).len(), 1);
+    store.declare_act(alloc, &declare(alloc, DeclKind::Set, B)?)?;
+    store.declare_alias(alloc, 2, B)?;
+    assert_eq!(rt; store.base(2), B);
+    store.declare_model(alloc, 3);
+    assert!(rt; store.kind_of(3) == SymbolKind::Model);
+    assert!(rt; store.kind_of(4) == SymbolKind::Undeclared);
+    Ok(())
+}
+
+#[test]
 fn statuses_of_a_model(rt: HostRuntime) -> Result<(), Fail> {
     let alloc = rt.alloc();
     let mut store = store_after(alloc, model(alloc)?)?;

@@ -124,8 +124,8 @@ impl TupleSet {
         )
     }
 
-    /// The place of a member, or the place at which the tuple would stand.
-    fn place(&self, t: &Tuple) -> Result<usize, usize>
+    /// The place of a member, counted from 0; where the tuple is none, the place at which it would stand.
+    pub fn place(&self, t: &Tuple) -> Result<usize, usize>
         ensures member { IfOk result (λ place. place_of self.now t.now ≡ Some place) }
         ensures absent { IfErr result (λ place. (has self.now t.now ≡ false) × (place ≡ count_before self.now t.now)) }
         ensures ordered { IsOrdered self.now }

@@ -131,6 +131,15 @@ fn spans_of_each_prefix(rt: HostRuntime) -> Result<(), Fail> {
 }
 
 #[test]
+fn places_of_members(rt: HostRuntime) -> Result<(), Fail> {
+    let alloc = rt.alloc();
+    let members = set(alloc, &[&[1], &[1, 2], &[3], &[7, 7]])?;
+    assert!(rt; members.place(&tuple(alloc, &[3])?) == Ok(2));
+    assert!(rt; members.place(&tuple(alloc, &[7])?) == Err(3));
+    Ok(())
+}
+
+#[test]
 fn the_three_operations(rt: HostRuntime) -> Result<(), Fail> {
     let alloc = rt.alloc();
     let first = set(alloc, &[&[1], &[1, 2], &[3], &[7, 7]])?;

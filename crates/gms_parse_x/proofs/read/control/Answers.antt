@@ -1,7 +1,7 @@
 use Rattle.std.proofs.Common.{◌≡◌}
 use Rattle.gms_grammar.specs.GamsGrammar.{Control}
 use Rattle.gms_ast.specs.TreeView.{control_tree}
-use Rattle.gms_parse_x.specs.Numbers.{control_in_numbers}
+use Rattle.gms_ast.specs.Numbers.{control_in_numbers}
 use Rattle.gms_parse_x.specs.Readings.{IsControl}
 use Rattle.gms_parse_x.specs.ExpressionTrees as trees
 use Rattle.gms_parse_x.proofs.Opening.{said_of}

@@ -1,7 +1,7 @@
 use Rattle.std.proofs.Common.{◌≡◌}
 use Rattle.gms_grammar.specs.GamsGrammar.{Expression}
 use Rattle.gms_ast.specs.TreeView.{tree_of}
-use Rattle.gms_parse_x.specs.Numbers.{in_numbers}
+use Rattle.gms_ast.specs.Numbers.{in_numbers}
 use Rattle.gms_parse_x.specs.Readings.{IsMeant}
 use Rattle.gms_parse_x.specs.ExpressionTrees as trees
 use Rattle.gms_parse_x.proofs.Opening.{said_of}

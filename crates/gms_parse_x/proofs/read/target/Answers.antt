@@ -2,7 +2,7 @@ use Rattle.std.proofs.Common.{◌≡◌, map}
 use Rattle.gms_grammar.specs.GamsGrammar.{Target}
 use Rattle.gms_ast.specs.Trees.{reference}
 use Rattle.gms_ast.specs.TreeView.{indices_of, index_tree}
-use Rattle.gms_parse_x.specs.Numbers.{indices_in_numbers}
+use Rattle.gms_ast.specs.Numbers.{indices_in_numbers}
 use Rattle.gms_parse_x.specs.Readings.{IsTarget}
 use Rattle.gms_parse_x.specs.ExpressionTrees as trees
 use Rattle.gms_parse_x.proofs.Opening.{said_of}

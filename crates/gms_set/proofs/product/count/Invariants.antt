@@ -1,5 +1,5 @@
 use Rattle.std.proofs.Common.{◌≡◌, ◌-◌, ◌^◌, min, length, take}
-use Rattle.gms_set.specs.Expansion.{product}
+use Rattle.gms_tuple.specs.Products.{product}
 use Rattle.gms_set.proofs.product.count.Given as goal
 
 abbrev pub invariant-loop-part : goal.invariant-loop-part

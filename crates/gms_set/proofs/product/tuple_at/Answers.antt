@@ -1,7 +1,7 @@
 use Rattle.std.proofs.Common.{◌≡◌, ◌<◌, ◌+◌, ◌/◌, ◌%◌, ◌++◌, ◌∷◌, [], ◌∙◌, ap, sym, subst, length, get_or, Some, arith}
 use Rattle.std.proofs.lemmas.List.{get_or_read}
 use Rattle.std.proofs.lemmas.Option.{slice_get-get_or}
-use Rattle.gms_set.specs.Expansion.{product}
+use Rattle.gms_tuple.specs.Products.{product}
 use Rattle.gms_set.proofs.Products.{IsMade, IsMade-more, IsMade-all, next}
 use Rattle.gms_set.proofs.product.tuple_at.Goals as goal
 

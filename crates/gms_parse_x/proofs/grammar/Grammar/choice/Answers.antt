@@ -8,7 +8,7 @@ use Rattle.gms_ast.proofs.TreeEquations.{tree_of-Or}
 use Rattle.gms_grammar.specs.Grammar.{the, ◌·◌, opt}
 use Rattle.gms_grammar.specs.GamsGrammar.{Expression, Conjunction, Negation, Comparison, Sum, Product, PowerTerm, Guarded, token, any_of}
 use Rattle.gms_grammar.specs.declared.terminal.Terminal.TheVariants.{Or}
-use Rattle.gms_parse_x.specs.Numbers.{in_numbers}
+use Rattle.gms_ast.specs.Numbers.{in_numbers}
 use Rattle.gms_parse_x.specs.Nodes.{chosen_views, view}
 use Rattle.gms_parse_x.proofs.Made.{numbers_in_parts, views_push}
 use Rattle.gms_parse_x.proofs.Signs.{handed_on, signed_refuses}

@@ -2,7 +2,7 @@ use Rattle.std.proofs.Common.{◌≡◌, refl, sym, ap, ◌∙◌, arith}
 use Rattle.gms_grammar.specs.GamsGrammar.{Control, Condition}
 use Rattle.gms_ast.specs.Trees.{over, over_where}
 use Rattle.gms_parse_x.specs.Nodes.{view}
-use Rattle.gms_parse_x.specs.Numbers.{control_in_numbers}
+use Rattle.gms_ast.specs.Numbers.{control_in_numbers}
 use Rattle.gms_parse_x.specs.Readings.{seen_from}
 use Rattle.gms_parse_x.proofs.Signs.{handed_on}
 use Rattle.gms_parse_x.proofs.Steps.{refuses_the, refuses_first, refuses_second, refuses_some, refuses_memory}

@@ -12,7 +12,7 @@ use Rattle.gms_parse_x.proofs.Sums.{guards_none, guards_alone, guards_on, guards
 use Rattle.gms_parse_x.proofs.Guarding.{guards_begin, not_begun, some_begun}
 use Rattle.gms_ast.proofs.TreeEquations.{tree_of-Guard}
 use Rattle.gms_ast.specs.TreeView.{tree_of}
-use Rattle.gms_parse_x.specs.Numbers.{in_numbers}
+use Rattle.gms_ast.specs.Numbers.{in_numbers}
 use Rattle.gms_parse_x.proofs.Made.{numbers_in_parts}
 use Rattle.gms_parse_x.proofs.grammar.Grammar.guarded.Goals as goal
 

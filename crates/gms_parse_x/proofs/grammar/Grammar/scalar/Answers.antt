@@ -16,7 +16,7 @@ use Rattle.gms_parse_x.proofs.Lists.{arguments_start, arguments_on}
 use Rattle.gms_parse_x.proofs.Made.{views_push}
 use Rattle.gms_parse_x.proofs.Grows.{none_led}
 use Rattle.gms_ast.proofs.TreeEquations.{tree_of-Ref}
-use Rattle.gms_parse_x.specs.Numbers.{in_numbers}
+use Rattle.gms_ast.specs.Numbers.{in_numbers}
 use Rattle.gms_parse_x.proofs.Operands.{scalar_got}
 use Rattle.gms_parse_x.proofs.grammar.Grammar.scalar.Goals as goal
 

@@ -2,7 +2,7 @@ use Rattle.std.proofs.Common.{◌≡◌, ◌+◌, codes, if◌then◌else◌, re
 use Rattle.gms_ast.specs.Trees.{place_in_set, size_of_set}
 use Rattle.gms_grammar.specs.GamsGrammar.{name}
 use Rattle.gms_parse_x.specs.ExpressionTrees.{is_word}
-use Rattle.gms_parse_x.specs.Numbers.{in_numbers}
+use Rattle.gms_ast.specs.Numbers.{in_numbers}
 use Rattle.gms_parse_x.specs.Readings.{IsName}
 use Rattle.gms_parse_x.proofs.Leaves.{tree_of-Ord, tree_of-Card}
 use Rattle.gms_parse_x.proofs.Signs.{handed_on}

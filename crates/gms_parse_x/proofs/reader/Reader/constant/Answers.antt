@@ -3,7 +3,7 @@ use Rattle.gms_ast.specs.declared.expression.Expr.{Number}
 use Rattle.gms_grammar.specs.declared.terminal.Terminal.TheVariants.{Infinity, NotAvailable, YesNo}
 use Rattle.gms_lex.specs.TokenTexts.{token_text}
 use Rattle.gms_parse_x.specs.Nodes.{view}
-use Rattle.gms_parse_x.specs.Numbers.{in_numbers}
+use Rattle.gms_ast.specs.Numbers.{in_numbers}
 use Rattle.gms_parse_x.proofs.Leaves.{tree_of-Number}
 use Rattle.gms_parse_x.proofs.Signs.{handed_on}
 use Rattle.gms_parse_x.proofs.Nexts.{refuses_lacking}

@@ -1,6 +1,6 @@
 use Rattle.std.proofs.Common.{refl, ap}
 use Rattle.gms_ast.specs.declared.expression.Expr.{Number}
-use Rattle.gms_parse_x.specs.Numbers.{in_numbers}
+use Rattle.gms_ast.specs.Numbers.{in_numbers}
 use Rattle.gms_parse_x.proofs.Leaves.{tree_of-Number}
 use Rattle.gms_parse_x.proofs.Signs.{handed_on}
 use Rattle.gms_parse_x.proofs.Nexts.{exact, refuses_lacking}

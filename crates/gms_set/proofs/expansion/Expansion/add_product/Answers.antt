@@ -2,7 +2,8 @@ use Rattle.std.proofs.Common.{◌≡◌, ◌∙◌, ◌<◌, ◌++◌, ◌∷◌
 use Rattle.std.proofs.lemmas.List.{take_all}
 use Rattle.std.proofs.lemmas.Option.{get_or_from_slice_get}
 use Rattle.gms_tuple.specs.TupleSet.{has}
-use Rattle.gms_set.specs.Expansion.{has_repeat, product, tuples_of, with_value}
+use Rattle.gms_tuple.specs.Products.{product}
+use Rattle.gms_set.specs.Expansion.{has_repeat, tuples_of, with_value}
 use Rattle.gms_set.proofs.Repeats.{repeat-at, tuples_of-with, with_value-more}
 use Rattle.gms_set.proofs.expansion.Expansion.add_product.Goals as goal
 

@@ -1,5 +1,6 @@
 use Rattle.std.proofs.Common.{◌≡◌, ◌++◌, false, take}
-use Rattle.gms_set.specs.Expansion.{has_repeat, product, tuples_of, with_value}
+use Rattle.gms_tuple.specs.Products.{product}
+use Rattle.gms_set.specs.Expansion.{has_repeat, tuples_of, with_value}
 use Rattle.gms_set.proofs.expansion.Expansion.add_product.Given as goal
 
 abbrev pub invariant-loop-place : goal.invariant-loop-place

@@ -1,13 +1,6 @@
--- The numbers in a tree.
-use Rattle.std.specs.Prelude.{ℕ, List}
-use Rattle.gq_number.specs.Number.{Number}
-use Rattle.gq_text.specs.Decimal.{MeansNumber}
-use Rattle.std.specs.Prelude.{◌≡◌}
+-- A tree over values as the tree over the numbers that they mean.
+use Rattle.std.specs.Prelude.{List}
 use Rattle.gms_ast.specs.Trees.{Tree, number, plus_infinity, not_available, yes, no, reference, place_in_set, size_of_set, call, fold_over, negated, sum, product, power, relation, not_so, all_of, one_of, guarded, Parts, no_part, part, Indices, no_index, label, set, lagged, Control, over, over_where}
-
--- each text that means a number has that number
-abbrev pub IsValuation : (List ℕ → Number) → Type 0
-IsValuation value = (text : List ℕ) (x : Number) → MeansNumber text x → value text ≡ x
 
 module _ {F N : Type 0} (value : F → N) where
   abbrev mutual
