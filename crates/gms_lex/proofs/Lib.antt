@@ -1,9 +1,10 @@
+pub mod AnswerLemmas
 pub mod DepthLemmas
+pub mod FaultLemmas
+pub mod LineTextLemmas
 pub mod PieceLemmas
 pub mod PlaceLemmas
-pub mod ReadingLemmas
-pub mod FaultLemmas
-pub mod AnswerLemmas
-pub mod LineTextLemmas
-pub mod SolidLemmas
 pub mod PlacedLemmas
+pub mod ReadingLemmas
+pub mod SolidLemmas
+pub mod TableLemmas

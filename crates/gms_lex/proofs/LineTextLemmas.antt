@@ -23,11 +23,11 @@ pub record IsSolid (text : List ℕ) : Type 0 where
   pub solid : IsSolidByte (get_or text anchor 0)
 
 -- a line ends with a line feed
-abbrev HasFeed : List ℕ → Type 0
+abbrev pub HasFeed : List ℕ → Type 0
 HasFeed line = (0 < length line) × (get_or line (length line - 1) 0 ≡ 10)
 
 -- each line but the last ends with a line feed
-abbrev AreEnded : List (List ℕ) → Type 0
+abbrev pub AreEnded : List (List ℕ) → Type 0
 AreEnded [] = Unit {0}
 AreEnded (line ∷ others) = ((others ≡ []) ⊎ HasFeed line) × AreEnded others
 
@@ -42,7 +42,7 @@ put_first-ended b [] ended = (inl refl, tt)
 put_first-ended b ([] ∷ others) ended = (elim ended.0 [ inl e ↦ inl e | inr f ↦ absurd (omega (arith, f.0)) ], ended.1)
 put_first-ended b ((c ∷ line) ∷ others) ended = (elim ended.0 [ inl e ↦ inl e | inr f ↦ inr (omega arith, last_of b c line f.1) ], ended.1)
 
-lines-ended : (text : List ℕ) → AreEnded (lines text)
+pub lines-ended : (text : List ℕ) → AreEnded (lines text)
 lines-ended [] = tt
 lines-ended (b ∷ text) = elim (true_or_false (b == 10)) [
   | inl h ↦
@@ -52,7 +52,7 @@ lines-ended (b ∷ text) = elim (true_or_false (b == 10)) [
 ]
 
 -- lines joined
-abbrev joined : List (List ℕ) → List ℕ
+abbrev pub joined : List (List ℕ) → List ℕ
 joined [] = []
 joined (line ∷ others) = line ++ joined others
 
@@ -60,7 +60,7 @@ joined-put_first : (b : ℕ) (ls : List (List ℕ)) → joined (put_first b ls) 
 joined-put_first b [] = refl
 joined-put_first b (line ∷ others) = refl
 
-joined-lines : (text : List ℕ) → joined (lines text) ≡ text
+pub joined-lines : (text : List ℕ) → joined (lines text) ≡ text
 joined-lines [] = refl
 joined-lines (b ∷ text) = elim (true_or_false (b == 10)) [
   | inl h ↦ ap (λ v. joined (if v then (b ∷ []) ∷ lines text else put_first b (lines text))) h ∙ ap (λ t. b ∷ t) (joined-lines text)
@@ -91,7 +91,7 @@ blanked-not-solid b h = elim (true_or_false (b == 9)) [
 ]
 
 -- a byte of a blank line
-byte_blanked : (line : List ℕ) (k : ℕ) → k < length line → get_or (map blanked line) k 0 ≡ blanked (get_or line k 0)
+pub byte_blanked : (line : List ℕ) (k : ℕ) → k < length line → get_or (map blanked line) k 0 ≡ blanked (get_or line k 0)
 byte_blanked [] k below = absurd (omega arith)
 byte_blanked (b ∷ line) zero below = refl
 byte_blanked (b ∷ line) (suc k) below = byte_blanked line k (omega arith)
@@ -137,10 +137,10 @@ line_same Control line lo n s = absurd (not_solid line lo n s)
 line_same Code line lo n s = refl
 
 -- so many bytes of a line that end on it
-on_line : (read rest : List ℕ) (lo n : ℕ) → lo + n ≤ length read → take n (drop lo (read ++ rest)) ≡ take n (drop lo read)
+pub on_line : (read rest : List ℕ) (lo n : ℕ) → lo + n ≤ length read → take n (drop lo (read ++ rest)) ≡ take n (drop lo read)
 on_line read rest lo n le = ap (take n) (drop-append-le lo read rest (omega arith)) ∙ take-append-le n (drop lo read) rest (omega (arith, length-drop lo read))
 
-behind_line : (read rest : List ℕ) (lo len : ℕ) → length read ≡ len → len ≤ lo → drop lo (read ++ rest) ≡ drop (lo - len) rest
+pub behind_line : (read rest : List ℕ) (lo len : ℕ) → length read ≡ len → len ≤ lo → drop lo (read ++ rest) ≡ drop (lo - len) rest
 behind_line read rest lo len long le =
     let e : length read + (lo - len) ≡ lo = omega arith in
     ap (λ k. drop k (read ++ rest)) (sym e) ∙ drop-append-add read rest (lo - len)

@@ -2,14 +2,14 @@
 use Rattle.std.proofs.Common.{◌≡◌, inl, inr, ℕ, zero, suc, ◌+◌, ◌-◌, ◌==◌, ◌&&◌, ◌||◌, ◌<◌, ◌≤◌, Bool, true, false, not, nat_lt, nat_le, if◌then◌else◌, List, [], ◌∷◌, length, take, drop, get_or, Option, Some, None, Ok, Err, refl, sym, ap, ◌∙◌, subst, arith}
 use Rattle.std.proofs.lemmas.Bool.Decides.{nat_tests}
 use Rattle.std.proofs.lemmas.List.{get_or-take, length-take-le, drop_more}
-use Rattle.std.proofs.lemmas.List.Sums.{prefix_len-le-length, prefix_len_passes}
+use Rattle.std.proofs.lemmas.List.Sums.{prefix_len-le-length, prefix_len_passes, prefix_len_stops}
 use Rattle.std.specs.List.{prefix_len}
 use Rattle.std.specs.Str.{IsAscii}
 use Rattle.std.specs.Char.{is_ascii_alphabetic, is_ascii_alphanumeric}
-use Rattle.gms_lines.specs.Lines.{begins, is_blank, is_line_end, content}
-use Rattle.gms_lines.proofs.LineLemmas.{true_or_false, below_or}
+use Rattle.gms_lines.specs.Lines.{begins, before, is_blank, is_line_end, content}
+use Rattle.gms_lines.proofs.LineLemmas.{true_or_false, below_or, before-le-length}
 use Rattle.gms_tokens.specs.declared.kind.Kind.{Kind}
-use Rattle.gms_tokens.specs.declared.kind.Kind.TheVariants.{Word, Label, Text}
+use Rattle.gms_tokens.specs.declared.kind.Kind.TheVariants.{Word, Label, Text, TableLine}
 use Rattle.gms_tokens.specs.declared.kind.Sym.{Sym}
 use Rattle.gms_tokens.specs.declared.lexeme.Piece.{Piece}
 use Rattle.gms_tokens.specs.declared.lexeme.Piece.TheVariants.{Remark, Token}
@@ -18,7 +18,7 @@ use Rattle.gms_tokens.specs.Numbers.{begins_number}
 use Rattle.gms_tokens.specs.Symbols.{symbol_at}
 use Rattle.gms_tokens.specs.Shapes.{Read, longest_label, bounded, symbol_of, symbol, quoted_length, is_closed, quoted, code_token, label_token, remark}
 use Rattle.gms_tokens.specs.TableLines.{table_bytes}
-use Rattle.gms_tokens.proofs.WithinLemmas.{run_within, closed_more}
+use Rattle.gms_tokens.proofs.WithinLemmas.{run_within, closed_more, table_bytes_le}
 use Rattle.gms_lex.specs.declared.keyword.Shape.{Shape}
 use Rattle.gms_lex.specs.declared.keyword.Shape.TheVariants.{Set, Parameter, Scalar, Model}
 use Rattle.gms_lex.specs.declared.mode.Stage.{Stage}
@@ -31,17 +31,19 @@ use Rattle.gms_lex.specs.Keywords.{begins_statement}
 use Rattle.gms_lex.specs.Pieces.{passes, ends_or_begins, space_length, line_ends, line_end, is_item_mark, is_element_mark, behind_name, behind_domain, begins_value_dot, element_tail, behind_label, in_list, token_at, table_piece, plain_piece, piece_at}
 use Rattle.gms_lex.specs.TokenTexts.{unquoted, IsSpelled}
 use Rattle.gms_lex.proofs.LineTextLemmas.{IsSolidByte, IsSolid, length-take_most, length-take_all}
+use Rattle.gms_lex.proofs.TableLemmas.{IsTableText}
 
--- a token whose text names something stands on one line and is spelled as its kind; nothing is said of others
-abbrev pub IsNamed : Piece → List ℕ → Type 0
-IsNamed (Token Word) text = IsSolid text × IsSpelled Word text
-IsNamed (Token Label) text = IsSolid text × IsSpelled Label text
-IsNamed (Token Text) text = IsSolid text × IsSpelled Text text
-IsNamed piece text = Unit {0}
+-- a token whose text names something, so many bytes of a text, stands on one line and is spelled as its kind; nothing is said of others
+abbrev pub IsNamed : Piece → ℕ → List ℕ → Type 0
+IsNamed (Token Word) n text = IsSolid (take n text) × IsSpelled Word (take n text)
+IsNamed (Token Label) n text = IsSolid (take n text) × IsSpelled Label (take n text)
+IsNamed (Token Text) n text = IsSolid (take n text) × IsSpelled Text (take n text)
+IsNamed (Token TableLine) n text = IsTableText n text
+IsNamed piece n text = Unit {0}
 
 -- what is read is so named
 abbrev pub IsNamedRead : List ℕ → Read → Type 0
-IsNamedRead text (Ok p) = IsNamed p.piece (take p.length text)
+IsNamedRead text (Ok p) = IsNamed p.piece p.length text
 IsNamedRead text (Err m) = Unit {0}
 
 if_named : (text : List ℕ) (b : Bool) (x y : Read) → (b ≡ true → IsNamedRead text x) → (b ≡ false → IsNamedRead text y) → IsNamedRead text (if b then x else y)
@@ -74,6 +76,9 @@ ascii_of text each k = elim (below_or k (length text)) [
   | inl lt ↦ each k lt
   | inr ge ↦ subst (λ b. b < 128) (sym (byte_behind text k ge)) (omega arith)
 ]
+
+plain_byte : (b : ℕ) → is_plain b ≡ true → b < 128
+plain_byte b h = grind (arith, nat_tests, h)
 
 -- a text of which no byte is a line feed
 no_feed_of : (text : List ℕ) → ((k : ℕ) → k < length text → get_or text k 0 ≡ 10 → ⊥) → (k : ℕ) → get_or text k 0 ≡ 10 → ⊥
@@ -287,6 +292,25 @@ plain_named : (current : Mode) (text : List ℕ) → IsNamedRead text (plain_pie
 plain_named current text =
     if_named text (begins is_blank text) _ _ (λ _. tt) (λ _. if_named text (is_line_end text) _ _ (λ _. line_end_named (line_ends current) text) (λ _. token_at_named current text))
 
+blanks_inside : (blanks bytes : ℕ) (x y : Bool) → (nat_lt 0 blanks && (nat_le bytes blanks || x)) ≡ false → (bytes == 0 || y) ≡ false → blanks < bytes
+blanks_inside blanks bytes x y gap some = grind (arith, nat_tests, gap, some)
+
+-- what is read as a line of a table
+table_text : (text : List ℕ) (x y : Bool) → (nat_lt 0 (prefix_len is_blank text) && (nat_le (table_bytes (content text)) (prefix_len is_blank text) || x)) ≡ false → (table_bytes (content text) == 0 || y) ≡ false → nat_lt (prefix_len is_plain (take (table_bytes (content text)) text)) (table_bytes (content text)) ≡ false → IsTableText (table_bytes (content text)) text
+table_text text x y gap some plain =
+    let n = table_bytes (content text) in
+    let blanks = prefix_len is_blank text in
+    let inside : blanks < n = blanks_inside blanks n x y gap some in
+    let within : n ≤ before is_line_end text = omega (arith, table_bytes_le (content text), length-take_most (before is_line_end text) text) in
+    let all : n ≤ prefix_len is_plain (take n text) = grind (arith, nat_tests, plain) in
+    record {
+      ascii = ascii_of (take n text) (λ k lt. plain_byte (get_or (take n text) k 0) (prefix_len_passes is_plain (take n text) k 0 (omega (arith, lt, all, length-take_most n text))));
+      within = within;
+      anchor = blanks;
+      inside = inside;
+      solid = prefix_len_stops is_blank text 0 (omega (arith, inside, within, before-le-length is_line_end text));
+    }
+
 table_named : (text : List ℕ) → IsNamedRead text (table_piece text)
 table_named text =
     let blanks = prefix_len is_blank text in
@@ -295,9 +319,9 @@ table_named text =
     (λ _. tt)
     (λ _. if_named text (nat_lt 0 blanks && (nat_le bytes blanks || begins_statement (drop blanks text))) _ _
     (λ _. tt)
-    (λ _. if_named text (bytes == 0 || begins_statement text) _ _
+    (λ gap. if_named text (bytes == 0 || begins_statement text) _ _
     (λ _. code_named Text text (quoted_text_named text))
-    (λ _. if_named text (nat_lt (prefix_len is_plain (take bytes text)) bytes) _ _ (λ _. tt) (λ _. tt))))
+    (λ h. if_named text (nat_lt (prefix_len is_plain (take bytes text)) bytes) _ _ (λ _. tt) (λ plain. table_text text (begins_statement (drop blanks text)) (begins_statement text) gap h plain))))
 
 -- what stands first is named, where its text names something
 pub piece_named : (current : Mode) (text : List ℕ) → IsNamedRead text (piece_at current text)

@@ -15,8 +15,8 @@ pub fn token_laws()
         m < n → n ≤ length source → IsEarlier (place_of source m) (place_of source n) }
 {}
 
-/// Each token takes bytes of its source and stands at the place of the first. Words, labels and quoted texts are of ASCII, and words
-/// and labels have at most 63 bytes, quotation marks not counted.
+/// Each token takes bytes of its source and stands at the place of the first. Words, labels, quoted texts and lines of tables are of
+/// ASCII. Words and labels have at most 63 bytes, quotation marks not counted, and a line of a table has no more than any line.
 pub fn token_texts()
     ensures { (source : List ℕ) (tokens : List Token) → IsTokens source tokens → All (IsPlaced source) tokens }
 {}

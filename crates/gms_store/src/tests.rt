@@ -1,6 +1,6 @@
 //! What no clause says: that the calls succeed with ample memory, and what they answer then.
 use crate::{Store, SymbolKind};
-use gms_ast::{Act, Decl, DeclKind, ModelDecl, Named, Program, Sequence, Stmt};
+use gms_ast::{Act, Decl, DeclKind, Named, Program, Sequence, Stmt};
 use gms_labels::{Labels, Place};
 use gms_tuple::Tuple;
 use gq_extended::Ext;
@@ -23,65 +23,43 @@ fn named(name: u32) -> Named {
     Named { at: AT, name }
 }
 
-/// `a(*)` in a declaration, where the name is `a`.
-fn declaration(alloc: Global, name: u32) -> Result<Decl<Half>, AllocError> {
-    let mut domain = Vec::new(alloc);
-    domain.push(None)?;
-    let items = Sequence::new(Vec::new(alloc));
-    Ok(Decl {
-        named: named(name),
-        domain: Sequence::new(domain),
-        items,
-    })
-}
-
-/// Declares a name of this kind over any labels.
-fn declare(alloc: Global, kind: DeclKind, name: u32) -> Result<Act<Half>, AllocError> {
-    let mut items = Vec::new(alloc);
-    items.push(declaration(alloc, name)?)?;
-    Ok(Act::Declare {
-        kind,
-        items: Sequence::new(items),
-    })
-}
-
-/// `model a /all/;`
-fn model(alloc: Global) -> Result<Act<Half>, AllocError> {
-    let mut models = Vec::new(alloc);
-    models.push(ModelDecl {
-        named: named(A),
-        all: true,
-        equations: Sequence::new(Vec::new(alloc)),
-    })?;
-    Ok(Act::Model {
-        models: Sequence::new(models),
-    })
-}
-
-/// A table of twelve names.
-fn names(alloc: Global) -> Result<Labels, Fail> {
+/// `set a;` as a program of twelve names.
+fn program(alloc: Global) -> Result<Program<Half>, Fail> {
     let mut names = Labels::new(alloc);
     for name in ["a", "b", "c", "d", "e", "f", "g", "h", "i", "j", "k", "l"] {
         names.enter(alloc, name)?;
     }
-    Ok(names)
-}
-
-/// The state after these declarations.
-fn store(alloc: Global, statements: Vec<Stmt<Half>>) -> Result<Store<Half>, Fail> {
-    let program = Program {
-        names: names(alloc)?,
+    Ok(Program {
+        names,
         labels: Labels::new(alloc),
-        statements,
-    };
-    Ok(Store::new(alloc, &program)?)
+        statements: vec![in alloc;
+            Stmt {
+                at: AT,
+                act: set(alloc)?
+            },
+        ]?,
+    })
 }
 
-/// The state after this declaration.
-fn store_after(alloc: Global, act: Act<Half>) -> Result<Store<Half>, Fail> {
-    let mut statements = Vec::new(alloc);
-    statements.push(Stmt { at: AT, act })?;
-    store(alloc, statements)
+/// `set a;` as what a statement does.
+fn set(alloc: Global) -> Result<Act<Half>, AllocError> {
+    Ok(Act::Declare {
+        kind: DeclKind::Set,
+        items: Sequence::new(vec![in alloc;
+            Decl {
+                named: named(A),
+                domain: Sequence::new(Vec::new(alloc)),
+                items: Sequence::new(Vec::new(alloc)),
+            },
+        ]?),
+    })
+}
+
+/// A state of two names, of which the first is declared over any labels.
+fn store_of(alloc: Global, kind: DeclKind) -> Result<Store<Half>, AllocError> {
+    let mut store = Store::blank(alloc, 2)?;
+    store.declare(alloc, kind, &[None], A)?;
+    Ok(store)
 }
 
 /// The tuple of one label.
@@ -128,23 +106,18 @@ fn put_levels(alloc: Global, store: &mut Store<Half>, v: Half) -> Result<(), All
 }
 
 #[test]
-fn twelve_declarations(rt: HostRuntime) -> Result<(), Fail> {
+fn the_state_of_a_program(rt: HostRuntime) -> Result<(), Fail> {
     let alloc = rt.alloc();
-    let mut statements = Vec::new(alloc);
-    for name in 0..12u32 {
-        let act = declare(alloc, DeclKind::Parameter, name)?;
-        statements.push(Stmt { at: AT, act })?;
-    }
-    let store = store(alloc, statements)?;
-    assert!(rt; store.kind_of(11) == SymbolKind::Parameter);
-    assert!(rt; store.kind_of(12) == SymbolKind::Undeclared);
+    let store = Store::new(alloc, &program(alloc)?)?;
+    assert!(rt; store.kind_of(A) == SymbolKind::Set);
+    assert!(rt; store.kind_of(11) == SymbolKind::Undeclared);
     Ok(())
 }
 
 #[test]
 fn a_zero_is_no_entry(rt: HostRuntime) -> Result<(), Fail> {
     let alloc = rt.alloc();
-    let mut store = store_after(alloc, declare(alloc, DeclKind::Parameter, A)?)?;
+    let mut store = store_of(alloc, DeclKind::Parameter)?;
     put_values(alloc, &mut store, Ext::PlusInf)?;
     assert_eq!(rt; store.given(A).len(), 20);
     assert!(rt; store.value(A, &one(alloc, 7)?) == Ext::PlusInf);
@@ -156,7 +129,7 @@ fn a_zero_is_no_entry(rt: HostRuntime) -> Result<(), Fail> {
 #[test]
 fn bounds_of_a_positive_variable(rt: HostRuntime) -> Result<(), Fail> {
     let alloc = rt.alloc();
-    let mut store = store_after(alloc, declare(alloc, DeclKind::Positive, A)?)?;
+    let mut store = store_of(alloc, DeclKind::Positive)?;
     let t = one(alloc, 3)?;
     assert!(rt; store.lower(A, &t).is_some());
     assert!(rt; store.upper(A, &t).is_none());
@@ -169,7 +142,7 @@ fn bounds_of_a_positive_variable(rt: HostRuntime) -> Result<(), Fail> {
 #[test]
 fn levels_of_an_equation(rt: HostRuntime) -> Result<(), Fail> {
     let alloc = rt.alloc();
-    let mut store = store_after(alloc, declare(alloc, DeclKind::Equation, A)?)?;
+    let mut store = store_of(alloc, DeclKind::Equation)?;
     put_levels(alloc, &mut store, Half::one())?;
     let t = one(alloc, 3)?;
     assert!(rt; store.level(A, &t) == Half::one());
@@ -179,23 +152,11 @@ fn levels_of_an_equation(rt: HostRuntime) -> Result<(), Fail> {
     Ok(())
 }
 
-/// `set a; alias (a,b);`
-fn set_and_alias(alloc: Global) -> Result<Store<Half>, Fail> {
-    let mut statements = Vec::new(alloc);
-    let act = declare(alloc, DeclKind::Set, A)?;
-    statements.push(Stmt { at: AT, act })?;
-    let act = Act::Alias {
-        first: named(A),
-        second: named(B),
-    };
-    statements.push(Stmt { at: AT, act })?;
-    store(alloc, statements)
-}
-
 #[test]
 fn members_through_an_alias(rt: HostRuntime) -> Result<(), Fail> {
     let alloc = rt.alloc();
-    let mut store = set_and_alias(alloc)?;
+    let mut store = store_of(alloc, DeclKind::Set)?;
+    store.declare_alias(alloc, A, B)?;
     assert_eq!(rt; store.base(B), A);
     assert_eq!(rt; store.domain_of(B).len(), 1);
     put_members(alloc, &mut store, true)?;
@@ -209,25 +170,24 @@ fn members_through_an_alias(rt: HostRuntime) -> Result<(), Fail> {
 #[test]
 fn names_declared_one_by_one(rt: HostRuntime) -> Result<(), Fail> {
     let alloc = rt.alloc();
-    let mut store = Store::<Half>::blank(alloc, 6)?;
-    store.declare(alloc, DeclKind::Free, &[Some(named(B))], A)?;
-    assert!(rt; store.is_free(A) && !store.is_free(B));
-    store.declare(alloc, DeclKind::Positive, &[], A)?;
-    assert!(rt; !store.is_free(A));
-    assert_eq!(rt; store.domain_of(A).len(), 1);
-    store.declare_act(alloc, &declare(alloc, DeclKind::Set, B)?)?;
-    store.declare_alias(alloc, 2, B)?;
-    assert_eq!(rt; store.base(2), B);
-    store.declare_model(alloc, 3);
-    assert!(rt; store.kind_of(3) == SymbolKind::Model);
-    assert!(rt; store.kind_of(4) == SymbolKind::Undeclared);
+    let mut store = Store::<Half>::blank(alloc, 12)?;
+    for name in 1..12u32 {
+        store.declare(alloc, DeclKind::Free, &[Some(named(A))], name)?;
+    }
+    assert!(rt; store.is_free(11) && !store.is_free(A));
+    store.declare(alloc, DeclKind::Positive, &[], 11)?;
+    assert!(rt; !store.is_free(11));
+    assert_eq!(rt; store.domain_of(11).len(), 1);
+    store.declare_act(alloc, &set(alloc)?)?;
+    assert!(rt; store.kind_of(A) == SymbolKind::Set);
     Ok(())
 }
 
 #[test]
 fn statuses_of_a_model(rt: HostRuntime) -> Result<(), Fail> {
     let alloc = rt.alloc();
-    let mut store = store_after(alloc, model(alloc)?)?;
+    let mut store = Store::<Half>::blank(alloc, 2)?;
+    store.declare_model(alloc, A);
     store.put_status(A, 1, 4);
     assert_eq!(rt; store.status(A), (1, 4));
     Ok(())
@@ -236,7 +196,7 @@ fn statuses_of_a_model(rt: HostRuntime) -> Result<(), Fail> {
 #[test]
 fn settings_are_put(rt: HostRuntime) -> Result<(), Fail> {
     let alloc = rt.alloc();
-    let mut store = store(alloc, Vec::new(alloc))?;
+    let mut store = Store::<Half>::blank(alloc, 0)?;
     let mut settings = store.settings();
     settings.limrow = 7;
     store.put_settings(settings);
