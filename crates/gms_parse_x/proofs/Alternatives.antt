@@ -1,5 +1,5 @@
 -- Sets and controls, made of what was read of their parts.
-use Rattle.std.proofs.Common.{◌≡◌, ℕ, ◌+◌, ◌<◌, ◌≤◌, Bool, true, false, if◌then◌else◌, List, [], ◌∷◌, Vec, Result, Ok, Err, Option, Some, None, Box, refl, sym, ap, ap₂, ◌∙◌, subst, arith}
+use Rattle.std.proofs.Common.{◌≡◌, ℕ, Bool, true, false, if◌then◌else◌, List, [], ◌∷◌, Vec, Result, Ok, Err, Some, None, Box, refl, sym, ap, ap₂, ◌∙◌, arith}
 use Rattle.std.specs.declared.alloc.Global.{Global}
 use Rattle.gq_number.specs.Number.{Number}
 use Rattle.gms_ast.specs.declared.expression.Expr.{Expr}
@@ -7,9 +7,8 @@ use Rattle.gms_ast.specs.declared.expression.Control.{Control as ControlNode, ro
 use Rattle.gms_ast.specs.declared.expression.Expr.TheFolds.{fold-roll-Control}
 use Rattle.gms_ast.specs.Trees.{Tree as Syntax, Indices, Control as Over, over, over_where}
 use Rattle.gms_ast.specs.TreeView.{tree_step, index_step, control_step, tree_of, control_tree}
-use Rattle.gms_grammar.specs.declared.terminal.Terminal.{Terminal}
 use Rattle.gms_grammar.specs.declared.terminal.Terminal.TheVariants.{Name, Suffix, LeftParen, Dollar}
-use Rattle.gms_grammar.specs.Grammar.{the, ◌·◌, ◌∣◌, opt, pair, left, right, none, some, node}
+use Rattle.gms_grammar.specs.Grammar.{the, ◌∣◌, pair, right, none, some, node}
 use Rattle.gms_grammar.specs.Reading.{leads}
 use Rattle.gms_grammar.specs.Terminals.{is, is_among}
 use Rattle.gms_grammar.specs.GamsGrammar.{Control, Condition, NameList, productions, token, name, bracketed}
@@ -20,10 +19,10 @@ use Rattle.gms_parse_x.specs.declared.reader.Tables.{Tables}
 use Rattle.gms_parse_x.specs.ExpressionTrees.{condition as condition_in_tree}
 use Rattle.gms_ast.specs.Numbers.{control_in_numbers}
 use Rattle.gms_parse_x.specs.Nodes.{view}
-use Rattle.gms_parse_x.specs.Readings.{Seen, Derivation, GamsPart, Refuses, Sense, IsSense, IsGot, IsAnswer, IsMeant, AreSets, IsControl, seen_from, walk_of}
+use Rattle.gms_parse_x.specs.Readings.{Seen, Derivation, GamsPart, Sense, IsGot, IsAnswer, IsMeant, AreSets, IsControl, seen_from}
 use Rattle.gms_parse_x.proofs.TokenKinds.{also, leads_by_kind}
 use Rattle.gms_parse_x.proofs.Steps.{gives_both, gives_the, gives_none, gives_some, gives_right, refuses_right}
-use Rattle.gms_parse_x.proofs.Nexts.{earlier, unled_next}
+use Rattle.gms_parse_x.proofs.Nexts.{earlier}
 use Rattle.gms_parse_x.proofs.Sums.{leads_condition}
 
 off : {b : Bool} → (if b then false else true) ≡ true → b ≡ false

@@ -1,7 +1,6 @@
 -- Chains of operands with operators between them, read in a loop.
-use Rattle.std.proofs.Common.{◌≡◌, ℕ, ◌+◌, ◌<◌, ◌≤◌, Bool, true, false, List, [], ◌∷◌, ◌++◌, refl, sym, ap, ◌∙◌, subst, arith}
+use Rattle.std.proofs.Common.{◌≡◌, ℕ, Bool, true, false, List, [], ◌∷◌, ◌++◌, refl, sym, ap, ◌∙◌, subst, arith}
 use Rattle.gq_number.specs.Number.{Number}
-use Rattle.gms_labels.specs.declared.place.Place.{Place}
 use Rattle.gms_ast.specs.declared.expression.Expr.{Expr}
 use Rattle.gms_ast.specs.Trees.{Mark, Tree as Syntax, Parts, no_part, part}
 use Rattle.gms_ast.specs.TreeView.{parts_of}
@@ -21,11 +20,11 @@ use Rattle.gms_parse_x.specs.declared.reader.Reader.{Reader}
 use Rattle.gms_parse_x.specs.declared.reader.Tables.{Tables}
 use Rattle.gms_parse_x.specs.ExpressionTrees.{or_alone, first_place, place_in}
 use Rattle.gms_parse_x.specs.Outcomes.{Walk, next_place}
-use Rattle.gms_parse_x.specs.Nodes.{view, joined}
-use Rattle.gms_parse_x.specs.Readings.{Seen, Derivation, GamsPart, Meaning, Gives, Refuses, Sense, IsSense, IsGot, IsMeant, IsNext, IsLacking, seen_from, walk_of}
+use Rattle.gms_parse_x.specs.Nodes.{view}
+use Rattle.gms_parse_x.specs.Readings.{Seen, Derivation, GamsPart, Meaning, Gives, Refuses, Sense, IsGot, IsMeant, IsNext, seen_from, walk_of}
 use Rattle.gms_parse_x.proofs.TokenKinds.{is_plain, implies}
 use Rattle.gms_parse_x.proofs.Steps.{Within, within_the, within_second, within_then, gives_both, refuses_second}
-use Rattle.gms_parse_x.proofs.Nexts.{gives_next, leads_next, unled_next, earlier}
+use Rattle.gms_parse_x.proofs.Nexts.{gives_next, leads_next, unled_next}
 use Rattle.gms_parse_x.proofs.Loops.{Looping, loop_on, loop_got, loop_refuses}
 
 -- where a tree begins is where the next token stood

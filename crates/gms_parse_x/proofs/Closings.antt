@@ -1,5 +1,5 @@
 -- Parts in parentheses.
-use Rattle.std.proofs.Common.{◌≡◌, ℕ, ◌+◌, ◌<◌, ◌≤◌, Bool, true, false, List, [], ◌∷◌, ◌++◌, Vec, Result, Ok, Err, refl, sym, ap, ◌∙◌, subst, arith}
+use Rattle.std.proofs.Common.{◌≡◌, ℕ, ◌+◌, Bool, false, List, Vec, Result, Ok, Err, refl, sym, ◌∙◌, subst, arith}
 use Rattle.std.specs.Result.{MatchResult}
 use Rattle.std.specs.declared.alloc.Global.{Global}
 use Rattle.gq_number.specs.Number.{Number}
@@ -9,7 +9,7 @@ use Rattle.gms_ast.specs.Trees.{Mark, Tree as Syntax}
 use Rattle.gms_ast.specs.TreeView.{parts_of}
 use Rattle.gms_grammar.specs.declared.terminal.Terminal.{Terminal}
 use Rattle.gms_grammar.specs.declared.terminal.Terminal.TheVariants.{LeftParen, RightParen, Comma}
-use Rattle.gms_grammar.specs.Grammar.{the, ◌·◌, leaf, pair, none}
+use Rattle.gms_grammar.specs.Grammar.{the, leaf, pair}
 use Rattle.gms_grammar.specs.Reading.{leads}
 use Rattle.gms_grammar.specs.Terminals.{is}
 use Rattle.gms_grammar.specs.GamsGrammar.{Expression, ExpressionList, productions, token, bracketed}
@@ -17,14 +17,14 @@ use Rattle.gms_grammar.specs.GamsLookAhead.{look_ahead}
 use Rattle.gms_parse_x.specs.declared.fault.SyntaxFaultOrMemory.{SyntaxFaultOrMemory}
 use Rattle.gms_parse_x.specs.declared.reader.Reader.{Reader}
 use Rattle.gms_parse_x.specs.declared.reader.Tables.{Tables}
-use Rattle.gms_parse_x.specs.ExpressionTrees.{expression, arguments, more_arguments}
-use Rattle.gms_parse_x.specs.Nodes.{view, plain_views}
-use Rattle.gms_parse_x.specs.Readings.{Seen, Derivation, GamsPart, Refuses, Sense, IsSense, IsGot, IsAnswer, IsMeant, IsNext, IsLacking, IsBefore, IsOpened, inside, seen_from, walk_of}
+use Rattle.gms_parse_x.specs.ExpressionTrees.{arguments}
+use Rattle.gms_parse_x.specs.Nodes.{plain_views}
+use Rattle.gms_parse_x.specs.Readings.{Seen, Derivation, GamsPart, Refuses, Sense, IsGot, IsAnswer, IsNext, IsLacking, IsBefore, IsOpened, inside, seen_from, walk_of}
 use Rattle.gms_parse_x.proofs.Steps.{refuses_second}
 use Rattle.gms_parse_x.proofs.Nexts.{gives_bracketed, refuses_unclosed, gives_next, leads_next, unled_next}
 use Rattle.gms_parse_x.proofs.Loops.{loop_got, loop_refuses}
 use Rattle.gms_parse_x.proofs.Lists.{Arguments}
-use Rattle.gms_parse_x.proofs.Chains.{in_sense, parts_before, parts_before_all}
+use Rattle.gms_parse_x.proofs.Chains.{in_sense, parts_before_all}
 
 -- a token is as well next inside parentheses
 pub next_inside : {test : Terminal → Bool} {reader : Reader} {at behind : ℕ} {t : Token} (unclosed : ℕ) → IsNext test reader at t behind → IsNext test (inside reader unclosed) at t behind

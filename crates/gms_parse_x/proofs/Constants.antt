@@ -1,5 +1,5 @@
 -- Constants: numbers, infinities, what is not available, and `yes` and `no`.
-use Rattle.std.proofs.Common.{◌≡◌, ℕ, ◌<◌, ◌≤◌, Bool, true, false, if◌then◌else◌, List, [], ◌∷◌, refl, sym, ap, ◌∙◌, arith}
+use Rattle.std.proofs.Common.{◌≡◌, ℕ, Bool, true, false, if◌then◌else◌, List, [], ◌∷◌, refl, sym, ap, ◌∙◌, arith}
 use Rattle.std.specs.Prelude.{codes}
 use Rattle.gq_number.specs.Number.{Number as Rational}
 use Rattle.gms_lex.specs.declared.token.Token.{Token}

@@ -1,7 +1,7 @@
 -- What a reader by the table found, as the calls say it: the longest part, or its first fault.
-use Rattle.std.proofs.Common.{◌≡◌, ℕ, List, [], ◌∷◌, ◌++◌, refl, sym, ap, ◌∙◌, subst, inl, inr, ◌⊎◌, append_assoc}
+use Rattle.std.proofs.Common.{◌≡◌, ℕ, List, [], ◌∷◌, ◌++◌, refl, sym, ap, ◌∙◌, subst, inl, inr, append_assoc}
 use Rattle.gq_number.specs.Number.{Number}
-use Rattle.gms_grammar.specs.Grammar.{the, yield, Begins, Stops, IsUnexpected}
+use Rattle.gms_grammar.specs.Grammar.{the, Begins, Stops, IsUnexpected}
 use Rattle.gms_grammar.specs.GamsGrammar.{Nonterminal, productions}
 use Rattle.gms_grammar.proofs.Basics.{behind_same}
 use Rattle.gms_grammar.proofs.Language.{gams_read_tree, gams_read_stops, gams_stuck_stops, gams_stuck_none, gams_takes, gams_stops}
@@ -12,9 +12,8 @@ use Rattle.gms_parse_x.specs.declared.reader.Reader.{Reader}
 use Rattle.gms_parse_x.specs.declared.reader.Tables.{Tables}
 use Rattle.gms_parse_x.specs.ExpressionTrees.{no_token}
 use Rattle.gms_parse_x.specs.Outcomes.{Walk, IsRefused}
-use Rattle.gms_parse_x.specs.Valuations.{IsValuation}
 use Rattle.gms_parse_x.specs.Calls.{IsRead, IsRefusal}
-use Rattle.gms_parse_x.specs.Readings.{Seen, Derivation, Gives, Refuses, IsStuck, IsWrong, Sense, IsGot, seen_from, walk_of}
+use Rattle.gms_parse_x.specs.Readings.{Seen, Derivation, Refuses, IsStuck, IsWrong, Sense, IsGot, seen_from, walk_of}
 
 -- Of two fronts of one list either the first goes on with the second, or the second is longer.
 data Compared {T : Type 0} (u front : List T) : Type 0 where
@@ -91,7 +90,7 @@ module _ {limit : ℕ} {source : List ℕ} {n : Nonterminal} {w : Walk} {ts : Li
 
 -- what was read
 pub read_of : {T : Type 0} {limit : ℕ} {Means : Sense → Derivation → T → Type 0} {n : Nonterminal} {reader : Reader} {at : ℕ} {old new : Tables} {x : T} {behind : ℕ} → IsGot limit Means (the n) reader at old new x behind →
-    (Says : (List ℕ → Number) → Derivation → T → Type 0) → ((value : List ℕ → Number) (tree : Derivation) → Means (record { names = new.names; labels = new.labels; value = value }) tree x → Says value tree x) →
+    (Says : List (List ℕ) → List (List ℕ) → (List ℕ → Number) → Derivation → T → Type 0) → ((names labels : List (List ℕ)) (value : List ℕ → Number) (tree : Derivation) → Means (record { names = names; labels = labels; value = value }) tree x → Says names labels value tree x) →
     IsRead limit reader.source.now n Says (walk_of reader.unclosed old) (walk_of reader.unclosed new) (seen_from reader at) (seen_from reader behind) x
 read_of {n = n} {new = new} got Says says = record {
   tree = got.tree;
@@ -101,5 +100,5 @@ read_of {n = n} {new = new} got Says says = record {
     are_sound = got.gives.are_sound;
     leaves = got.gives.leaves;
   };
-  means = λ value v. says value got.tree (got.means (record { names = new.names; labels = new.labels; value = value }) (record { names = λ text k h. h; labels = λ text k h. h; value = v }));
+  means = λ names labels keeps_names keeps_labels value v. says names labels value got.tree (got.means (record { names = names; labels = labels; value = value }) (record { names = keeps_names; labels = keeps_labels; value = v }));
 }

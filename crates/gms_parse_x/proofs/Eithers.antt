@@ -1,9 +1,8 @@
 -- Alternatives of which one begins with a single token.
-use Rattle.std.proofs.Common.{◌≡◌, ℕ, Bool, true, false, List, [], ◌∷◌, ◌++◌, sym, inl, inr, ◌⊎◌}
-use Rattle.gms_lex.specs.declared.token.Token.{Token}
+use Rattle.std.proofs.Common.{◌≡◌, ℕ, Bool, true, false, List}
 use Rattle.gms_grammar.specs.declared.terminal.Terminal.{Terminal}
-use Rattle.gms_grammar.specs.Grammar.{one, ◌·◌, ◌∣◌, Tree}
-use Rattle.gms_grammar.specs.Reading.{Found, read, stuck, leads, Reads, taken, refused, in_neither, takes_left, takes_right, takes_first}
+use Rattle.gms_grammar.specs.Grammar.{one, ◌·◌, ◌∣◌}
+use Rattle.gms_grammar.specs.Reading.{read, stuck, leads, Reads, taken, refused, in_neither, takes_left, takes_right, takes_first}
 use Rattle.gms_grammar.specs.GamsGrammar.{productions}
 use Rattle.gms_grammar.specs.GamsLookAhead.{look_ahead}
 use Rattle.gms_parse_x.specs.declared.fault.SyntaxFaultOrMemory.{SyntaxFaultOrMemory}

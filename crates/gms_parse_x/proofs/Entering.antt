@@ -1,20 +1,18 @@
 -- Names and labels that are entered, and numbers.
-use Rattle.std.proofs.Common.{◌≡◌, ℕ, ◌+◌, ◌<◌, ◌≤◌, Bool, true, false, not, List, [], ◌∷◌, Some, refl, sym, ap, ◌∙◌, subst, arith, inl, inr, ◌⊎◌}
+use Rattle.std.proofs.Common.{◌≡◌, ℕ, Bool, true, false, List, [], ◌∷◌, Some, refl, sym, ap, ◌∙◌, subst, arith, inl, inr}
 use Rattle.gq_number.specs.Number.{Number as Rational}
 use Rattle.gq_text.specs.Decimal.{MeansNumber}
 use Rattle.gq_text.specs.Literal.{FitsLiteral}
 use Rattle.gms_labels.specs.Labels.{place_of, entered, IsFullFor}
-use Rattle.gms_labels.specs.declared.place.Place.{Place}
 use Rattle.gms_lex.specs.declared.token.Token.{Token}
 use Rattle.gms_lex.specs.TokenTexts.{token_text}
 use Rattle.gms_grammar.specs.declared.terminal.Terminal.{Terminal}
-use Rattle.gms_grammar.specs.declared.terminal.Terminal.TheVariants.{LeftParen, Name, Suffix, Text, Number}
+use Rattle.gms_grammar.specs.declared.terminal.Terminal.TheVariants.{Name, Suffix, Text, Number}
 use Rattle.gms_grammar.specs.Grammar.{one, leaf}
 use Rattle.gms_grammar.specs.Terminals.{is, is_among}
 use Rattle.gms_grammar.specs.GamsGrammar.{name, token}
-use Rattle.gms_grammar.proofs.Checks.{left_and}
 use Rattle.gms_parse_x.specs.declared.fault.SyntaxError.{SyntaxError}
-use Rattle.gms_parse_x.specs.declared.fault.SyntaxError.TheVariants.{TooManyLabels, Number as OutOfRange}
+use Rattle.gms_parse_x.specs.declared.fault.SyntaxError.TheVariants.{TooManyLabels}
 use Rattle.gms_parse_x.specs.declared.fault.SyntaxFaultOrMemory.{SyntaxFaultOrMemory}
 use Rattle.gms_parse_x.specs.declared.fault.SyntaxFaultOrMemory.TheVariants.{Fault}
 use Rattle.gms_parse_x.specs.declared.reader.Reader.{Reader}
@@ -24,8 +22,7 @@ use Rattle.gms_ast.specs.Trees.{number as number_node}
 use Rattle.gms_parse_x.specs.Nodes.{view}
 use Rattle.gms_parse_x.specs.ExpressionTrees.{unquoted, or_0, number_in}
 use Rattle.gms_parse_x.specs.Outcomes.{Walk, walk_after, is_name, IsFaulty}
-use Rattle.gms_parse_x.specs.Readings.{Seen, Gives, Refuses, Sense, IsSense, IsGot, IsName, IsLabel, IsNext, IsMeant, IsValue, IsOutOfRange, seen_from, walk_of}
-use Rattle.gms_parse_x.proofs.TokenKinds.{implies, also}
+use Rattle.gms_parse_x.specs.Readings.{Gives, Refuses, IsGot, IsName, IsLabel, IsNext, IsMeant, IsValue, IsOutOfRange, seen_from, walk_of}
 use Rattle.gms_labels.specs.declared.fault.LabelFault.{LabelFault}
 use Rattle.gms_labels.specs.declared.fault.LabelFault.TheVariants as label_fault
 use Rattle.gms_parse_x.specs.Faults.{not_entered}

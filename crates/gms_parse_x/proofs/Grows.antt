@@ -1,12 +1,11 @@
 -- What a test of the next token says of the part that it leads into.
-use Rattle.std.proofs.Common.{◌≡◌, ◌||◌, Bool, true, false, List, [], ◌∷◌, sym, ◌∙◌}
+use Rattle.std.proofs.Common.{◌≡◌, Bool, true, false, List, [], ◌∷◌, sym, ◌∙◌}
 use Rattle.gms_grammar.specs.declared.terminal.Terminal.{Terminal}
 use Rattle.gms_grammar.specs.Grammar.{one, ◌·◌}
 use Rattle.gms_grammar.specs.Reading.{leads}
 use Rattle.gms_grammar.specs.GamsGrammar.{productions}
 use Rattle.gms_grammar.specs.GamsLookAhead.{look_ahead}
 use Rattle.gms_grammar.proofs.Basics.{or_left}
-use Rattle.std.proofs.lemmas.Bool.{not-true, not-false}
 use Rattle.gms_parse_x.specs.Readings.{Seen, GamsPart}
 
 -- the test answered no

@@ -1,5 +1,5 @@
 -- The loop over conditions.
-use Rattle.std.proofs.Common.{◌≡◌, ℕ, ◌-◌, ◌<◌, ◌≤◌, Bool, true, false, List, [], ◌∷◌, ◌++◌, length, map, refl, sym, ap, subst, ◌∙◌, arith}
+use Rattle.std.proofs.Common.{◌≡◌, ℕ, Bool, true, false, List, [], ◌∷◌, ◌++◌, map, refl, sym, subst}
 use Rattle.gq_number.specs.Number.{Number}
 use Rattle.gms_ast.specs.declared.expression.Expr.{Expr}
 use Rattle.gms_parse_x.specs.declared.reader.Reader.{Reader}

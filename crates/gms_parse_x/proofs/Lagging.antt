@@ -1,5 +1,5 @@
 -- Lags, made of what was read of their amounts.
-use Rattle.std.proofs.Common.{◌≡◌, ℕ, ◌+◌, ◌<◌, ◌≤◌, Bool, true, false, List, [], ◌∷◌, Box, refl, sym, ap, ap₂, ◌∙◌, arith}
+use Rattle.std.proofs.Common.{◌≡◌, ℕ, [], ◌∷◌, Box, refl, ap, ap₂, ◌∙◌, arith}
 use Rattle.std.specs.declared.alloc.Global.{Global}
 use Rattle.gq_number.specs.Number.{Number}
 use Rattle.gms_labels.specs.declared.place.Place.{Place}
@@ -7,21 +7,17 @@ use Rattle.gms_lex.specs.declared.token.Token.{Token}
 use Rattle.gms_ast.specs.declared.expression.Expr.{Expr}
 use Rattle.gms_ast.specs.declared.expression.LagOp.{LagOp}
 use Rattle.gms_ast.specs.Trees.{lagged}
-use Rattle.gms_grammar.specs.declared.terminal.Terminal.{Terminal}
 use Rattle.gms_grammar.specs.declared.terminal.Terminal.TheVariants.{Sign, Circular}
-use Rattle.gms_grammar.specs.Grammar.{the, ◌·◌, leaf, pair, node}
-use Rattle.gms_grammar.specs.Reading.{leads}
+use Rattle.gms_grammar.specs.Grammar.{the, leaf, pair, node}
 use Rattle.gms_grammar.specs.Terminals.{is_among}
-use Rattle.gms_grammar.specs.GamsGrammar.{Lag, LagAmount, productions}
-use Rattle.gms_grammar.specs.GamsLookAhead.{look_ahead}
+use Rattle.gms_grammar.specs.GamsGrammar.{Lag, LagAmount}
 use Rattle.gms_parse_x.specs.declared.reader.Reader.{Reader}
 use Rattle.gms_parse_x.specs.declared.reader.Tables.{Tables}
 use Rattle.gms_parse_x.specs.ExpressionTrees.{lag_op_of, lag_amount, place_in}
 use Rattle.gms_parse_x.specs.Nodes.{view}
-use Rattle.gms_parse_x.specs.Readings.{Seen, GamsPart, IsGot, IsMeant, IsNext, IsLag, seen_from, kind_of}
+use Rattle.gms_parse_x.specs.Readings.{IsGot, IsMeant, IsNext, IsLag}
 use Rattle.gms_parse_x.proofs.Steps.{gives_both, gives_the}
 use Rattle.gms_parse_x.proofs.Nexts.{gives_next}
-use Rattle.gms_parse_x.proofs.Chains.{in_sense}
 
 -- a lag
 pub lag_got : {F : Type 0} (value : F → Number) {limit : ℕ} {reader : Reader} {at behind next : ℕ} {old new : Tables} {operator : Token} {e : Expr F} (op : LagOp) (place : Place) (amount : Box (Expr F) Global) (n : IsNext (is_among (Sign ∷ Circular ∷ [])) reader at operator behind)

@@ -1,7 +1,7 @@
 -- The trees of expressions without parts.
 use Rattle.std.proofs.Common.{◌≡◌, ℕ, sym, ap, ◌∙◌}
 use Rattle.gms_labels.specs.declared.place.Place.{Place}
-use Rattle.gms_ast.specs.declared.expression.Expr.{Number, PlusInf, Na, Yes, No, Ord, Card}
+use Rattle.gms_ast.specs.declared.expression.Expr.{Number, Ord, Card}
 use Rattle.gms_ast.specs.declared.expression.Expr.TheOpen.{Expr-F}
 use Rattle.gms_ast.specs.declared.expression.Expr.TheFolds.{fold-roll-Expr}
 use Rattle.gms_ast.specs.declared.expression.Expr.TheVariants.{rolls-Number, rolls-Ord, rolls-Card}

@@ -25,3 +25,4 @@ pub mod Lagging
 pub mod Leading
 pub mod Indexing
 pub mod Opening
+pub mod Valued

@@ -1,15 +1,14 @@
 -- Lists with commas between their parts: names, arguments and indices.
-use Rattle.std.proofs.Common.{◌≡◌, ℕ, ◌+◌, ◌<◌, ◌≤◌, Bool, true, false, List, [], ◌∷◌, ◌++◌, Vec, map, refl, sym, ap, ◌∙◌, subst, arith, append_assoc}
+use Rattle.std.proofs.Common.{◌≡◌, ℕ, false, List, [], ◌∷◌, ◌++◌, Vec, refl, sym, ap, ◌∙◌, arith, append_assoc}
 use Rattle.std.proofs.lemmas.List.{append-nil}
 use Rattle.std.specs.declared.alloc.Global.{Global}
 use Rattle.gq_number.specs.Number.{Number}
 use Rattle.gms_labels.specs.declared.place.Place.{Place}
 use Rattle.gms_lex.specs.declared.token.Token.{Token}
 use Rattle.gms_ast.specs.declared.expression.Expr.{Expr}
-use Rattle.gms_ast.specs.Trees.{Mark, plain, Tree as Syntax, Parts, no_part, part}
-use Rattle.gms_ast.specs.TreeView.{parts_of}
+use Rattle.gms_ast.specs.Trees.{Mark, plain, Tree as Syntax, part}
 use Rattle.gms_grammar.specs.declared.terminal.Terminal.TheVariants.{Comma}
-use Rattle.gms_grammar.specs.Grammar.{one, the, ◌·◌, many, leaf, pair, none, more, node}
+use Rattle.gms_grammar.specs.Grammar.{the, ◌·◌, pair, node}
 use Rattle.gms_grammar.specs.Reading.{leads}
 use Rattle.gms_grammar.specs.Terminals.{is}
 use Rattle.gms_grammar.specs.GamsGrammar.{NameList, ExpressionList, Expression, productions, token, name}
@@ -19,11 +18,11 @@ use Rattle.gms_parse_x.specs.declared.reader.Reader.{Reader}
 use Rattle.gms_parse_x.specs.declared.reader.Tables.{Tables}
 use Rattle.gms_parse_x.specs.ExpressionTrees.{names_in, names_behind, inside as inside_of, arguments, more_arguments, expression}
 use Rattle.gms_parse_x.specs.Nodes.{view}
-use Rattle.gms_parse_x.specs.Readings.{Derivation, Refuses, Sense, IsSense, IsGot, IsMeant, IsName, AreNames, IsNext, seen_from, walk_of}
+use Rattle.gms_parse_x.specs.Readings.{Derivation, Refuses, Sense, IsGot, IsMeant, IsName, AreNames, IsNext, seen_from, walk_of}
 use Rattle.gms_parse_x.proofs.Steps.{within_the, within_second, within_then, gives_both, refuses_second}
 use Rattle.gms_parse_x.proofs.Nexts.{gives_next, leads_next, unled_next}
 use Rattle.gms_parse_x.proofs.Loops.{Looping, loop_on, loop_got, loop_refuses}
-use Rattle.gms_parse_x.proofs.Chains.{in_sense, parts_before, parts_before_push, parts_before_all}
+use Rattle.gms_parse_x.proofs.Chains.{in_sense, parts_before, parts_before_push}
 
 -- the names of a list, as a derivation means them
 abbrev pub names_whole : List ℕ → Sense → Derivation → List ℕ

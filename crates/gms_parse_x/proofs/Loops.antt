@@ -1,18 +1,15 @@
 -- A repetition, read in a loop.
-use Rattle.std.proofs.Common.{◌≡◌, ℕ, ◌+◌, ◌<◌, ◌≤◌, Bool, true, false, List, [], ◌∷◌, ◌++◌, refl, sym, ap, ◌∙◌, subst, arith}
-use Rattle.gms_grammar.specs.declared.terminal.Terminal.{Terminal}
-use Rattle.gms_grammar.specs.Grammar.{one, the, ◌·◌, many, leaf, pair, none, more, node}
+use Rattle.std.proofs.Common.{◌≡◌, ℕ, ◌≤◌, true, false, ap, ◌∙◌, arith}
+use Rattle.gms_grammar.specs.Grammar.{many, none, more}
 use Rattle.gms_grammar.specs.Reading.{leads}
 use Rattle.gms_grammar.specs.GamsGrammar.{productions}
 use Rattle.gms_grammar.specs.GamsLookAhead.{look_ahead}
-use Rattle.gms_lex.specs.declared.token.Token.{Token}
 use Rattle.gms_parse_x.specs.declared.fault.SyntaxFaultOrMemory.{SyntaxFaultOrMemory}
 use Rattle.gms_parse_x.specs.declared.reader.Reader.{Reader}
 use Rattle.gms_parse_x.specs.declared.reader.Tables.{Tables}
-use Rattle.gms_parse_x.specs.Readings.{Seen, Derivation, GamsPart, Gives, Refuses, Sense, IsSense, IsGot, IsNext, seen_from, walk_of}
-use Rattle.gms_parse_x.proofs.TokenKinds.{is_plain, implies}
-use Rattle.gms_parse_x.proofs.Steps.{Within, within_then, within_again, gives_both, gives_no_more, refuses_again, refuses_second}
-use Rattle.gms_parse_x.proofs.Nexts.{gives_next, leads_next, earlier}
+use Rattle.gms_parse_x.specs.Readings.{Derivation, GamsPart, Gives, Refuses, Sense, IsSense, IsGot, seen_from, walk_of}
+use Rattle.gms_parse_x.proofs.Steps.{Within, within_then, within_again, gives_no_more, refuses_again}
+use Rattle.gms_parse_x.proofs.Nexts.{earlier}
 
 -- A part ends with a repetition, of which so much was read. The whole is what is made of the rest.
 pub record Looping {Y Z : Type 0} (limit : ℕ) (part q : GamsPart) (whole : Sense → Derivation → Y) (others : Sense → Derivation → Z) (made : Z → Y) (reader : Reader) (start : ℕ) (old new : Tables) (at : ℕ) : Type 0 where

@@ -1,10 +1,9 @@
 -- Nodes that are made of a first part and others.
-use Rattle.std.proofs.Common.{◌≡◌, ℕ, ◌<◌, List, [], ◌∷◌, ◌++◌, length, map, refl, sym, ap, ◌∙◌, arith}
+use Rattle.std.proofs.Common.{◌≡◌, ◌<◌, List, [], ◌∷◌, ◌++◌, length, map, refl, ap, ◌∙◌, arith}
 use Rattle.std.proofs.lemmas.List.{map_push}
 use Rattle.gq_number.specs.Number.{Number}
 use Rattle.gms_ast.specs.Trees.{Mark, Tree as Syntax, Parts, part}
 use Rattle.gms_ast.specs.TreeView.{parts_of}
-use Rattle.gms_parse_x.specs.ExpressionTrees.{or_alone}
 use Rattle.gms_ast.specs.Numbers.{in_numbers, parts_in_numbers}
 use Rattle.gms_parse_x.specs.Nodes.{joined}
 

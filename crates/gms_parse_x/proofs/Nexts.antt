@@ -1,9 +1,8 @@
 -- Single tokens at places of a reader.
-use Rattle.std.proofs.Common.{◌≡◌, ℕ, ◌+◌, ◌<◌, ◌≤◌, Bool, true, false, not, ◌||◌, List, [], ◌∷◌, ◌++◌, map, drop, length, Some, refl, sym, ap, ◌∙◌, subst, arith, inl, inr, ◌-◌}
+use Rattle.std.proofs.Common.{◌≡◌, ℕ, ◌+◌, ◌<◌, ◌≤◌, Bool, true, false, ◌||◌, List, [], ◌∷◌, length, Some, refl, sym, ap, ◌∙◌, subst, arith, inl, inr, ◌-◌}
 use Rattle.gms_grammar.specs.declared.terminal.Terminal.{Terminal}
 use Rattle.gms_grammar.specs.declared.terminal.Terminal.TheVariants.{LeftParen, RightParen}
 use Rattle.gms_grammar.specs.Grammar.{one, ◌·◌, leaf, pair, yield}
-use Rattle.gms_grammar.specs.LookAhead.{may_begin}
 use Rattle.gms_grammar.specs.Reading.{leads, refused}
 use Rattle.gms_grammar.specs.Terminals.{is, number_of}
 use Rattle.std.proofs.lemmas.Bool.{eqb-true}
@@ -16,7 +15,7 @@ use Rattle.gms_parse_x.specs.declared.fault.SyntaxError.{SyntaxError}
 use Rattle.gms_parse_x.specs.declared.fault.SyntaxFaultOrMemory.{SyntaxFaultOrMemory}
 use Rattle.gms_parse_x.specs.declared.reader.Reader.{Reader}
 use Rattle.gms_parse_x.specs.declared.reader.Tables.{Tables}
-use Rattle.gms_parse_x.specs.Outcomes.{Walk, walk_behind, walk_after, IsFaulty}
+use Rattle.gms_parse_x.specs.Outcomes.{Walk, IsFaulty}
 use Rattle.gms_parse_x.specs.Readings.{Seen, Derivation, GamsPart, Gives, Refuses, Sense, IsSense, IsNext, IsLacking, IsOpened, IsUnopened, seen_from, walk_of, kind_of}
 use Rattle.gms_parse_x.proofs.TokenKinds.{is_plain, implies, also, same_number}
 use Rattle.gms_parse_x.proofs.Walks.{plain_after, plain_sound, names_kept, labels_kept}

@@ -1,5 +1,5 @@
 -- Calls, folds and references, made of what was read of their parts.
-use Rattle.std.proofs.Common.{◌≡◌, ℕ, ◌+◌, ◌<◌, ◌≤◌, Bool, true, false, if◌then◌else◌, List, [], ◌∷◌, ◌++◌, Vec, map, codes, refl, sym, ap, ap₂, ◌∙◌, subst, arith}
+use Rattle.std.proofs.Common.{◌≡◌, ℕ, ◌+◌, if◌then◌else◌, [], ◌∷◌, Vec, map, codes, refl, ap, ap₂, ◌∙◌, subst, arith}
 use Rattle.std.specs.declared.alloc.Global.{Global}
 use Rattle.gq_number.specs.Number.{Number}
 use Rattle.gms_labels.specs.declared.place.Place.{Place}
@@ -13,22 +13,20 @@ use Rattle.gms_ast.specs.declared.expression.Index.{Index as IndexNode}
 use Rattle.gms_ast.specs.declared.expression.Control.{Control as ControlNode}
 use Rattle.gms_ast.specs.declared.expression.Expr.{Expr, Ref, Call as CallNode}
 use Rattle.gms_ast.specs.declared.program.Target.{Target as TargetNode}
-use Rattle.gms_ast.specs.Trees.{plain, Tree as Syntax, Parts, reference, call, fold_over, place_in_set, size_of_set, no_index}
-use Rattle.gms_ast.specs.TreeView.{tree_of, indices_of, index_tree, control_tree, parts_of}
+use Rattle.gms_ast.specs.Trees.{plain, reference, call, fold_over, place_in_set, size_of_set, no_index}
+use Rattle.gms_ast.specs.TreeView.{tree_of, indices_of, index_tree, control_tree}
 use Rattle.gms_ast.proofs.TreeEquations.{tree_of-Ref, tree_of-Call}
 use Rattle.gms_grammar.specs.declared.terminal.Terminal.TheVariants.{Function, OrdCard, FoldOp, LeftParen, RightParen, Comma}
-use Rattle.gms_grammar.specs.Grammar.{the, ◌·◌, ◌∣◌, opt, leaf, pair, left, right, node}
-use Rattle.gms_grammar.specs.Reading.{leads}
+use Rattle.gms_grammar.specs.Grammar.{the, ◌·◌, ◌∣◌, opt, leaf, pair, left, node}
 use Rattle.gms_grammar.specs.Terminals.{is}
-use Rattle.gms_grammar.specs.GamsGrammar.{Expression, ExpressionList, NameList, IndexList, Target, Attribute, Fold, Control, productions, token, name, bracketed}
-use Rattle.gms_grammar.specs.GamsLookAhead.{look_ahead}
+use Rattle.gms_grammar.specs.GamsGrammar.{Expression, ExpressionList, NameList, IndexList, Target, Attribute, Fold, Control, token, name, bracketed}
 use Rattle.gms_parse_x.specs.declared.fault.SyntaxFaultOrMemory.{SyntaxFaultOrMemory}
 use Rattle.gms_parse_x.specs.declared.reader.Reader.{Reader}
 use Rattle.gms_parse_x.specs.declared.reader.Tables.{Tables}
-use Rattle.gms_parse_x.specs.ExpressionTrees.{is_word, token_of, name_in, function_of, fold_op_of, function_call, set_call, fold_of, scalar, target as target_in_tree, expression, bracketed_arguments, control as control_in_tree}
+use Rattle.gms_parse_x.specs.ExpressionTrees.{is_word, token_of, name_in, function_of, fold_op_of, function_call, set_call, fold_of, scalar, target as target_in_tree, expression}
 use Rattle.gms_ast.specs.Numbers.{in_numbers, indices_in_numbers, control_in_numbers}
-use Rattle.gms_parse_x.specs.Nodes.{view, plain_views}
-use Rattle.gms_parse_x.specs.Readings.{Derivation, GamsPart, Refuses, Sense, IsSense, IsGot, IsMeant, IsNext, IsBefore, IsOpened, IsName, IsSuffix, AreNames, AreSets, AreArguments, AreIndices, IsControl, IsTarget, inside, seen_from, walk_of}
+use Rattle.gms_parse_x.specs.Nodes.{view}
+use Rattle.gms_parse_x.specs.Readings.{Derivation, GamsPart, Refuses, Sense, IsGot, IsMeant, IsNext, IsBefore, IsOpened, IsName, IsSuffix, AreSets, AreArguments, AreIndices, IsControl, IsTarget, inside, seen_from, walk_of}
 use Rattle.gms_parse_x.proofs.Made.{numbers_in_parts}
 use Rattle.gms_parse_x.proofs.Steps.{gives_both, gives_the, gives_left}
 use Rattle.gms_parse_x.proofs.Nexts.{gives_next, gives_bracketed, earlier}

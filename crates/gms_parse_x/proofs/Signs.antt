@@ -1,23 +1,23 @@
 -- Operands behind a sign or `not`, and what a refused step hands on.
-use Rattle.std.proofs.Common.{◌≡◌, ℕ, ◌+◌, ◌<◌, ◌≤◌, Bool, true, false, cond, List, [], ◌∷◌, Result, Ok, Err, refl, sym, ap, ◌∙◌, subst, arith}
+use Rattle.std.proofs.Common.{◌≡◌, ℕ, Bool, true, false, cond, Result, Ok, Err, sym, ap, ◌∙◌, arith}
 use Rattle.std.specs.Result.{IsErrAnd, MatchResult}
 use Rattle.std.proofs.lemmas.Result.{err_from_is_err_and}
 use Rattle.gq_number.specs.Number.{Number}
 use Rattle.gms_ast.specs.declared.expression.Expr.{Expr}
-use Rattle.gms_ast.specs.Trees.{Tree as Syntax, Parts, negated, not_so, part, Mark}
+use Rattle.gms_ast.specs.Trees.{Tree as Syntax, negated, not_so}
 use Rattle.gms_grammar.specs.declared.terminal.Terminal.TheVariants.{Sign, Not}
 use Rattle.gms_lex.specs.declared.token.Token.{Token}
 use Rattle.gms_grammar.specs.declared.terminal.Terminal.{Terminal}
 use Rattle.gms_grammar.specs.Reading.{leads}
 use Rattle.gms_grammar.specs.GamsLookAhead.{look_ahead}
-use Rattle.gms_grammar.specs.Grammar.{one, the, ◌·◌, ◌∣◌, opt, many, leaf, pair, left, right, node}
+use Rattle.gms_grammar.specs.Grammar.{one, the, ◌·◌, ◌∣◌, opt, leaf, pair, left, right, node}
 use Rattle.gms_grammar.specs.GamsGrammar.{Nonterminal, productions, token}
 use Rattle.gms_parse_x.specs.declared.fault.SyntaxFaultOrMemory.{SyntaxFaultOrMemory}
 use Rattle.gms_parse_x.specs.declared.reader.Reader.{Reader}
 use Rattle.gms_parse_x.specs.declared.reader.Tables.{Tables}
-use Rattle.gms_parse_x.specs.ExpressionTrees.{with_sign, negated_by, or_alone}
+use Rattle.gms_parse_x.specs.ExpressionTrees.{with_sign, negated_by}
 use Rattle.gms_parse_x.specs.Nodes.{view}
-use Rattle.gms_parse_x.specs.Readings.{Seen, Derivation, GamsPart, Meaning, Refuses, Sense, IsSense, IsGot, IsMeant, IsSigned, IsNegated, IsNext, seen_from, walk_of}
+use Rattle.gms_parse_x.specs.Readings.{GamsPart, Meaning, Refuses, Sense, IsGot, IsMeant, IsSigned, IsNegated, IsNext, seen_from, walk_of}
 use Rattle.gms_parse_x.proofs.Steps.{gives_both, gives_the, gives_left, gives_right, refuses_second}
 use Rattle.gms_parse_x.proofs.TokenKinds.{is_plain, implies}
 use Rattle.gms_parse_x.proofs.Nexts.{gives_next}

@@ -1,5 +1,5 @@
 -- What the steps over single tokens say.
-use Rattle.std.proofs.Common.{◌≡◌, ℕ, ◌+◌, ◌<◌, ◌≤◌, Bool, true, false, cond, List, [], ◌∷◌, refl, sym, ap, ◌∙◌, subst, arith, inl, inr, Err}
+use Rattle.std.proofs.Common.{◌≡◌, ℕ, ◌≤◌, Bool, true, false, cond, List, [], ◌∷◌, refl, sym, ap, ◌∙◌, subst, arith, inl, inr, Err}
 use Rattle.gq_number.specs.Number.{Number}
 use Rattle.gq_text.specs.declared.fault.NumberFault.{NumberFault}
 use Rattle.gq_text.specs.declared.fault.NumberFault.TheVariants.{Shape, Limit}
@@ -8,7 +8,7 @@ use Rattle.gq_text.specs.Decimal.{MeansNumber}
 use Rattle.gq_text.proofs.Splits.{one_number}
 use Rattle.gms_ast.specs.declared.expression.Suffix.{Suffix as SuffixNode}
 use Rattle.gms_ast.specs.declared.expression.Suffix.TheVariants as suffix
-use Rattle.gms_ast.specs.Trees.{negated, not_so}
+use Rattle.gms_ast.specs.Trees.{negated}
 use Rattle.gms_lex.specs.declared.token.Token.{Token}
 use Rattle.gms_lex.specs.TokenTexts.{token_text}
 use Rattle.gms_grammar.specs.declared.terminal.Terminal.{Terminal}

@@ -1,5 +1,5 @@
 -- How names and labels are spelled: they are of ASCII, and short.
-use Rattle.std.proofs.Common.{◌≡◌, ℕ, ◌+◌, ◌-◌, ◌<◌, ◌≤◌, Bool, true, false, cond, ltb, List, [], ◌∷◌, length, take, drop, refl, sym, ap, ◌∙◌, subst, arith, length-take, length-drop}
+use Rattle.std.proofs.Common.{◌≡◌, ℕ, ◌-◌, ◌≤◌, Bool, true, false, cond, ltb, List, [], ◌∷◌, length, drop, refl, sym, ap, ◌∙◌, arith, length-take}
 use Rattle.std.proofs.lemmas.Bool.{ltb-false, eqb-true}
 use Rattle.std.specs.Str.{IsAscii}
 use Rattle.std.proofs.lemmas.Str.{IsAscii-take, IsAscii-drop}
@@ -12,7 +12,7 @@ use Rattle.gms_lex.specs.TokenTexts.{IsSpelled, token_text}
 use Rattle.gms_grammar.specs.declared.terminal.Terminal.{Terminal}
 use Rattle.gms_grammar.specs.declared.terminal.Terminal.TheVariants.{Name, Suffix, Text, LongText}
 use Rattle.gms_grammar.specs.Terminals.{is, is_among, number_of}
-use Rattle.gms_parse_x.specs.Words.{terminal_of, terminal_of_symbol, terminal_of_text}
+use Rattle.gms_parse_x.specs.Words.{terminal_of, terminal_of_symbol}
 use Rattle.gms_parse_x.specs.ExpressionTrees.{unquoted}
 use Rattle.gms_parse_x.specs.declared.reader.Reader.{Reader}
 use Rattle.gms_parse_x.specs.Readings.{IsNext}

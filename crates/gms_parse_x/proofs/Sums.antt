@@ -1,13 +1,12 @@
 -- The first part of a sum, and operands under conditions.
-use Rattle.std.proofs.Common.{◌≡◌, ℕ, ◌+◌, ◌<◌, ◌≤◌, Bool, true, false, cond, List, [], ◌∷◌, ◌++◌, refl, sym, ap, ◌∙◌, subst, arith}
-use Rattle.std.proofs.lemmas.Bool.{both_ways}
+use Rattle.std.proofs.Common.{◌≡◌, ℕ, Bool, true, false, cond, List, [], ◌∷◌, ◌++◌, refl, sym, ap, ◌∙◌, arith}
 use Rattle.gq_number.specs.Number.{Number}
 use Rattle.gms_labels.specs.declared.place.Place.{Place}
 use Rattle.gms_ast.specs.declared.expression.Expr.{Expr}
-use Rattle.gms_ast.specs.Trees.{Mark, plain, signed, Tree as Syntax, Parts, no_part, part, negated, sum as sum_node, guarded as guarded_node}
+use Rattle.gms_ast.specs.Trees.{Mark, plain, signed, Tree as Syntax, Parts, part, negated, sum as sum_node, guarded as guarded_node}
 use Rattle.gms_ast.specs.TreeView.{parts_of}
 use Rattle.gms_grammar.specs.declared.terminal.Terminal.TheVariants.{Sign, Dollar}
-use Rattle.gms_grammar.specs.Grammar.{one, the, ◌·◌, opt, many, pair, none, more, node}
+use Rattle.gms_grammar.specs.Grammar.{the, ◌·◌, opt, pair, node}
 use Rattle.gms_grammar.specs.Reading.{leads}
 use Rattle.gms_grammar.specs.Terminals.{is, is_among}
 use Rattle.gms_grammar.specs.GamsGrammar.{Sum, Product, Guarded, Primary, Condition, productions, token}
@@ -18,7 +17,7 @@ use Rattle.gms_parse_x.specs.declared.fault.SyntaxFaultOrMemory.{SyntaxFaultOrMe
 use Rattle.gms_parse_x.specs.ExpressionTrees.{or_alone, with_sign, place_in, sum_of, terms, product_of, guarded_of, guards, primary, condition}
 use Rattle.gms_parse_x.specs.Outcomes.{next_place}
 use Rattle.gms_parse_x.specs.Nodes.{view}
-use Rattle.gms_parse_x.specs.Readings.{Seen, Derivation, Sense, IsSense, IsGot, IsMeant, IsSigned, Refuses, seen_from, walk_of, kind_of}
+use Rattle.gms_parse_x.specs.Readings.{Seen, IsGot, IsMeant, IsSigned, Refuses, seen_from, walk_of, kind_of}
 use Rattle.gms_parse_x.proofs.TokenKinds.{leads_by_kind, same_test}
 use Rattle.gms_parse_x.proofs.Steps.{within_the, within_second, within_then, gives_both}
 use Rattle.gms_parse_x.proofs.Loops.{Looping, loop_on, loop_got, loop_refuses}

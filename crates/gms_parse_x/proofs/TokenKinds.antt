@@ -1,12 +1,11 @@
 -- Kinds of tokens, told apart.
-use Rattle.std.proofs.Common.{◌≡◌, ℕ, Bool, true, false, not, ◌&&◌, ◌||◌, ◌==◌, List, [], ◌∷◌, refl, sym, ap, ◌∙◌, get_or}
+use Rattle.std.proofs.Common.{◌≡◌, Bool, true, false, not, ◌||◌, List, [], ◌∷◌, refl, sym, ap, ◌∙◌, get_or}
 use Rattle.gms_grammar.specs.declared.terminal.Terminal.{Terminal}
 use Rattle.gms_grammar.specs.declared.terminal.Terminal.TheVariants.{Abort, LeftParen, RightParen, Name, Suffix, Text, Number, Dot, End}
-use Rattle.gms_grammar.specs.Grammar.{Part, one}
 use Rattle.gms_grammar.specs.LookAhead.{may_begin}
 use Rattle.gms_grammar.specs.Reading.{leads}
-use Rattle.gms_grammar.specs.Terminals.{number_of, terminals, is, is_among}
-use Rattle.gms_grammar.specs.GamsGrammar.{Nonterminal, productions}
+use Rattle.gms_grammar.specs.Terminals.{number_of, terminals, is_among}
+use Rattle.gms_grammar.specs.GamsGrammar.{productions}
 use Rattle.gms_grammar.specs.GamsLookAhead.{look_ahead}
 use Rattle.gms_grammar.proofs.Checks.{every, alike, is_alike}
 use Rattle.gms_grammar.proofs.Decided.{all_kinds}

@@ -3,7 +3,6 @@ use Rattle.std.specs.Prelude.{ℕ, ◌-◌, Bool, true, false, if◌then◌else�
 use Rattle.std.specs.Str.{str_eq_ignore_ascii_case}
 use Rattle.gms_labels.specs.declared.place.Place.{Place}
 use Rattle.gms_labels.specs.Labels.{place_of}
-use Rattle.gms_tokens.specs.declared.kind.Sym.{Sym}
 use Rattle.gms_tokens.specs.declared.kind.Sym.TheVariants as sym
 use Rattle.gms_tokens.specs.declared.kind.Kind.{Kind}
 use Rattle.gms_tokens.specs.declared.kind.Kind.TheVariants as kind

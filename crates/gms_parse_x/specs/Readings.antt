@@ -37,7 +37,7 @@ use Rattle.gms_parse_x.specs.declared.grammar.Inner.TheVariants as inner_part
 use Rattle.gms_parse_x.specs.ExpressionTrees.{expression, condition, control, bracketed_arguments, optional_indices, target as target_of, index as index_of, lag as lag_of, suffix_in, name_in, label_in, names_in, sets_in, inside as inside_of, token_of, with_sign, negated_by}
 use Rattle.gms_parse_x.specs.Words.{terminal_of}
 use Rattle.gms_parse_x.specs.Outcomes.{Walk, walk_behind, seen, AreSound, IsFaulty, unexpected_error, next_place}
-use Rattle.gms_ast.specs.Numbers.{in_numbers, indices_in_numbers, control_in_numbers}
+use Rattle.gms_ast.specs.Numbers.{indices_in_numbers, control_in_numbers}
 use Rattle.gms_parse_x.specs.Valuations.{IsValuation}
 use Rattle.gms_parse_x.specs.Nodes.{view, plain_views}
 

@@ -5,6 +5,7 @@ mod chain;
 mod constant;
 mod fault;
 mod grammar;
+mod laws;
 mod name;
 mod node;
 mod operand;
@@ -12,9 +13,12 @@ mod read;
 mod reader;
 mod reference;
 mod spelling;
+#[cfg(test)]
+mod tests;
 mod word;
 
 pub use fault::{SyntaxError, SyntaxFault, SyntaxFaultOrMemory};
+pub use laws::valuation_laws;
 pub use read::{control, expression, primary, target};
 pub use reader::MOST_OPEN;
 pub use spelling::suffix_of;

@@ -1,7 +1,8 @@
-//! What no clause says: that the calls succeed with ample memory, and what they answer then.
+//! What no clause says: that the calls succeed with ample memory, and what they answer then. States of whole programs are made by
+//! `store_bench`, whose output is compared.
 use crate::{Store, SymbolKind};
-use gms_ast::{Act, Decl, DeclKind, Named, Program, Sequence, Stmt};
-use gms_labels::{Labels, Place};
+use gms_ast::{DeclKind, Named};
+use gms_labels::Place;
 use gms_tuple::Tuple;
 use gq_extended::Ext;
 use gq_field::{ExactField, Half};
@@ -21,38 +22,6 @@ const MANY: u32 = 20;
 
 fn named(name: u32) -> Named {
     Named { at: AT, name }
-}
-
-/// `set a;` as a program of twelve names.
-fn program(alloc: Global) -> Result<Program<Half>, Fail> {
-    let mut names = Labels::new(alloc);
-    for name in ["a", "b", "c", "d", "e", "f", "g", "h", "i", "j", "k", "l"] {
-        names.enter(alloc, name)?;
-    }
-    Ok(Program {
-        names,
-        labels: Labels::new(alloc),
-        statements: vec![in alloc;
-            Stmt {
-                at: AT,
-                act: set(alloc)?
-            },
-        ]?,
-    })
-}
-
-/// `set a;` as what a statement does.
-fn set(alloc: Global) -> Result<Act<Half>, AllocError> {
-    Ok(Act::Declare {
-        kind: DeclKind::Set,
-        items: Sequence::new(vec![in alloc;
-            Decl {
-                named: named(A),
-                domain: Sequence::new(Vec::new(alloc)),
-                items: Sequence::new(Vec::new(alloc)),
-            },
-        ]?),
-    })
 }
 
 /// A state of two names, of which the first is declared over any labels.
@@ -102,15 +71,6 @@ fn put_levels(alloc: Global, store: &mut Store<Half>, v: Half) -> Result<(), All
         store.put_level(alloc, A, &t, v)?;
         store.put_marginal(alloc, A, &t, v)?;
     }
-    Ok(())
-}
-
-#[test]
-fn the_state_of_a_program(rt: HostRuntime) -> Result<(), Fail> {
-    let alloc = rt.alloc();
-    let store = Store::new(alloc, &program(alloc)?)?;
-    assert!(rt; store.kind_of(A) == SymbolKind::Set);
-    assert!(rt; store.kind_of(11) == SymbolKind::Undeclared);
     Ok(())
 }
 
@@ -178,8 +138,7 @@ fn names_declared_one_by_one(rt: HostRuntime) -> Result<(), Fail> {
     store.declare(alloc, DeclKind::Positive, &[], 11)?;
     assert!(rt; !store.is_free(11));
     assert_eq!(rt; store.domain_of(11).len(), 1);
-    store.declare_act(alloc, &set(alloc)?)?;
-    assert!(rt; store.kind_of(A) == SymbolKind::Set);
+    assert!(rt; store.kind_of(11) == SymbolKind::Variable);
     Ok(())
 }
 

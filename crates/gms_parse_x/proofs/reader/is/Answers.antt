@@ -4,11 +4,6 @@ use Rattle.gms_grammar.specs.declared.terminal.Terminal.{Terminal}
 use Rattle.gms_grammar.specs.declared.terminal.Terminal.TheVariants.{Abort}
 use Rattle.gms_grammar.specs.contracts.terminal.Terminal.{the_type}
 use Rattle.gms_grammar.specs.Terminals.{number_of}
-use Rattle.gms_parse_x.proofs.Chains.{chain_got}
-use Rattle.gms_parse_x.proofs.Doors.{read_of}
-use Rattle.gms_parse_x.proofs.Signs.{handed_on}
-use Rattle.gms_parse_x.proofs.Entering.{name_got}
-use Rattle.gms_parse_x.proofs.Made.{made_with}
 use Rattle.gms_parse_x.proofs.reader.is.Goals as goal
 
 tag-number_of : (kind : Terminal) → tag_of the_type kind ≡ number_of kind

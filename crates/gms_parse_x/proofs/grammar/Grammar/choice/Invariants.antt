@@ -1,7 +1,7 @@
-use Rattle.std.proofs.Common.{length, ◌-◌, [], ◌∷◌}
+use Rattle.std.proofs.Common.{length, ◌-◌}
 use Rattle.gms_ast.specs.Trees.{one_of}
-use Rattle.gms_grammar.specs.Grammar.{the, ◌·◌, opt}
-use Rattle.gms_grammar.specs.GamsGrammar.{Expression, Conjunction, Negation, Comparison, Sum, Product, PowerTerm, Guarded, token, any_of}
+use Rattle.gms_grammar.specs.Grammar.{the, ◌·◌}
+use Rattle.gms_grammar.specs.GamsGrammar.{Expression, Conjunction, token}
 use Rattle.gms_grammar.specs.declared.terminal.Terminal.TheVariants.{Or}
 use Rattle.gms_parse_x.specs.ExpressionTrees.{expression, choices}
 use Rattle.gms_parse_x.specs.Nodes.{chosen_views}

@@ -1,22 +1,21 @@
-use Rattle.std.proofs.Common.{◌≡◌, ◌∷◌, [], ◌++◌, false, codes, refl, sym, ap, ap₂, ◌∙◌, arith}
+use Rattle.std.proofs.Common.{◌∷◌, [], refl, sym, ap, ◌∙◌}
 use Rattle.std.proofs.lemmas.Slice.{pushed}
-use Rattle.gms_parse_x.specs.ExpressionTrees.{is_word, relation_of, place_in, conjunction, negation, sum_of, product_of, signed_power, signed_guarded, relations}
-use Rattle.gms_ast.specs.Trees.{plain, placed, signed, related, chosen, part, relation}
+use Rattle.gms_parse_x.specs.ExpressionTrees.{relation_of, sum_of, relations}
+use Rattle.gms_ast.specs.Trees.{related, part, relation}
 use Rattle.gms_ast.specs.TreeView.{tree_of}
 use Rattle.gms_ast.specs.declared.expression.RelOp.TheVariants.{Eq}
 use Rattle.gms_ast.proofs.TreeEquations.{tree_of-Relate}
-use Rattle.gms_grammar.specs.Grammar.{the, ◌·◌, opt}
-use Rattle.gms_grammar.specs.GamsGrammar.{Expression, Conjunction, Negation, Comparison, Sum, Product, PowerTerm, Guarded, token, any_of}
+use Rattle.gms_grammar.specs.Grammar.{the}
+use Rattle.gms_grammar.specs.GamsGrammar.{Comparison, Sum}
 use Rattle.gms_grammar.specs.declared.terminal.Terminal.TheVariants.{Relation, RelationWord, Equals}
 use Rattle.gms_ast.specs.Numbers.{in_numbers}
 use Rattle.gms_parse_x.specs.Nodes.{related_views, view}
 use Rattle.gms_parse_x.proofs.Made.{numbers_in_parts, views_push}
-use Rattle.gms_parse_x.proofs.Signs.{handed_on, signed_refuses}
-use Rattle.gms_parse_x.proofs.Steps.{refuses_the, refuses_first, refuses_second, refuses_memory}
-use Rattle.gms_parse_x.proofs.Sums.{sum_first}
+use Rattle.gms_parse_x.proofs.Signs.{handed_on}
+use Rattle.gms_parse_x.proofs.Steps.{refuses_the, refuses_first, refuses_memory}
 use Rattle.gms_parse_x.proofs.Nexts.{unled_next, falls}
-use Rattle.gms_parse_x.proofs.Chains.{chain_first, chain_alone, chain_start, chain_on, chain_got, chain_refuses, place_read, in_sense}
-use Rattle.gms_grammar.specs.Terminals.{is, is_among}
+use Rattle.gms_parse_x.proofs.Chains.{chain_first, chain_alone, chain_start, chain_on, chain_got, chain_refuses, in_sense}
+use Rattle.gms_grammar.specs.Terminals.{is_among}
 use Rattle.gms_parse_x.specs.Readings.{seen_from}
 use Rattle.gms_parse_x.proofs.Grows.{some_led, none_led}
 use Rattle.gms_parse_x.proofs.grammar.Grammar.comparison.Goals as goal

@@ -1,7 +1,7 @@
 use Rattle.std.proofs.Common.{length, ◌-◌, [], ◌∷◌}
 use Rattle.gms_ast.specs.Trees.{relation}
-use Rattle.gms_grammar.specs.Grammar.{the, ◌·◌, opt}
-use Rattle.gms_grammar.specs.GamsGrammar.{Expression, Conjunction, Negation, Comparison, Sum, Product, PowerTerm, Guarded, token, any_of}
+use Rattle.gms_grammar.specs.Grammar.{the, ◌·◌}
+use Rattle.gms_grammar.specs.GamsGrammar.{Comparison, Sum, any_of}
 use Rattle.gms_grammar.specs.declared.terminal.Terminal.TheVariants.{Relation, RelationWord, Equals}
 use Rattle.gms_parse_x.specs.ExpressionTrees.{comparison, relations}
 use Rattle.gms_parse_x.specs.Nodes.{related_views}

@@ -1,5 +1,5 @@
-use Rattle.std.proofs.Common.{◌≡◌, refl, sym, ap, ◌∙◌, arith}
-use Rattle.gms_grammar.specs.GamsGrammar.{Control, Condition}
+use Rattle.std.proofs.Common.{refl, sym, ap, ◌∙◌, arith}
+use Rattle.gms_grammar.specs.GamsGrammar.{Control}
 use Rattle.gms_ast.specs.Trees.{over, over_where}
 use Rattle.gms_parse_x.specs.Nodes.{view}
 use Rattle.gms_ast.specs.Numbers.{control_in_numbers}

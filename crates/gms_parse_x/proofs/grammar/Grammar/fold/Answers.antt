@@ -1,8 +1,7 @@
-use Rattle.std.proofs.Common.{◌≡◌, ◌+◌, refl, sym, ap, ◌∙◌}
+use Rattle.std.proofs.Common.{◌+◌, refl, ap, ◌∙◌}
 use Rattle.gms_grammar.specs.Grammar.{the, ◌·◌}
 use Rattle.gms_grammar.specs.GamsGrammar.{Fold, Control, Expression, token}
 use Rattle.gms_grammar.specs.declared.terminal.Terminal.TheVariants.{Comma}
-use Rattle.gms_grammar.specs.Terminals.{is}
 use Rattle.gms_parse_x.specs.ExpressionTrees.{fold_op_of}
 use Rattle.gms_parse_x.specs.Readings.{IsControl}
 use Rattle.gms_parse_x.proofs.Signs.{handed_on}

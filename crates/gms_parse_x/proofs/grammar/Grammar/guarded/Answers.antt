@@ -1,7 +1,7 @@
-use Rattle.std.proofs.Common.{◌≡◌, [], ◌∷◌, refl, sym, ap, ◌∙◌}
+use Rattle.std.proofs.Common.{refl, sym, ap, ◌∙◌}
 use Rattle.gms_grammar.specs.GamsGrammar.{Guarded, Condition}
 use Rattle.gms_ast.specs.Trees.{plain, guarded}
-use Rattle.gms_parse_x.specs.Nodes.{view, plain_views}
+use Rattle.gms_parse_x.specs.Nodes.{view}
 use Rattle.gms_parse_x.specs.ExpressionTrees.{condition_in}
 use Rattle.gms_parse_x.proofs.Signs.{handed_on, got_the, got_behind}
 use Rattle.gms_parse_x.proofs.Steps.{refuses_the, refuses_first, refuses_second, refuses_memory}

@@ -1,7 +1,7 @@
-use Rattle.std.proofs.Common.{length, ◌-◌, [], ◌∷◌}
+use Rattle.std.proofs.Common.{length, ◌-◌}
 use Rattle.gms_ast.specs.Trees.{power}
 use Rattle.gms_grammar.specs.Grammar.{the, ◌·◌, opt}
-use Rattle.gms_grammar.specs.GamsGrammar.{Expression, Conjunction, Negation, Comparison, Sum, Product, PowerTerm, Guarded, token, any_of}
+use Rattle.gms_grammar.specs.GamsGrammar.{PowerTerm, Guarded, token}
 use Rattle.gms_grammar.specs.declared.terminal.Terminal.TheVariants.{Power, Sign}
 use Rattle.gms_parse_x.specs.ExpressionTrees.{power_of, exponents}
 use Rattle.gms_parse_x.specs.Nodes.{placed_views}

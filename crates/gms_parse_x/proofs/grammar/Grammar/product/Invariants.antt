@@ -1,7 +1,7 @@
 use Rattle.std.proofs.Common.{length, ◌-◌, [], ◌∷◌}
 use Rattle.gms_ast.specs.Trees.{product}
 use Rattle.gms_grammar.specs.Grammar.{the, ◌·◌, opt}
-use Rattle.gms_grammar.specs.GamsGrammar.{Expression, Conjunction, Negation, Comparison, Sum, Product, PowerTerm, Guarded, token, any_of}
+use Rattle.gms_grammar.specs.GamsGrammar.{Product, PowerTerm, token, any_of}
 use Rattle.gms_grammar.specs.declared.terminal.Terminal.TheVariants.{Star, Slash, Sign}
 use Rattle.gms_parse_x.specs.ExpressionTrees.{product_of, factors}
 use Rattle.gms_parse_x.specs.Nodes.{signed_views}

@@ -1,4 +1,4 @@
-use Rattle.std.proofs.Common.{◌≡◌, ◌+◌, codes, if◌then◌else◌, refl, sym, ap, ◌∙◌}
+use Rattle.std.proofs.Common.{codes, if◌then◌else◌, refl, sym, ap, ◌∙◌}
 use Rattle.gms_ast.specs.Trees.{place_in_set, size_of_set}
 use Rattle.gms_grammar.specs.GamsGrammar.{name}
 use Rattle.gms_parse_x.specs.ExpressionTrees.{is_word}

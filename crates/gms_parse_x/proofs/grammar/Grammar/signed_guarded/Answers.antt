@@ -1,9 +1,7 @@
 use Rattle.std.proofs.Common.{refl}
-use Rattle.gms_grammar.specs.GamsGrammar.{Negation, Condition}
-use Rattle.gms_parse_x.specs.ExpressionTrees.{negation_in, negated_primary, condition_in, signed_power, signed_guarded}
-use Rattle.gms_parse_x.proofs.Signs.{handed_on, signed_got, negated_got, signed_refuses, negated_refuses, got_the, got_behind}
-use Rattle.gms_parse_x.proofs.Steps.{refuses_the, refuses_first, refuses_second, refuses_memory}
-use Rattle.gms_parse_x.proofs.Nexts.{gives_next, refuses_lacking}
+use Rattle.gms_parse_x.specs.ExpressionTrees.{signed_guarded}
+use Rattle.gms_parse_x.proofs.Signs.{handed_on, signed_got, signed_refuses}
+use Rattle.gms_parse_x.proofs.Steps.{refuses_memory}
 use Rattle.gms_parse_x.proofs.grammar.Grammar.signed_guarded.Goals as goal
 
 pub returns-in_err-operand : goal.returns-in_err-operand

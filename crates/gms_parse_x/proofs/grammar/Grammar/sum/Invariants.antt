@@ -1,7 +1,7 @@
-use Rattle.std.proofs.Common.{length, ◌-◌, [], ◌∷◌}
+use Rattle.std.proofs.Common.{length, ◌-◌}
 use Rattle.gms_ast.specs.Trees.{sum}
-use Rattle.gms_grammar.specs.Grammar.{the, ◌·◌, opt}
-use Rattle.gms_grammar.specs.GamsGrammar.{Expression, Conjunction, Negation, Comparison, Sum, Product, PowerTerm, Guarded, token, any_of}
+use Rattle.gms_grammar.specs.Grammar.{the, ◌·◌}
+use Rattle.gms_grammar.specs.GamsGrammar.{Sum, Product, token}
 use Rattle.gms_grammar.specs.declared.terminal.Terminal.TheVariants.{Sign}
 use Rattle.gms_parse_x.specs.ExpressionTrees.{sum_of, terms}
 use Rattle.gms_parse_x.specs.Nodes.{signed_views}

@@ -1,4 +1,4 @@
-use Rattle.std.proofs.Common.{refl, ap}
+use Rattle.std.proofs.Common.{ap}
 use Rattle.gms_grammar.specs.GamsGrammar.{Target}
 use Rattle.gms_parse_x.proofs.Signs.{handed_on}
 use Rattle.gms_parse_x.proofs.Steps.{refuses_the, refuses_first, refuses_second}

@@ -1,5 +1,4 @@
 use Rattle.std.proofs.Common.{refl, sym, ap, ◌∙◌}
-use Rattle.gms_ast.specs.declared.expression.Expr.{Number}
 use Rattle.gms_grammar.specs.declared.terminal.Terminal.TheVariants.{Infinity, NotAvailable, YesNo}
 use Rattle.gms_lex.specs.TokenTexts.{token_text}
 use Rattle.gms_parse_x.specs.Nodes.{view}

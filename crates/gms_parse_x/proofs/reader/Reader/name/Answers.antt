@@ -1,8 +1,7 @@
-use Rattle.std.proofs.Common.{◌≡◌, Err, refl, sym, ap, ◌∙◌, subst}
+use Rattle.std.proofs.Common.{Err, refl, sym, ap, ◌∙◌, subst}
 use Rattle.std.proofs.lemmas.Str.{IsUtf8-from_ascii}
 use Rattle.std.specs.Str.{IsUtf8}
 use Rattle.gms_labels.specs.declared.fault.LabelFault.{LabelFault}
-use Rattle.gms_parse_x.specs.ExpressionTrees.{unquoted}
 use Rattle.gms_parse_x.proofs.Signs.{handed_on}
 use Rattle.gms_parse_x.proofs.Nexts.{refuses_lacking}
 use Rattle.gms_parse_x.proofs.Spelled.{name_spelled}

@@ -1,11 +1,10 @@
-use Rattle.std.proofs.Common.{◌≡◌, [], ◌∷◌, refl, arith}
+use Rattle.std.proofs.Common.{[], ◌∷◌, refl}
 use Rattle.std.proofs.lemmas.Slice.{pushed}
 use Rattle.gms_grammar.specs.GamsGrammar.{NameList}
 use Rattle.gms_parse_x.proofs.Signs.{handed_on}
 use Rattle.gms_parse_x.proofs.Steps.{refuses_the, refuses_first, refuses_memory}
 use Rattle.gms_parse_x.proofs.Nexts.{falls}
 use Rattle.gms_parse_x.proofs.Lists.{names_start, names_on, names_got, names_refuses}
-use Rattle.gms_parse_x.proofs.Eithers.{refuses_or}
 use Rattle.gms_parse_x.proofs.reader.Reader.names.Goals as goal
 
 pub returns-in_err-first : goal.returns-in_err-first

@@ -1,4 +1,4 @@
-use Rattle.std.proofs.Common.{◌≡◌, [], ◌∷◌, refl, sym, ap, ◌∙◌}
+use Rattle.std.proofs.Common.{[], ◌∷◌, sym, ◌∙◌}
 use Rattle.std.proofs.lemmas.Slice.{pushed}
 use Rattle.gms_grammar.specs.Grammar.{the, ◌·◌, right}
 use Rattle.gms_grammar.specs.Terminals.{is}
@@ -6,7 +6,7 @@ use Rattle.gms_grammar.specs.declared.terminal.Terminal.TheVariants.{LeftParen, 
 use Rattle.gms_grammar.specs.GamsGrammar.{NameList, token, name, bracketed}
 use Rattle.gms_parse_x.specs.Readings.{AreNames, AreSets, seen_from}
 use Rattle.gms_parse_x.proofs.Signs.{handed_on}
-use Rattle.gms_parse_x.proofs.Steps.{refuses_right, refuses_memory}
+use Rattle.gms_parse_x.proofs.Steps.{refuses_right}
 use Rattle.gms_parse_x.proofs.Nexts.{refuses_unopened, refuses_inside, unled_next}
 use Rattle.gms_parse_x.proofs.Grows.{none_led, some_led}
 use Rattle.gms_parse_x.proofs.Eithers.{refuses_either}
