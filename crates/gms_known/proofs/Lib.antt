@@ -1,0 +1,7 @@
+mod Ways
+mod Orders
+mod Empties
+mod Belows
+mod Listed
+mod Ascents
+mod Assigned

@@ -1,0 +1,17 @@
+use Rattle.std.proofs.Common.{◌∙◌, ap, sym, map}
+use Rattle.std.specs.Prelude.{flat_map}
+use Rattle.gms_known.specs.Facts.{with_marks}
+use Rattle.gms_store.specs.State.{base_of}
+use Rattle.gms_known.specs.DynamicSets.{assigned}
+use Rattle.gms_known.proofs.Assigned.{assigned-Loop, marks-step}
+use Rattle.gms_known.proofs.dynamic.+assigned.Goals as goal
+
+pub mark_assigned-loop-statement-preserved : goal.mark_assigned-loop-statement-preserved
+mark_assigned-loop-statement-preserved g t c =
+    marks-step (base_of c.args.store.now) assigned c.args.statements.now c.loop-statement.statement-index c.statement-item.result _ _ _ c.loop-statement-test.true c.statement-item.is c.loop-statement.invariant c.mark_statement.ensures
+
+pub mark_statement-returns-in-Loop : goal.mark_statement-returns-in-Loop
+mark_statement-returns-in-Loop g t c =
+    c.mark_assigned.ensures
+    ∙ ap (λ statements. with_marks c.args.marks.now (map (base_of c.args.store.now) (flat_map assigned statements))) c.deref.ensures.value
+    ∙ ap (λ names. with_marks c.args.marks.now (map (base_of c.args.store.now) names)) (sym (assigned-Loop c.args.statement.now c.in-Loop.control c.in-Loop.body c.in-Loop.is))

@@ -1,0 +1,9 @@
+pub mod Below
+pub mod Data
+pub mod DynamicSets
+pub mod Entries
+pub mod Facts
+pub mod Kept
+pub mod Models
+pub mod Names
+pub mod Order

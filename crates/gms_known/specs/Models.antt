@@ -1,0 +1,64 @@
+-- How the models that are declared are kept.
+use Rattle.std.specs.Prelude.{◌≡◌, ◌<◌, ◌≤◌, ℕ, suc, zero, Bool, true, false, ◌==◌, List, [], ◌∷◌, length, map, take, slice_index_or, if◌then◌else◌}
+use Rattle.std.specs.List.{list_any}
+use Rattle.gms_known.specs.declared.model.Equations.{Equations}
+use Rattle.gms_known.specs.declared.model.Equations.TheVariants.{All, Listed}
+use Rattle.gms_known.specs.declared.model.Model.{Model}
+use Rattle.gms_known.specs.declared.model.Models.{Models}
+use Rattle.gms_known.specs.Facts.{is_missing}
+use Rattle.gms_known.specs.Order.{order_of}
+
+-- the equations of a model, where these are all that are declared
+abbrev pub equations_within : List ℕ → Equations → List ℕ
+equations_within declared (All count) = take count declared
+equations_within declared (Listed equations) = equations.items
+
+-- the names of models
+abbrev pub model_names : List Model → List ℕ
+model_names models = map (λ (model : Model). model.name) models
+
+-- the model at a place; past the last one a model without equations
+abbrev pub model_at : List Model → ℕ → Model
+model_at models place = slice_index_or models place (record { name = 0; equations = All 0; defined = 0 })
+
+-- a model with another count of defined equations
+abbrev pub recounted : Model → ℕ → Model
+recounted model count = record { name = model.name; equations = model.equations; defined = count }
+
+-- the models with their equations, where these are all that are declared
+abbrev pub models_within : List ℕ → List Model → List (ℕ × List ℕ)
+models_within declared models = map (λ (model : Model). (model.name, equations_within declared model.equations)) models
+
+-- the models with their equations
+abbrev pub models_in : Models → List (ℕ × List ℕ)
+models_in models = models_within models.equations.items models.models.items
+
+-- so many equations are there
+abbrev pub AreThere : List ℕ → Equations → Type 0
+AreThere declared (All count) = count ≤ length declared
+AreThere declared (Listed equations) = Unit {0}
+
+-- each model's equations are there
+abbrev pub AreAllThere : List ℕ → List Model → Type 0
+AreAllThere declared [] = Unit {0}
+AreAllThere declared (model ∷ models) = AreThere declared model.equations × AreAllThere declared models
+
+-- each name's first place is kept, and models are of equations that are there
+pub record IsListed (models : Models) : Type 0 where
+  pub places : (name : ℕ) → slice_index_or models.places.items name 0 ≡ order_of (model_names models.models.items) name
+  pub there : AreAllThere models.equations.items models.models.items
+
+-- the first equations of a model, as many as it says, are not missing
+pub record IsCountedModel (defined : List Bool) (declared : List ℕ) (model : Model) : Type 0 where
+  pub most : model.defined ≤ length (equations_within declared model.equations)
+  pub known : list_any (is_missing defined) (take model.defined (equations_within declared model.equations)) ≡ false
+
+-- the same of each model
+abbrev pub AreCounted : List Bool → List ℕ → List Model → Type 0
+AreCounted defined declared [] = Unit {0}
+AreCounted defined declared (model ∷ models) =
+    IsCountedModel defined declared model × AreCounted defined declared models
+
+-- the same of all models
+abbrev pub IsCounted : List Bool → Models → Type 0
+IsCounted defined models = AreCounted defined models.equations.items models.models.items

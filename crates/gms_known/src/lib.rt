@@ -1,0 +1,14 @@
+//! What is known before a statement of a program: what the statements before it declare, define and give.
+#![tactic(auto)]
+
+mod data;
+mod dynamic;
+mod known;
+mod marks;
+mod model;
+mod order;
+#[cfg(test)]
+mod tests;
+
+pub use data::{Data, are_ascending, positions, put_data};
+pub use known::Known;
