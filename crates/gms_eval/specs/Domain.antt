@@ -1,0 +1,34 @@
+-- The domain of a fold, a loop or an assignment: the elements of the product of its sets whose condition holds (GAMS User's Guide,
+-- "Data Manipulations with Parameters", indexed operations; "Conditional Expressions, Assignments and Equations", dollar control).
+-- How large a product may be is this project's own rule.
+use Rattle.std.specs.Prelude.{ℕ, nat_lt, nat_le, min, Bool, List, [], ◌∷◌, length, map, Ok, Err, if◌then◌else◌}
+use Rattle.gms_labels.specs.declared.place.Place.{Place}
+use Rattle.gms_tuple.specs.Products.{product}
+use Rattle.gms_store.specs.State.{State, members_of}
+use Rattle.gms_eval.specs.Bindings.{Pairs}
+use Rattle.gms_eval.specs.Faults.{Answer, Fault, nothing, ◌and_then◌}
+use Rattle.gms_eval.specs.Lag.{label_in}
+use Rattle.gms_eval.specs.declared.stop.StopKind.TheVariants.{DomainSize}
+
+-- the labels of a set of one dimension
+abbrev pub labels_of : State → ℕ → List ℕ
+labels_of state set = map label_in (members_of state set)
+
+-- the elements of the product of sets; an element has at most 10 labels, so more sets have none
+abbrev pub elements : State → List ℕ → List (List ℕ)
+elements state sets = if nat_le (length sets) 10 then product (map (labels_of state) sets) else []
+
+-- the fault of so many elements, whose count is the greatest number of a `u64` where they pass it
+abbrev pub too_large : Place → Pairs → ℕ → Fault
+too_large at binding count =
+    record { kind = DomainSize; at = at; binding = binding; left = nothing; right = nothing; count = min count 18446744073709551615 }
+
+-- a product of more than 16,777,216 elements is a fault
+abbrev pub sized : Place → Pairs → List (List ℕ) → Answer (List (List ℕ))
+sized at binding those = if nat_lt 16777216 (length those) then Err (too_large at binding (length those)) else Ok those
+
+-- the elements for which a test holds, in their order, or the first fault of a test
+abbrev pub those_where : (List ℕ → Answer Bool) → List (List ℕ) → Answer (List (List ℕ))
+those_where test [] = Ok []
+those_where test (element ∷ rest) =
+    test element and_then λ holds. those_where test rest and_then λ others. Ok (if holds then element ∷ others else others)

@@ -1,0 +1,29 @@
+-- What a call answers, as what the definitions give.
+use Rattle.std.specs.Prelude.{◌≡◌, ℕ, Result, Ok, Err}
+use Rattle.gq_number.specs.Number.{Number}
+use Rattle.gq_extended.specs.Meaning.{extended}
+use Rattle.gms_eval.specs.declared.stop.ExecStop.{ExecStop}
+use Rattle.gms_eval.specs.declared.stop.StopOrMemory.{StopOrMemory}
+use Rattle.gms_eval.specs.declared.stop.StopOrMemory.TheVariants.{Memory, Stop}
+use Rattle.gms_eval.specs.Faults.{Fault, Answer}
+
+module _ {F : Type 0} (number_of : F → Number) where
+  -- the fault that a stop shows
+  abbrev pub fault_of : ExecStop F → Fault
+  fault_of stop =
+      record { kind = stop.kind; at = stop.at; binding = stop.binding; left = extended number_of stop.left; right = extended number_of stop.right; count = stop.count }
+
+  -- a stop shows this fault; want of memory says nothing of it
+  abbrev pub Shows : StopOrMemory F → Fault → Type 0
+  Shows Memory fault = Unit {0}
+  Shows (Stop stop) fault = fault ≡ fault_of stop
+
+  -- the answer is exactly the fault of a stop; want of memory says nothing of it
+  abbrev pub Stops : {A : Type 0} → StopOrMemory F → Answer A → Type 0
+  Stops Memory answer = Unit {0}
+  Stops (Stop stop) answer = answer ≡ Err (fault_of stop)
+
+  -- the answer is what the result shows: its value, or exactly its fault
+  abbrev pub Gives : {A R : Type 0} → (R → A) → Result R (StopOrMemory F) → Answer A → Type 0
+  Gives shown (Ok x) answer = answer ≡ Ok (shown x)
+  Gives shown (Err stop) answer = Stops stop answer

@@ -1,0 +1,12 @@
+-- When a condition holds (GAMS User's Guide, "Conditional Expressions, Assignments and Equations").
+use Rattle.std.specs.Prelude.{ℕ, Bool}
+use Rattle.gq_number.specs.Number.{Number}
+use Rattle.gms_ast.specs.Trees.{Tree}
+use Rattle.gms_store.specs.State.{State}
+use Rattle.gms_eval.specs.Bindings.{Pairs}
+use Rattle.gms_eval.specs.Faults.{Answer}
+use Rattle.gms_eval.specs.Value.{value, when_so}
+
+-- a condition holds where its value is not the number 0
+abbrev pub holds : {F : Type 0} → (F → Number) → ℕ → State → Pairs → Tree F → Answer Bool
+holds number_of limit state binding condition = when_so (value number_of limit state binding condition)

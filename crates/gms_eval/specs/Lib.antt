@@ -1,0 +1,11 @@
+pub mod Answers
+pub mod Bindings
+pub mod Domain
+pub mod Faults
+pub mod Gives
+pub mod Holds
+pub mod Lag
+pub mod References
+pub mod Steps
+pub mod Value
+pub mod Walks

@@ -1,0 +1,409 @@
+//! The value of an expression, when a condition holds, and the elements of a domain.
+ghost use Rattle.std.specs.Prelude.{◌≡◌, map, Ok, IfOk};
+ghost use Rattle.gq_extended.specs.Meaning.{extended};
+ghost use Rattle.gms_ast.specs.TreeView.{tree_of, control_tree};
+ghost use Rattle.gms_ast.specs.Trees.{plain, signed, placed, related, chosen};
+ghost use Rattle.gms_eval.specs.Answers.{chain, power_step, relation_step, all_step, one_step, in_order, each_holds, folded};
+ghost use Rattle.gms_eval.specs.Bindings.{controlled};
+ghost use Rattle.gms_eval.specs.Domain.{those_where};
+ghost use Rattle.gms_eval.specs.Faults.{◌and_then◌};
+ghost use Rattle.gms_eval.specs.Gives.{Gives};
+ghost use Rattle.gms_eval.specs.Holds.{holds};
+ghost use Rattle.gms_eval.specs.References.{tuple_of};
+ghost use Rattle.gms_eval.specs.Steps.{signed_step};
+ghost use Rattle.gms_eval.specs.Value.{value, domain};
+ghost use Rattle.gms_eval.specs.Walks.{those_of, IsCounted, label_answer};
+
+use crate::binding::Binding;
+use crate::elements::{Elements, all, keep, size};
+use crate::functions::called;
+use crate::indices::{place_in_set, reached, with_label};
+use crate::references::entry_of;
+use crate::steps::{
+    Signed, all_part, counted, fold_part, is_left_by_and, is_left_by_or, is_so, one_part,
+    power_part, related_part, signed_part, start, truth, zero,
+};
+use crate::stop::{StopKind, StopOrMemory};
+use gms_ast::{Control, Expr, FoldOp, Index, RelOp};
+use gms_labels::Place;
+use gms_store::Store;
+use gms_tuple::Tuple;
+use gq_extended::Ext;
+use gq_field::ExactField;
+use std::alloc::Global;
+
+/// The value of an expression in a state, where its controlled sets stand for the labels of a binding.
+///
+/// A stop is the first fault: parts are taken from the left to the right, guards from the last to the first and before
+/// their operand, all amounts of the lags of a reference before what it reads, and a fold's domain before its bodies. An
+/// operand that decides nothing is not taken: the right one of `and` where the left is 0, that of `or` where it is not,
+/// and one under a guard that is 0. The kinds are `Limit`, `Divide`, `LagNotWhole`, `EmptyExtreme`, `Exponent`,
+/// `DomainSize` and `Undefined`. GAMS User's Guide, "Data Manipulations with Parameters", "Conditional Expressions,
+/// Assignments and Equations".
+///
+/// A name that the program does not have reads as one of which nothing is given, a set that stands for no label as an
+/// index without an element; a checked program has none of these.
+#[cycle(value)]
+pub fn value<F: ExactField>(
+    alloc: Global,
+    store: &Store<F>,
+    e: &Expr<F>,
+    b: &Binding,
+) -> Result<Ext<F>, StopOrMemory<F>>
+    ensures { Gives F.value (extended F.value) result (value F.value F.limit store.now b.now (tree_of e.now)) }
+{
+    match e {
+        Expr::Number(number) => Ok(Ext::Number(*number)),
+        Expr::PlusInf => Ok(Ext::PlusInf),
+        Expr::Na => Ok(Ext::Na),
+        Expr::Yes => Ok(truth(true)),
+        Expr::No => Ok(truth(false)),
+        Expr::Ref {
+            at,
+            name,
+            suffix,
+            indices,
+        } => {
+            let tuple = tuple_of(alloc, store, indices, b)?;
+            entry_of(alloc, store, *at, *name, *suffix, tuple, b)
+        }
+        Expr::Ord { at, set } => counted(alloc, *at, place_in_set(alloc, store, *set, b)?, b),
+        Expr::Card { at, set } => counted(alloc, *at, store.members(*set).len(), b),
+        Expr::Call { at, function, args } => {
+            let args = arguments(alloc, store, args, b)?;
+            called(alloc, *at, *function, args.as_slice(), b)
+        }
+        Expr::Fold {
+            at,
+            op,
+            control,
+            body,
+        } => {
+            let those = elements_of(alloc, store, control, *at, b)?;
+            folded(
+                alloc,
+                store,
+                *op,
+                *at,
+                control.sets.as_slice(),
+                &those,
+                body,
+                b,
+            )
+        }
+        Expr::Neg(operand) => Ok(value(alloc, store, operand, b)?.neg()),
+        Expr::Plus(parts) => signed_chain(alloc, store, Signed::Sum, parts, b),
+        Expr::Times(parts) => signed_chain(alloc, store, Signed::Product, parts, b),
+        Expr::Power(parts) => powers(alloc, store, parts, b),
+        Expr::Relate(parts) => relations(alloc, store, parts, b),
+        Expr::Not(operand) => Ok(truth(!is_so(value(alloc, store, operand, b)?))),
+        Expr::And(parts) => all_of(alloc, store, parts, b),
+        Expr::Or(parts) => one_of(alloc, store, parts, b),
+        Expr::Guard { operand, guards } => {
+            if all_hold(alloc, store, guards, b)? {
+                value(alloc, store, operand, b)
+            } else {
+                Ok(zero())
+            }
+        }
+    }
+}
+
+/// The value of a sum or a product.
+#[cycle(value)]
+fn signed_chain<F: ExactField>(
+    alloc: Global,
+    store: &Store<F>,
+    kind: Signed,
+    parts: &[(Place, bool, Expr<F>)],
+    b: &Binding,
+) -> Result<Ext<F>, StopOrMemory<F>>
+    ensures { Gives F.value (extended F.value) result (chain (signed_step F.limit b.now kind)
+        (map (λ part. (signed part.0 part.1, value F.value F.limit store.now b.now (tree_of part.2))) parts.now)) }
+{
+    let mut so_far = None;
+    for (at, inverse, part) in parts {
+        let y = value(alloc, store, part, b)?;
+        so_far = Some(signed_part(alloc, kind, *at, *inverse, so_far, y, b)?);
+    }
+    Ok(so_far.unwrap_or(zero()))
+}
+
+/// The value of a power.
+#[cycle(value)]
+fn powers<F: ExactField>(
+    alloc: Global,
+    store: &Store<F>,
+    parts: &[(Place, Expr<F>)],
+    b: &Binding,
+) -> Result<Ext<F>, StopOrMemory<F>>
+    ensures { Gives F.value (extended F.value) result (chain (power_step F.limit b.now)
+        (map (λ part. (placed part.0, value F.value F.limit store.now b.now (tree_of part.1))) parts.now)) }
+{
+    let mut so_far = None;
+    for (at, part) in parts {
+        let y = value(alloc, store, part, b)?;
+        so_far = Some(power_part(alloc, *at, so_far, y, b)?);
+    }
+    Ok(so_far.unwrap_or(zero()))
+}
+
+/// The value of relations, 1 or 0.
+#[cycle(value)]
+fn relations<F: ExactField>(
+    alloc: Global,
+    store: &Store<F>,
+    parts: &[(RelOp, Expr<F>)],
+    b: &Binding,
+) -> Result<Ext<F>, StopOrMemory<F>>
+    ensures { Gives F.value (extended F.value) result (chain relation_step
+        (map (λ part. (related part.0, value F.value F.limit store.now b.now (tree_of part.1))) parts.now)) }
+{
+    let mut so_far = None;
+    for (op, part) in parts {
+        let y = value(alloc, store, part, b)?;
+        so_far = Some(related_part(*op, so_far, y));
+    }
+    Ok(so_far.unwrap_or(zero()))
+}
+
+/// 1 where each part holds, and else 0: no part behind one that does not hold is taken.
+#[cycle(value)]
+fn all_of<F: ExactField>(
+    alloc: Global,
+    store: &Store<F>,
+    parts: &[Expr<F>],
+    b: &Binding,
+) -> Result<Ext<F>, StopOrMemory<F>>
+    ensures { Gives F.value (extended F.value) result (chain all_step
+        (map (λ part. (plain, value F.value F.limit store.now b.now (tree_of part))) parts.now)) }
+{
+    let mut so_far = None;
+    for part in parts {
+        if is_left_by_and(so_far) {
+            so_far = Some(zero());
+            continue;
+        }
+        let y = value(alloc, store, part, b)?;
+        so_far = Some(all_part(so_far, y));
+    }
+    Ok(so_far.unwrap_or(zero()))
+}
+
+/// The value of a choice, 1 or 0: a part joined by `or` is not taken where what stands before it holds.
+#[cycle(value)]
+fn one_of<F: ExactField>(
+    alloc: Global,
+    store: &Store<F>,
+    parts: &[(bool, Expr<F>)],
+    b: &Binding,
+) -> Result<Ext<F>, StopOrMemory<F>>
+    ensures { Gives F.value (extended F.value) result (chain one_step
+        (map (λ part. (chosen part.0, value F.value F.limit store.now b.now (tree_of part.1))) parts.now)) }
+{
+    let mut so_far = None;
+    for (exclusive, part) in parts {
+        if is_left_by_or(*exclusive, so_far) {
+            so_far = Some(truth(true));
+            continue;
+        }
+        let y = value(alloc, store, part, b)?;
+        so_far = Some(one_part(*exclusive, so_far, y));
+    }
+    Ok(so_far.unwrap_or(zero()))
+}
+
+/// Whether each guard holds: they are taken from the last to the first, up to one that does not hold.
+#[cycle(value)]
+fn all_hold<F: ExactField>(
+    alloc: Global,
+    store: &Store<F>,
+    guards: &[Expr<F>],
+    b: &Binding,
+) -> Result<bool, StopOrMemory<F>>
+    ensures { Gives F.value (λ hold. hold) result
+        (each_holds (map (λ guard. value F.value F.limit store.now b.now (tree_of guard)) guards.now)) }
+{
+    for place in (0..guards.len()).rev() {
+        let guard = value(alloc, store, &guards[place], b)?;
+        if !is_so(guard) {
+            return Ok(false);
+        }
+    }
+    Ok(true)
+}
+
+/// The values of arguments, in order.
+#[cycle(value)]
+fn arguments<F: ExactField>(
+    alloc: Global,
+    store: &Store<F>,
+    args: &[Expr<F>],
+    b: &Binding,
+) -> Result<Vec<Ext<F>>, StopOrMemory<F>>
+    ensures { Gives F.value (λ values. map (extended F.value) values.items) result
+        (in_order (map (λ arg. value F.value F.limit store.now b.now (tree_of arg)) args.now)) }
+{
+    let mut values = Vec::new(alloc);
+    for arg in args {
+        values.push(value(alloc, store, arg, b)?)?;
+    }
+    Ok(values)
+}
+
+/// The tuple of indices, where each has a label and they are at most 10.
+#[cycle(value)]
+fn tuple_of<F: ExactField>(
+    alloc: Global,
+    store: &Store<F>,
+    indices: &[Index<F>],
+    b: &Binding,
+) -> Result<Option<Tuple>, StopOrMemory<F>>
+    ensures { Gives F.value (λ tuple. tuple) result (in_order
+        (map (λ index. label_answer F.value F.limit store.now b.now index) indices.now) and_then λ those. Ok (tuple_of those)) }
+{
+    let mut tuple = Some(Tuple::new(alloc));
+    for index in indices {
+        let label = label_of(alloc, store, index, b)?;
+        tuple = with_label(alloc, tuple, label)?;
+    }
+    Ok(tuple)
+}
+
+/// The label of an index, where there is one: that of its set, or the one that its lag reaches.
+#[cycle(value)]
+fn label_of<F: ExactField>(
+    alloc: Global,
+    store: &Store<F>,
+    index: &Index<F>,
+    b: &Binding,
+) -> Result<Option<u32>, StopOrMemory<F>>
+    ensures { Gives F.value (λ label. label) result (label_answer F.value F.limit store.now b.now index.now) }
+{
+    match index {
+        Index::Label(label) => Ok(Some(*label)),
+        Index::Set { name, lag } => match lag {
+            None => Ok(b.label(*name)),
+            Some((op, at, amount)) => {
+                let amount = value(alloc, store, amount, b)?;
+                reached(alloc, store, *name, *op, *at, amount, b)
+            }
+        },
+    }
+}
+
+/// The elements of a control, in order.
+#[cycle(value)]
+fn elements_of<F: ExactField>(
+    alloc: Global,
+    store: &Store<F>,
+    control: &Control<F>,
+    at: Place,
+    b: &Binding,
+) -> Result<Elements, StopOrMemory<F>>
+    ensures value { Gives F.value (those_of store.now control.now.sets) result
+        (domain F.value F.limit store.now b.now at (control_tree control.now)) }
+    ensures counted { IfOk result (IsCounted store.now control.now.sets) }
+{
+    let sets = control.sets.as_slice();
+    let size = size(alloc, store, sets, at, b)?;
+    match &control.condition {
+        Some(condition) => {
+            let among = Elements::Every(size);
+            let those = chosen(alloc, store, sets, &among, condition, b)?;
+            Ok(Elements::Those(those))
+        }
+        None => Ok(Elements::Every(size)),
+    }
+}
+
+/// Those of some elements for which a condition holds, in order.
+#[cycle(value)]
+fn chosen<F: ExactField>(
+    alloc: Global,
+    store: &Store<F>,
+    sets: &[u32],
+    among: &Elements,
+    condition: &Expr<F>,
+    b: &Binding,
+) -> Result<Vec<Tuple>, StopOrMemory<F>>
+    requires { IsCounted store.now sets.now among.now }
+    ensures { Gives F.value (λ those. those.items) result
+        (those_where (λ element. holds F.value F.limit store.now (controlled b.now sets.now element) (tree_of condition.now)) (those_of store.now sets.now among.now)) }
+{
+    let mut those = Vec::new(alloc);
+    let mut inner = b.copy(alloc)?;
+    for number in 0..among.count(store, sets) {
+        let element = among.element(alloc, store, sets, number)?;
+        inner.control(b.len(), sets, element.as_slice())?;
+        let value = value(alloc, store, condition, &inner)?;
+        keep(&mut those, element, is_so(value))?;
+    }
+    Ok(those)
+}
+
+/// The values of a fold's bodies joined one after another.
+#[cycle(value)]
+fn folded<F: ExactField>(
+    alloc: Global,
+    store: &Store<F>,
+    op: FoldOp,
+    at: Place,
+    sets: &[u32],
+    those: &Elements,
+    body: &Expr<F>,
+    b: &Binding,
+) -> Result<Ext<F>, StopOrMemory<F>>
+    requires { IsCounted store.now sets.now those.now }
+    ensures { Gives F.value (extended F.value) result (folded F.limit b.now op at
+        (map (λ element. (plain, value F.value F.limit store.now (controlled b.now sets.now element) (tree_of body.now))) (those_of store.now sets.now those.now))) }
+{
+    let mut so_far = start(op);
+    let mut inner = b.copy(alloc)?;
+    for number in 0..those.count(store, sets) {
+        let element = those.element(alloc, store, sets, number)?;
+        inner.control(b.len(), sets, element.as_slice())?;
+        let y = value(alloc, store, body, &inner)?;
+        so_far = Some(fold_part(alloc, op, at, so_far, y, b)?);
+    }
+    match so_far {
+        Some(value) => Ok(value),
+        None => Err(StopOrMemory::at_step(alloc, StopKind::EmptyExtreme, at, zero(), zero(), b)),
+    }
+}
+
+/// Whether a condition holds in a state, under a binding: where its value is not the number 0.
+///
+/// A stop is the first fault of its value. GAMS User's Guide, "Conditional Expressions, Assignments and Equations".
+pub fn holds<F: ExactField>(
+    alloc: Global,
+    store: &Store<F>,
+    e: &Expr<F>,
+    b: &Binding,
+) -> Result<bool, StopOrMemory<F>>
+    ensures { Gives F.value (λ holds. holds) result (holds F.value F.limit store.now b.now (tree_of e.now)) }
+{
+    Ok(is_so(value(alloc, store, e, b)?))
+}
+
+/// The elements of a control in a state, under a binding: those of the product of its sets whose condition holds, in the
+/// order of tuples.
+///
+/// A stop is `DomainSize` at `at`, with their number as its count, where the product has more than 16,777,216 elements,
+/// and else the first fault of the conditions, each under the binding with its element. GAMS User's Guide, "Data
+/// Manipulations with Parameters", "Conditional Expressions, Assignments and Equations".
+pub fn domain<F: ExactField>(
+    alloc: Global,
+    store: &Store<F>,
+    c: &Control<F>,
+    at: Place,
+    b: &Binding,
+) -> Result<Vec<Tuple>, StopOrMemory<F>>
+    ensures { Gives F.value (λ those. those.items) result
+        (domain F.value F.limit store.now b.now at (control_tree c.now)) }
+{
+    match elements_of(alloc, store, c, at, b)? {
+        Elements::Every(size) => Ok(all(alloc, store, c.sets.as_slice(), size)?),
+        Elements::Those(those) => Ok(those),
+    }
+}

@@ -1,0 +1,216 @@
+//! Why an execution stops, and where.
+ghost use Rattle.std.specs.Prelude.{◌≡◌};
+ghost use Rattle.gq_extended.specs.Meaning.{extended, outcome};
+ghost use Rattle.gms_eval.specs.Faults.{stop_code, stop_name, kind_of_step, faulted, nothing, taken};
+ghost use Rattle.gms_eval.specs.Gives.{Gives, Shows};
+ghost use Rattle.gms_eval.specs.declared.stop.StopKind.TheVariants.{DomainSize};
+ghost use Rattle.gms_eval.specs.declared.stop.StopOrMemory.TheVariants.{Memory};
+
+use crate::binding::Binding;
+use crate::steps::zero;
+use gms_labels::Place;
+use gq_extended::{Ext, ExtendedFault};
+use gq_field::ExactField;
+use std::alloc::{AllocError, AllocFailed, Global};
+use thiserror::Error;
+
+/// Why an execution stops. GAMS User's Guide, "GAMS Output", execution errors.
+#[derive(Clone, Copy, Debug, PartialEq, Eq, Error)]
+pub enum StopKind {
+    /// A number does not fit under the limit.
+    #[error("a number passes the limit of the numbers")]
+    Limit,
+    /// A division by 0, or 0 to a power below 0.
+    #[error("division by zero")]
+    Divide,
+    /// The amount of a lag is no whole number.
+    #[error("the amount of a lag is no whole number")]
+    LagNotWhole,
+    /// The least or the greatest of no values.
+    #[error("the least or the greatest of no values")]
+    EmptyExtreme,
+    /// An exponent that is no whole number, or is above 1,024 in magnitude.
+    #[error("an exponent that is not whole, or above 1,024 in magnitude")]
+    Exponent,
+    /// The product of the sets of a domain has more than 16,777,216 elements.
+    #[error("a domain of more than 16,777,216 elements")]
+    DomainSize,
+    /// A linear program has too many rows.
+    #[error("a linear program of too many rows")]
+    TooManyRows,
+    /// A linear program has too many columns.
+    #[error("a linear program of too many columns")]
+    TooManyColumns,
+    /// A solve without a solver.
+    #[error("there is no solver")]
+    NoSolver,
+    /// An `abort`.
+    #[error("the program aborts")]
+    Aborted,
+    /// A step that has no meaning, as an infinity less itself.
+    #[error("a step that has no meaning")]
+    Undefined,
+}
+
+impl StopKind {
+    /// The number of the kind.
+    pub fn code(self) -> u8
+        ensures { result ≡ stop_code self }
+    {
+        match self {
+            StopKind::Limit => 1,
+            StopKind::Divide => 2,
+            StopKind::LagNotWhole => 3,
+            StopKind::EmptyExtreme => 4,
+            StopKind::Exponent => 5,
+            StopKind::DomainSize => 7,
+            StopKind::TooManyRows => 8,
+            StopKind::TooManyColumns => 9,
+            StopKind::NoSolver => 10,
+            StopKind::Aborted => 11,
+            StopKind::Undefined => 12,
+        }
+    }
+
+    /// The name of the kind.
+    pub fn name(self) -> &'static str
+        ensures { result.now ≡ stop_name self }
+    {
+        match self {
+            StopKind::Limit => "Limit",
+            StopKind::Divide => "Divide",
+            StopKind::LagNotWhole => "LagNotWhole",
+            StopKind::EmptyExtreme => "EmptyExtreme",
+            StopKind::Exponent => "Exponent",
+            StopKind::DomainSize => "DomainSize",
+            StopKind::TooManyRows => "TooManyRows",
+            StopKind::TooManyColumns => "TooManyColumns",
+            StopKind::NoSolver => "NoSolver",
+            StopKind::Aborted => "Aborted",
+            StopKind::Undefined => "Undefined",
+        }
+    }
+
+    /// The kind of the fault of a step on extended numbers.
+    fn of_step(fault: ExtendedFault) -> StopKind
+        ensures { result ≡ kind_of_step fault }
+    {
+        match fault {
+            ExtendedFault::Limit => StopKind::Limit,
+            ExtendedFault::Divide => StopKind::Divide,
+            ExtendedFault::Undefined => StopKind::Undefined,
+            ExtendedFault::Exponent => StopKind::Exponent,
+        }
+    }
+}
+
+/// A stop: its kind and its place, and what is known of the step there.
+#[derive(Drop)]
+pub struct ExecStop<F> {
+    /// Why the execution stops.
+    pub kind: StopKind,
+    /// Where the step stands: one of two operands at the right one, another at its own first character.
+    pub at: Place,
+    /// The labels under which the step is taken.
+    pub binding: Binding,
+    /// The left operand of the step, or the amount of a lag; 0 where there is none.
+    pub left: Ext<F>,
+    /// The right operand of the step, 0 where there is none.
+    pub right: Ext<F>,
+    /// How many elements, rows or columns there are too many of, or the greatest number of a `u64` where they pass it; 0
+    /// for the other kinds.
+    pub count: u64,
+}
+
+/// A stop, or want of memory.
+#[derive(Drop)]
+pub enum StopOrMemory<F> {
+    /// A growth found no memory.
+    Memory,
+    /// The execution stops so.
+    Stop(ExecStop<F>),
+}
+
+impl<F> From<AllocError> for StopOrMemory<F> {
+    ghost from_gives = { λ _ stop. stop ≡ Memory };
+
+    fn from(_error: AllocError) -> StopOrMemory<F> {
+        StopOrMemory::Memory
+    }
+}
+
+impl<F, T: Drop> From<AllocFailed<T>> for StopOrMemory<F> {
+    ghost from_gives = { λ _ stop. stop ≡ Memory };
+
+    fn from(_error: AllocFailed<T>) -> StopOrMemory<F> {
+        StopOrMemory::Memory
+    }
+}
+
+impl<F: ExactField> StopOrMemory<F> {
+    /// The stop of a step.
+    pub(crate) fn at_step(
+        alloc: Global,
+        kind: StopKind,
+        at: Place,
+        left: Ext<F>,
+        right: Ext<F>,
+        b: &Binding,
+    ) -> StopOrMemory<F>
+        ensures { Shows F.value result (faulted kind at b.now (extended F.value left) (extended F.value right)) }
+    {
+        match b.copy(alloc) {
+            Ok(binding) => StopOrMemory::Stop(ExecStop {
+                kind,
+                at,
+                binding,
+                left,
+                right,
+                count: 0,
+            }),
+            Err(_) => StopOrMemory::Memory,
+        }
+    }
+
+    /// The stop of a domain whose product has so many elements.
+    pub(crate) fn too_large(alloc: Global, at: Place, count: u64, b: &Binding) -> StopOrMemory<F>
+        ensures { Shows F.value result (record { kind = DomainSize; at = at; binding = b.now; left = nothing; right = nothing; count = count }) }
+    {
+        match b.copy(alloc) {
+            Ok(binding) => StopOrMemory::Stop(ExecStop {
+                kind: StopKind::DomainSize,
+                at,
+                binding,
+                left: zero(),
+                right: zero(),
+                count,
+            }),
+            Err(_) => StopOrMemory::Memory,
+        }
+    }
+}
+
+/// The value of a step on two operands, or its stop.
+pub(crate) fn taken<F: ExactField>(
+    alloc: Global,
+    at: Place,
+    left: Ext<F>,
+    right: Ext<F>,
+    answer: Result<Ext<F>, ExtendedFault>,
+    b: &Binding,
+) -> Result<Ext<F>, StopOrMemory<F>>
+    ensures { Gives F.value (extended F.value) result
+        (taken at b.now (extended F.value left) (extended F.value right) (outcome F.value answer)) }
+{
+    match answer {
+        Ok(value) => Ok(value),
+        Err(fault) => Err(StopOrMemory::at_step(
+            alloc,
+            StopKind::of_step(fault),
+            at,
+            left,
+            right,
+            b,
+        )),
+    }
+}
