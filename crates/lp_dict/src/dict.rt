@@ -336,7 +336,9 @@ impl<F: ExactField> Dict<F> {
     /// is `Interrupted`, in phase 2. The error is want of memory.
     pub fn done(&self, alloc: Global, enter: Option<u32>) -> Result<Final<F>, AllocError>
         requires { IsDone (dictionary F.value self.now) enter }
-        ensures { IfOk result (IsReadFrom F.value (dictionary F.value self.now)) }
+        ensures read { IfOk result (IsReadFrom F.value (dictionary F.value self.now)) }
+        ensures kind { IfOk result (λ final. EndsBy (dictionary F.value self.now) enter final.kind) }
+        ensures ray { IfOk result (λ final. RayIs (dictionary F.value self.now) enter (map F.value final.ray)) }
     {
         let values = self.values(alloc)?;
         let costs = self.costs(alloc)?;
