@@ -1,0 +1,5 @@
+use Rattle.lp_bland.proofs.Unique as unique
+use Rattle.lp_bland.proofs.laws.one_answer.Goals as goal
+
+pub returns : goal.returns
+returns g c lp iterlim a b formed one two = unique.one_answer g.F.ExactField.value g.met.F.ExactField.same_value g.F.ExactField.limit lp iterlim a b formed one two

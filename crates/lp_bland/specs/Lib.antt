@@ -1,0 +1,5 @@
+pub mod Walks
+pub mod Ends
+pub mod Numbers
+pub mod Narrowing
+pub mod Name

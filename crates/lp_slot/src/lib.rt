@@ -1,0 +1,7 @@
+//! The slot for a solver: what each solver of linear programs tells of itself, and what it answers.
+#![tactic(auto)]
+
+mod solver;
+
+pub use lp_core::Rule;
+pub use solver::LpSolver;

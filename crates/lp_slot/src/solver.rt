@@ -1,0 +1,61 @@
+//! A solver of linear programs, as a run sees it.
+ghost use Rattle.std.specs.Prelude.{◌≡◌, ◌-◌, ◌^◌, ◌∷◌, ◌++◌, ℕ, List, [], IfOk, OnErr};
+ghost use Rattle.gq_frac.specs.Frac.{frac_value};
+ghost use Rattle.lp_core.specs.declared.answer.Pivot.{Pivot};
+ghost use Rattle.lp_core.specs.declared.answer.Rule.{Rule};
+ghost use Rattle.lp_core.specs.Answers.{IsAnswer};
+ghost use Rattle.lp_core.specs.WellFormed.{IsWellFormed};
+ghost use Rattle.lp_slot.specs.SolverNames.{IsSolverName};
+
+use gq_frac::Frac;
+use lp_core::{Answer, Lp, Pivot, Rule, Sequence};
+use std::alloc::{AllocError, Global};
+
+/// A solver of linear programs over exact numbers.
+///
+/// It tells its name, by which a source chooses it, the rule by which it takes pivots, and the pivots of each answer that it
+/// has given. Only the last of these changes.
+pub trait LpSolver: Drop {
+    /// The name by which a source chooses the solver.
+    ghost name: { Self → List ℕ };
+
+    /// Which pivots the solver takes.
+    ghost rule: { Self → Rule };
+
+    /// The pivots of each answer that the solver has given, in order.
+    ghost paths: { Self → List (List Pivot) };
+
+    /// The name by which a source chooses the solver.
+    fn name(&self) -> &str
+        ensures { result.now ≡ name self.now };
+
+    /// Which pivots the solver takes.
+    fn rule(&self) -> Rule
+        ensures { result ≡ rule self.now };
+
+    /// The pivots of each answer that the solver has given, in order.
+    fn paths(&self) -> &[Sequence<Pivot>]
+        ensures { result.now ≡ paths self.now };
+
+    /// An answer of a program, found by at most `iterlim` pivots that the solver's rule allows, as in Chvatal, Linear
+    /// Programming, chapters 2, 3 and 8.
+    ///
+    /// Optimal, Infeasible and Unbounded come with what proves them; Interrupted comes after exactly `iterlim` pivots where a
+    /// further one is due; Refused comes with the first step that does not fit under the limit of the numbers. The pivots are
+    /// put behind the paths as one list. The error is want of memory, and after it the solver is as before.
+    fn solve(
+        &mut self,
+        alloc: Global,
+        lp: &Lp<Frac>,
+        iterlim: u64,
+    ) -> Result<Answer<Frac>, AllocError>
+        requires { IsWellFormed frac_value lp.now }
+        ensures answers { IfOk result (IsAnswer frac_value (2 ^ 127 - 1) lp.now iterlim (rule self.old)) }
+        ensures paths { IfOk result (λ answer. paths self.new ≡ paths self.old ++ answer.pivots ∷ []) }
+        ensures name { name self.new ≡ name self.old }
+        ensures rule { rule self.new ≡ rule self.old }
+        ensures unchanged { OnErr result (self.new ≡ self.old) };
+
+    /// The name is of the form that a source can write.
+    ghost named: { (s : Self) → IsSolverName (name s) };
+}
