@@ -14,7 +14,7 @@ use lp_form::Key;
 use lp_slot::LpSolver;
 use std::alloc::{AllocError, Global};
 use std::marker::Model;
-use std::test::Fail;
+use std::process::Abort;
 
 /// A fraction by its parts.
 type Parts = (i128, u128);
@@ -64,63 +64,62 @@ fn key(alloc: Global, symbol: u32) -> Key {
 
 /// The row of this symbol.
 fn row<F: ExactField>(
+    rt: &impl Abort,
     alloc: Global,
     symbol: u32,
     (sense, right, given): &Given,
-) -> Result<Row<F>, AllocError> {
+) -> Row<F> {
     let mut entries = Vec::new(alloc);
     for (column, parts) in *given {
-        entries.push((*column, number(*parts)))?;
+        entries.push((*column, number(*parts))).expect(rt, "memory");
     }
-    Ok(Row {
+    Row {
         key: key(alloc, symbol),
         sense: *sense,
         right: number(*right),
         entries: Sequence::new(entries),
-    })
+    }
 }
 
 /// The program with these columns and rows and this column as its objective.
 fn program<F: ExactField>(
+    rt: &impl Abort,
     alloc: Global,
     bounds: &[Bounds],
     given: &[Given],
-    objective: u32,
-    maximize: bool,
-) -> Result<Lp<F>, AllocError> {
+    (objective, maximize): (u32, bool),
+) -> Lp<F> {
     let mut symbol: u32 = 0;
     let mut columns = Vec::new(alloc);
     for (lower, upper) in bounds {
-        columns.push(Column {
+        let column = Column {
             key: key(alloc, symbol),
             lower: bound(*lower),
             upper: bound(*upper),
-        })?;
+        };
+        columns.push(column).expect(rt, "memory");
         symbol = symbol.saturating_add(1);
     }
     let mut rows = Vec::new(alloc);
     for given in given {
-        rows.push(row(alloc, symbol, given)?)?;
+        rows.push(row(rt, alloc, symbol, given))
+            .expect(rt, "memory");
         symbol = symbol.saturating_add(1);
     }
-    Ok(Lp {
+    Lp {
         columns: Sequence::new(columns),
         rows: Sequence::new(rows),
         objective,
         maximize,
-    })
+    }
 }
 
-/// The answer of a program, if that is well formed.
-fn solved<F: ExactField>(
-    alloc: Global,
-    lp: &Lp<F>,
-    iterlim: u64,
-) -> Result<Option<Answer<F>>, AllocError> {
-    if !well_formed(lp) {
-        return Ok(None);
+/// The answer of a program, which has to be well formed.
+fn solved<F: ExactField>(rt: &impl Abort, alloc: Global, lp: Lp<F>, iterlim: u64) -> Answer<F> {
+    if !well_formed(&lp) {
+        panic!(rt; "not well formed");
     }
-    Ok(Some(solve_in(alloc, lp, iterlim)?))
+    solve_in(alloc, &lp, iterlim).expect(rt, "memory")
 }
 
 /// Whether the pivots are these.
@@ -149,9 +148,9 @@ fn are<F: ExactField>(numbers: &Sequence<F>, wanted: &[Parts]) -> bool {
     true
 }
 
-/// Whether the answer is an optimum with these levels, row levels, duals and reduced costs.
-fn is_optimum<F: ExactField>(answer: &Answer<F>, [x, sums, y, d]: [&[Parts]; 4]) -> bool {
-    match &answer.end {
+/// Whether the end is an optimum with these levels, row levels, duals and reduced costs.
+fn is_best<F: ExactField>(end: &End<F>, [x, sums, y, d]: [&[Parts]; 4]) -> bool {
+    match end {
         End::Optimal {
             levels,
             row_levels,
@@ -162,31 +161,67 @@ fn is_optimum<F: ExactField>(answer: &Answer<F>, [x, sums, y, d]: [&[Parts]; 4])
     }
 }
 
-/// Whether the answer is refused with this step after these pivots.
-fn stops<F: ExactField>(
-    answer: &Option<Answer<F>>,
+/// Whether the answer is such an optimum after these pivots.
+fn is_optimum<F: ExactField>(
+    answer: Answer<F>,
     pivots: &[(u32, u32)],
-    wanted: StepName,
+    lists: [&[Parts]; 4],
 ) -> bool {
-    let Some(answer) = answer else {
-        return false;
-    };
+    took(&answer.pivots, pivots) && is_best(&answer.end, lists)
+}
+
+/// Whether the answer is such an optimum after so many pivots.
+fn is_optimum_after<F: ExactField>(answer: Answer<F>, pivots: usize, lists: [&[Parts]; 4]) -> bool {
+    answer.pivots.len() == pivots && is_best(&answer.end, lists)
+}
+
+/// Whether the answer is that no point is feasible, by this combination of rows, after these pivots.
+fn is_infeasible<F: ExactField>(answer: Answer<F>, pivots: &[(u32, u32)], y: &[Parts]) -> bool {
     match &answer.end {
-        End::Refused { step } => took(&answer.pivots, pivots) && *step == wanted,
+        End::Infeasible {
+            duals,
+            crossed: None,
+        } => took(&answer.pivots, pivots) && are(duals, y),
+        _ => false,
+    }
+}
+
+/// Whether the answer is that the bounds of this column cross, before any pivot, with a 0 for each of so many rows.
+fn is_crossed<F: ExactField>(answer: Answer<F>, column: u32, rows: usize) -> bool {
+    match &answer.end {
+        End::Infeasible {
+            duals,
+            crossed: Some(j),
+        } => {
+            let zeros = duals.as_slice().iter().all(|dual| dual.is_zero());
+            answer.pivots.is_empty() && *j == column && duals.len() == rows && zeros
+        }
+        _ => false,
+    }
+}
+
+/// Whether the answer has these pivots and is unbounded from this point along this ray.
+fn goes_on<F: ExactField>(
+    answer: Answer<F>,
+    pivots: &[(u32, u32)],
+    x: &[Parts],
+    along: &[Parts],
+) -> bool {
+    match &answer.end {
+        End::Unbounded { levels, ray, .. } => {
+            took(&answer.pivots, pivots) && are(levels, x) && are(ray, along)
+        }
         _ => false,
     }
 }
 
 /// Whether the answer is interrupted in this phase after these pivots, at these levels and sums of rows.
 fn is_interrupted<F: ExactField>(
-    answer: &Option<Answer<F>>,
+    answer: Answer<F>,
     pivots: &[(u32, u32)],
     wanted: u8,
     [x, sums]: [&[Parts]; 2],
 ) -> bool {
-    let Some(answer) = answer else {
-        return false;
-    };
     match &answer.end {
         End::Interrupted {
             phase,
@@ -200,8 +235,16 @@ fn is_interrupted<F: ExactField>(
     }
 }
 
+/// Whether the answer is refused with this step after these pivots.
+fn stops<F: ExactField>(answer: Answer<F>, pivots: &[(u32, u32)], wanted: StepName) -> bool {
+    match &answer.end {
+        End::Refused { step } => took(&answer.pivots, pivots) && *step == wanted,
+        _ => false,
+    }
+}
+
 /// Two plants and three markets: x from each to each, and z, which is to be least. The costs are thousandths.
-fn transport<F: ExactField>(alloc: Global) -> Result<Lp<F>, AllocError> {
+fn transport<F: ExactField>(rt: &impl Abort, alloc: Global) -> Lp<F> {
     let one = whole(1);
     let costs = [
         (0, (-225, 1000)),
@@ -213,6 +256,7 @@ fn transport<F: ExactField>(alloc: Global) -> Result<Lp<F>, AllocError> {
         (6, one),
     ];
     program(
+        rt,
         alloc,
         &[
             POSITIVE, POSITIVE, POSITIVE, POSITIVE, POSITIVE, POSITIVE, FREE,
@@ -225,8 +269,7 @@ fn transport<F: ExactField>(alloc: Global) -> Result<Lp<F>, AllocError> {
             (Sense::G, whole(300), &[(1, one), (4, one)]),
             (Sense::G, whole(275), &[(2, one), (5, one)]),
         ],
-        6,
-        false,
+        (6, false),
     )
 }
 
@@ -243,7 +286,7 @@ const TRANSPORTED: [(u32, u32); 8] = [
 ];
 
 /// Whether this is the optimum of the transport program.
-fn is_transported<F: ExactField>(answer: &Answer<F>) -> bool {
+fn is_transported<F: ExactField>(answer: Answer<F>) -> bool {
     let levels = [
         whole(50),
         whole(300),
@@ -278,28 +321,31 @@ fn is_transported<F: ExactField>(answer: &Answer<F>) -> bool {
         whole(0),
         whole(0),
     ];
-    took(&answer.pivots, &TRANSPORTED)
-        && is_optimum(answer, [&levels, &row_levels, &duals, &reduced])
+    is_optimum(
+        answer,
+        &TRANSPORTED,
+        [&levels, &row_levels, &duals, &reduced],
+    )
+}
+
+/// The answer with its numbers over 127 bits.
+fn widened(rt: &impl Abort, alloc: Global, answer: Answer<Half>) -> Answer<Frac> {
+    widen_answer(alloc, &answer).expect(rt, "memory")
 }
 
 #[test]
-fn transport_over_both_widths(rt: HostRuntime) -> Result<(), Fail> {
+fn transport_over_both_widths(rt: HostRuntime) {
     let alloc = rt.alloc();
-    let Some(answer) = solved(alloc, &transport::<Half>(alloc)?, 1000)? else {
-        panic!(rt; "not well formed");
-    };
-    assert!(rt; is_transported(&answer));
-    assert!(rt; is_transported(&widen_answer(alloc, &answer)?));
-    let Some(answer) = solved(alloc, &transport::<Frac>(alloc)?, 8)? else {
-        panic!(rt; "not well formed");
-    };
-    assert!(rt; is_transported(&answer));
-    Ok(())
+    assert!(rt; is_transported(solved::<Half>(&rt, alloc, transport(&rt, alloc), 1000)));
+    assert!(rt; is_transported(solved::<Frac>(&rt, alloc, transport(&rt, alloc), 8)));
+    let answer = solved(&rt, alloc, transport(&rt, alloc), 1000);
+    assert!(rt; is_transported(widened(&rt, alloc, answer)));
 }
 
 /// x at most 1 and at least 2, z = x, z to be least.
-fn without_points<F: ExactField>(alloc: Global) -> Result<Lp<F>, AllocError> {
+fn without_points<F: ExactField>(rt: &impl Abort, alloc: Global) -> Lp<F> {
     program(
+        rt,
         alloc,
         &[FREE, FREE],
         &[
@@ -307,143 +353,121 @@ fn without_points<F: ExactField>(alloc: Global) -> Result<Lp<F>, AllocError> {
             (Sense::G, whole(2), &[(0, whole(1))]),
             (Sense::E, whole(0), &[(0, whole(-1)), (1, whole(1))]),
         ],
-        1,
-        false,
+        (1, false),
     )
 }
 
 #[test]
-fn no_point_is_feasible(rt: HostRuntime) -> Result<(), Fail> {
+fn no_point_is_feasible(rt: HostRuntime) {
     let alloc = rt.alloc();
-    let lp = without_points::<Half>(alloc)?;
     // three pivots are enough
-    let Some(answer) = solved(alloc, &lp, 3)? else {
-        panic!(rt; "not well formed");
-    };
-    assert!(rt; took(&answer.pivots, &[(0, 6), (1, 8), (3, 5)]));
-    match &answer.end {
-        End::Infeasible {
-            duals,
-            crossed: None,
-        } => assert!(rt; are(duals, &[(-1, 2), (1, 2), (0, 1)])),
-        _ => assert!(rt; false),
-    }
+    let answer = solved::<Half>(&rt, alloc, without_points(&rt, alloc), 3);
+    let combination = [(-1, 2), (1, 2), (0, 1)];
+    assert!(rt; is_infeasible(answer, &[(0, 6), (1, 8), (3, 5)], &combination));
     // and two are not, in phase 1
-    let nothing: [&[Parts]; 2] = [&[], &[]];
-    assert!(rt; is_interrupted(&solved(alloc, &lp, 2)?, &[(0, 6), (1, 8)], 1, nothing));
-    assert!(rt; is_interrupted(&solved(alloc, &lp, 0)?, &[], 1, nothing));
-    Ok(())
+    let answer = solved::<Half>(&rt, alloc, without_points(&rt, alloc), 2);
+    assert!(rt; is_interrupted(answer, &[(0, 6), (1, 8)], 1, [&[], &[]]));
+    let answer = solved::<Half>(&rt, alloc, without_points(&rt, alloc), 0);
+    assert!(rt; is_interrupted(answer, &[], 1, [&[], &[]]));
 }
 
-/// x at most 4, where a bound is given, and z = x, z to be greatest.
-fn capped<F: ExactField>(alloc: Global, bounds: Bounds, most: Parts) -> Result<Lp<F>, AllocError> {
+/// x at most this, within its bounds, and z = x, z to be greatest.
+fn capped<F: ExactField>(rt: &impl Abort, alloc: Global, bounds: Bounds, most: Parts) -> Lp<F> {
     program(
+        rt,
         alloc,
         &[bounds, FREE],
         &[
             (Sense::L, most, &[(0, whole(1))]),
             (Sense::E, whole(0), &[(0, whole(-1)), (1, whole(1))]),
         ],
-        1,
-        true,
+        (1, true),
     )
 }
 
 #[test]
-fn limits_of_pivots(rt: HostRuntime) -> Result<(), Fail> {
+fn limits_of_pivots(rt: HostRuntime) {
     let alloc = rt.alloc();
-    let lp = capped::<Frac>(alloc, POSITIVE, whole(4))?;
-    let origin: [&[Parts]; 2] = [&[(0, 1), (0, 1)], &[(0, 1), (0, 1)]];
-    assert!(rt; is_interrupted(&solved(alloc, &lp, 0)?, &[], 2, origin));
-    assert!(rt; is_interrupted(&solved(alloc, &lp, 1)?, &[(2, 5)], 2, origin));
-    let Some(answer) = solved(alloc, &lp, 2)? else {
-        panic!(rt; "not well formed");
-    };
+    let origin: [Parts; 2] = [(0, 1), (0, 1)];
+    let answer = solved::<Frac>(&rt, alloc, capped(&rt, alloc, POSITIVE, whole(4)), 0);
+    assert!(rt; is_interrupted(answer, &[], 2, [&origin, &origin]));
+    let answer = solved::<Frac>(&rt, alloc, capped(&rt, alloc, POSITIVE, whole(4)), 1);
+    assert!(rt; is_interrupted(answer, &[(2, 5)], 2, [&origin, &origin]));
+    let answer = solved::<Frac>(&rt, alloc, capped(&rt, alloc, POSITIVE, whole(4)), 2);
     let fours: [Parts; 2] = [(4, 1), (4, 1)];
-    let optimum: [&[Parts]; 4] = [
-        &fours,
-        &[(4, 1), (0, 1)],
-        &[(1, 1), (1, 1)],
-        &[(0, 1), (0, 1)],
-    ];
-    assert!(rt; took(&answer.pivots, &[(2, 5), (1, 4)]) && is_optimum(&answer, optimum));
+    let ones: [Parts; 2] = [(1, 1), (1, 1)];
+    let optimum: [&[Parts]; 4] = [&fours, &[(4, 1), (0, 1)], &ones, &origin];
+    assert!(rt; is_optimum(answer, &[(2, 5), (1, 4)], optimum));
+}
+
+#[test]
+fn broken_off_at_a_point(rt: HostRuntime) {
+    let alloc = rt.alloc();
     // z at most x, x at least 1: the walk is broken off where both are 1
     let lp = program::<Frac>(
+        &rt,
         alloc,
         &[(Some((1, 1)), None), FREE],
         &[
             (Sense::L, whole(4), &[(0, whole(1))]),
             (Sense::L, whole(0), &[(0, whole(-1)), (1, whole(1))]),
         ],
-        1,
-        true,
-    )?;
+        (1, true),
+    );
     let ones: [&[Parts]; 2] = [&[(1, 1), (1, 1)], &[(1, 1), (0, 1)]];
-    assert!(rt; is_interrupted(&solved(alloc, &lp, 1)?, &[(2, 5)], 2, ones));
-    Ok(())
+    assert!(rt; is_interrupted(solved(&rt, alloc, lp, 1), &[(2, 5)], 2, ones));
 }
 
 #[test]
-fn nothing_improves_at_the_start(rt: HostRuntime) -> Result<(), Fail> {
+fn nothing_improves_at_the_start(rt: HostRuntime) {
     let alloc = rt.alloc();
     // x at most 4, z at least 0 and to be least
     let given: [Given; 1] = [(Sense::L, whole(4), &[(0, whole(1))])];
-    let lp = program::<Half>(alloc, &[POSITIVE, POSITIVE], &given, 1, false)?;
-    let Some(answer) = solved(alloc, &lp, 0)? else {
-        panic!(rt; "not well formed");
-    };
+    let lp = program::<Half>(&rt, alloc, &[POSITIVE, POSITIVE], &given, (1, false));
     let optimum: [&[Parts]; 4] = [&[(0, 1), (0, 1)], &[(0, 1)], &[(0, 1)], &[(0, 1), (1, 1)]];
-    assert!(rt; answer.pivots.is_empty() && is_optimum(&answer, optimum));
-    Ok(())
+    assert!(rt; is_optimum(solved(&rt, alloc, lp, 0), &[], optimum));
 }
 
 /// z = x, or z at most x, z to be greatest.
-fn without_end<F: ExactField>(alloc: Global, x: Bounds, sense: Sense) -> Result<Lp<F>, AllocError> {
+fn without_end<F: ExactField>(rt: &impl Abort, alloc: Global, x: Bounds, sense: Sense) -> Lp<F> {
     program(
+        rt,
         alloc,
         &[x, FREE],
         &[(sense, whole(0), &[(0, whole(-1)), (1, whole(1))])],
-        1,
-        true,
+        (1, true),
     )
 }
 
-/// Whether the answer has these pivots and is unbounded from this point along this ray.
-fn goes_on<F: ExactField>(
-    answer: &Answer<F>,
-    pivots: &[(u32, u32)],
-    x: &[Parts],
-    along: &[Parts],
-) -> bool {
-    match &answer.end {
-        End::Unbounded { levels, ray, .. } => {
-            took(&answer.pivots, pivots) && are(levels, x) && are(ray, along)
-        }
-        _ => false,
-    }
-}
-
 #[test]
-fn rays(rt: HostRuntime) -> Result<(), Fail> {
+fn rays(rt: HostRuntime) {
     let alloc = rt.alloc();
     let along: [Parts; 2] = [(1, 1), (1, 1)];
-    let lp = without_end::<Half>(alloc, POSITIVE, Sense::E)?;
-    let Some(answer) = solved(alloc, &lp, 1)? else {
-        panic!(rt; "not well formed");
-    };
-    assert!(rt; goes_on(&answer, &[(2, 4)], &[(0, 1), (0, 1)], &along));
-    let lp = without_end::<Half>(alloc, (Some((2, 1)), None), Sense::L)?;
-    let Some(answer) = solved(alloc, &lp, 1000)? else {
-        panic!(rt; "not well formed");
-    };
-    assert!(rt; goes_on(&answer, &[(2, 4)], &[(2, 1), (2, 1)], &along));
-    Ok(())
+    let lp = without_end::<Half>(&rt, alloc, POSITIVE, Sense::E);
+    assert!(rt;
+        goes_on(
+            solved(&rt, alloc, lp, 1),
+            &[(2, 4)],
+            &[(0, 1), (0, 1)],
+            &along
+        )
+    );
+    let lp = without_end::<Half>(&rt, alloc, (Some((2, 1)), None), Sense::L);
+    assert!(rt;
+        goes_on(
+            solved(&rt, alloc, lp, 1000),
+            &[(2, 4)],
+            &[(2, 1), (2, 1)],
+            &along
+        )
+    );
 }
 
 /// Beale's program, on which the rule of the largest coefficient cycles.
-fn cycling<F: ExactField>(alloc: Global) -> Result<Lp<F>, AllocError> {
+fn cycling<F: ExactField>(rt: &impl Abort, alloc: Global) -> Lp<F> {
     let half = |n: i128| -> Parts { (n, 2) };
     program(
+        rt,
         alloc,
         &[POSITIVE, POSITIVE, POSITIVE, POSITIVE, FREE],
         &[
@@ -470,63 +494,49 @@ fn cycling<F: ExactField>(alloc: Global) -> Result<Lp<F>, AllocError> {
             ),
             (Sense::L, whole(1), &[(0, whole(1))]),
         ],
-        4,
-        true,
+        (4, true),
     )
 }
 
 #[test]
-fn a_program_on_which_other_rules_cycle(rt: HostRuntime) -> Result<(), Fail> {
+fn a_program_on_which_other_rules_cycle(rt: HostRuntime) {
     let alloc = rt.alloc();
-    let Some(answer) = solved(alloc, &cycling::<Frac>(alloc)?, 1000)? else {
-        panic!(rt; "not well formed");
-    };
-    assert_eq!(rt; answer.pivots.len(), 8);
+    let answer = solved::<Frac>(&rt, alloc, cycling(&rt, alloc), 1000);
     let levels: [Parts; 5] = [(1, 1), (0, 1), (1, 1), (0, 1), (1, 1)];
     let row_levels: [Parts; 4] = [(0, 1), (-2, 1), (0, 1), (1, 1)];
     let duals: [Parts; 4] = [(1, 1), (0, 1), (18, 1), (1, 1)];
     let reduced: [Parts; 5] = [(0, 1), (-30, 1), (0, 1), (-42, 1), (0, 1)];
-    assert!(rt; is_optimum(&answer, [&levels, &row_levels, &duals, &reduced]));
-    Ok(())
-}
-
-/// Whether the answer is that the bounds of this column cross, before any pivot, with a 0 for each of so many rows.
-fn is_crossed<F: ExactField>(answer: &Answer<F>, column: u32, rows: usize) -> bool {
-    match &answer.end {
-        End::Infeasible {
-            duals,
-            crossed: Some(j),
-        } => {
-            let zeros = duals.as_slice().iter().all(|dual| dual.is_zero());
-            answer.pivots.is_empty() && *j == column && duals.len() == rows && zeros
-        }
-        _ => false,
-    }
+    assert!(rt; is_optimum_after(answer, 8, [&levels, &row_levels, &duals, &reduced]));
 }
 
 #[test]
-fn bounds_cross(rt: HostRuntime) -> Result<(), Fail> {
+fn bounds_cross(rt: HostRuntime) {
     let alloc = rt.alloc();
     let crossing = (Some((3, 1)), Some((2, 1)));
-    let lp = capped::<Half>(alloc, crossing, whole(4))?;
-    let Some(answer) = solved(alloc, &lp, 1000)? else {
-        panic!(rt; "not well formed");
-    };
-    assert!(rt; is_crossed(&answer, 0, 2));
-    Ok(())
+    let lp = capped::<Half>(&rt, alloc, crossing, whole(4));
+    assert!(rt; is_crossed(solved(&rt, alloc, lp, 1000), 0, 2));
+}
+
+/// Whether a program over `Tiny` whose first column is to be greatest stops so.
+fn tiny_stops(
+    rt: &impl Abort,
+    alloc: Global,
+    bounds: &[Bounds],
+    given: &[Given],
+    (pivots, step): (&[(u32, u32)], StepName),
+) -> bool {
+    let lp = program::<Tiny>(rt, alloc, bounds, given, (0, true));
+    stops(solved(rt, alloc, lp, 1000), pivots, step)
+}
+
+/// A column that is at least so much.
+const fn from(n: i64) -> Bounds {
+    (Some(whole(n)), None)
 }
 
 #[test]
-fn steps_that_do_not_fit(rt: HostRuntime) -> Result<(), Fail> {
+fn steps_of_forms_and_ratios(rt: HostRuntime) {
     let alloc = rt.alloc();
-    let tiny = |bounds: &[Bounds], given: &[Given]| -> Result<Option<Answer<Tiny>>, AllocError> {
-        solved(
-            alloc,
-            &program::<Tiny>(alloc, bounds, given, 0, true)?,
-            1000,
-        )
-    };
-    let from = |n: i64| -> Bounds { (Some(whole(n)), None) };
     let standard = |part: u8| -> StepName {
         StepName::Standard {
             row: 1,
@@ -534,12 +544,18 @@ fn steps_that_do_not_fit(rt: HostRuntime) -> Result<(), Fail> {
             part,
         }
     };
-    let answer = tiny(&[from(100)], &[(Sense::L, whole(1), &[(0, whole(2))])])?;
-    assert!(rt; stops(&answer, &[], standard(0)));
-    let answer = tiny(&[from(100)], &[(Sense::L, whole(-100), &[(0, whole(1))])])?;
-    assert!(rt; stops(&answer, &[], standard(1)));
-    let answer = tiny(&[from(0)], &[(Sense::L, whole(127), &[(0, (1, 2))])])?;
-    assert!(rt; stops(&answer, &[], StepName::Ratio { pivot: 1, row: 1 }));
+    let given: [Given; 1] = [(Sense::L, whole(1), &[(0, whole(2))])];
+    assert!(rt; tiny_stops(&rt, alloc, &[from(100)], &given, (&[], standard(0))));
+    let given: [Given; 1] = [(Sense::L, whole(-100), &[(0, whole(1))])];
+    assert!(rt; tiny_stops(&rt, alloc, &[from(100)], &given, (&[], standard(1))));
+    let given: [Given; 1] = [(Sense::L, whole(127), &[(0, (1, 2))])];
+    let ratio = StepName::Ratio { pivot: 1, row: 1 };
+    assert!(rt; tiny_stops(&rt, alloc, &[from(0)], &given, (&[], ratio)));
+}
+
+#[test]
+fn steps_of_exchanges_and_the_way_back(rt: HostRuntime) {
+    let alloc = rt.alloc();
     let exchange = |row: u32, column: u32, part: u8| -> StepName {
         StepName::Exchange {
             pivot: 1,
@@ -549,32 +565,38 @@ fn steps_that_do_not_fit(rt: HostRuntime) -> Result<(), Fail> {
         }
     };
     let given: [Given; 1] = [(Sense::L, whole(1), &[(0, (1, 2)), (1, whole(100))])];
-    let answer = tiny(&[from(0), from(0)], &given)?;
-    assert!(rt; stops(&answer, &[], exchange(1, 3, 0)));
+    assert!(rt;
+        tiny_stops(
+            &rt,
+            alloc,
+            &[from(0), from(0)],
+            &given,
+            (&[], exchange(1, 3, 0))
+        )
+    );
     let given: [Given; 2] = [
         (Sense::L, whole(100), &[(0, whole(1))]),
         (Sense::L, whole(100), &[(0, whole(-1))]),
     ];
-    let answer = tiny(&[from(0)], &given)?;
-    assert!(rt; stops(&answer, &[], exchange(2, 0, 1)));
+    assert!(rt; tiny_stops(&rt, alloc, &[from(0)], &given, (&[], exchange(2, 0, 1))));
     let given: [Given; 2] = [
         (Sense::L, whole(-50), &[(0, whole(1)), (1, (-1, 2))]),
         (Sense::L, whole(100), &[(1, (1, 2))]),
     ];
-    let answer = tiny(&[from(0), from(100)], &given)?;
     let level = StepName::Recover {
         what: 0,
         index: 1,
         entry: 0,
         part: 1,
     };
-    assert!(rt; stops(&answer, &[(1, 3), (2, 4)], level));
-    Ok(())
+    let pivots: [(u32, u32); 2] = [(1, 3), (2, 4)];
+    assert!(rt; tiny_stops(&rt, alloc, &[from(0), from(100)], &given, (&pivots, level)));
 }
 
 /// x at least 2^125 and 4 x at most 1, and z = x, z to be greatest.
-fn wide(alloc: Global) -> Result<Lp<Frac>, AllocError> {
+fn wide(rt: &impl Abort, alloc: Global) -> Lp<Frac> {
     program(
+        rt,
         alloc,
         &[
             (Some((42535295865117307932921825928971026432, 1)), None),
@@ -584,23 +606,23 @@ fn wide(alloc: Global) -> Result<Lp<Frac>, AllocError> {
             (Sense::L, whole(1), &[(0, whole(4))]),
             (Sense::E, whole(0), &[(0, whole(-1)), (1, whole(1))]),
         ],
-        1,
-        true,
+        (1, true),
     )
 }
 
+/// The program over numbers of 63 bits, if its numbers fit.
+fn narrowed(rt: &impl Abort, alloc: Global, lp: Lp<Frac>) -> Option<Lp<Half>> {
+    narrow_lp(alloc, &lp).expect(rt, "memory")
+}
+
 #[test]
-fn programs_made_narrow(rt: HostRuntime) -> Result<(), Fail> {
+fn programs_made_narrow(rt: HostRuntime) {
     let alloc = rt.alloc();
-    let Some(lp) = narrow_lp(alloc, &transport::<Frac>(alloc)?)? else {
+    let Some(lp) = narrowed(&rt, alloc, transport(&rt, alloc)) else {
         panic!(rt; "not made narrow");
     };
-    let Some(answer) = solved(alloc, &lp, 1000)? else {
-        panic!(rt; "not well formed");
-    };
-    assert!(rt; is_transported(&answer));
-    assert!(rt; narrow_lp(alloc, &wide(alloc)?)?.is_none());
-    Ok(())
+    assert!(rt; is_transported(solved(&rt, alloc, lp, 1000)));
+    assert!(rt; narrowed(&rt, alloc, wide(&rt, alloc)).is_none());
 }
 
 /// The variable that improves and has the greatest number enters; of the tied ones the least leaves.
@@ -669,97 +691,113 @@ impl LpSolver for Contrary {
     ghost named = { λ _. greatest_is_name };
 }
 
-/// The answer of a boxed solver, if the program is well formed.
+/// The answer of a boxed solver for a program, which has to be well formed.
 fn solve_one(
+    rt: &impl Abort,
     alloc: Global,
     solver: &mut Box<dyn LpSolver>,
-    lp: &Lp<Frac>,
+    lp: Lp<Frac>,
     iterlim: u64,
-) -> Result<Option<Answer<Frac>>, AllocError> {
-    if !well_formed(lp) {
-        return Ok(None);
+) -> Answer<Frac> {
+    if !well_formed(&lp) {
+        panic!(rt; "not well formed");
     }
-    Ok(Some(solver.solve(alloc, lp, iterlim)?))
+    solver.solve(alloc, &lp, iterlim).expect(rt, "memory")
+}
+
+/// Whether the paths of a solver are these.
+fn paths_are(solver: &Box<dyn LpSolver>, wanted: &[&[(u32, u32)]]) -> bool {
+    let paths = solver.paths();
+    if paths.len() != wanted.len() {
+        return false;
+    }
+    for (path, pivots) in paths.iter().zip(wanted) {
+        if !took(path, pivots) {
+            return false;
+        }
+    }
+    true
+}
+
+/// z = x + y, x and y at least 0, z to be greatest.
+fn two_ways(rt: &impl Abort, alloc: Global) -> Lp<Frac> {
+    let entries = [(0, whole(-1)), (1, whole(-1)), (2, whole(1))];
+    let given: [Given; 1] = [(Sense::E, whole(0), &entries)];
+    program(rt, alloc, &[POSITIVE, POSITIVE, FREE], &given, (2, true))
+}
+
+/// Whether a boxed solver goes along this ray where there are two.
+fn goes_along(
+    rt: &impl Abort,
+    alloc: Global,
+    solver: &mut Box<dyn LpSolver>,
+    along: &[Parts],
+) -> bool {
+    let origin: [Parts; 3] = [(0, 1), (0, 1), (0, 1)];
+    let answer = solve_one(rt, alloc, solver, two_ways(rt, alloc), 1000);
+    goes_on(answer, &[(3, 5)], &origin, along)
 }
 
 #[test]
-fn boxed_solvers(rt: HostRuntime) -> Result<(), Fail> {
+fn boxed_solvers(rt: HostRuntime) {
     let alloc = rt.alloc();
-    let mut bland: Box<dyn LpSolver> = Box::new(alloc, Bland::new(alloc))?;
+    let bland = Bland::new(alloc);
+    let mut bland: Box<dyn LpSolver> = Box::new(alloc, bland).expect(&rt, "memory");
     let contrary = Contrary {
         taken: Vec::new(alloc),
     };
-    let mut contrary: Box<dyn LpSolver> = Box::new(alloc, contrary)?;
+    let mut contrary: Box<dyn LpSolver> = Box::new(alloc, contrary).expect(&rt, "memory");
     assert!(rt; bland.name() == "bland" && bland.rule() == Rule::Bland);
     assert!(rt; contrary.name() == "greatest" && contrary.rule() == Rule::Legal);
-    // z = x + y
-    let given: [Given; 1] = [(
-        Sense::E,
-        whole(0),
-        &[(0, whole(-1)), (1, whole(-1)), (2, whole(1))],
-    )];
-    let lp = program(alloc, &[POSITIVE, POSITIVE, FREE], &given, 2, true)?;
-    let origin: [Parts; 3] = [(0, 1), (0, 1), (0, 1)];
-    let Some(answer) = solve_one(alloc, &mut bland, &lp, 1000)? else {
-        panic!(rt; "not well formed");
-    };
-    assert!(rt; goes_on(&answer, &[(3, 5)], &origin, &[(1, 1), (0, 1), (1, 1)]));
-    let Some(answer) = solve_one(alloc, &mut contrary, &lp, 1000)? else {
-        panic!(rt; "not well formed");
-    };
-    assert!(rt; goes_on(&answer, &[(3, 5)], &origin, &[(0, 1), (1, 1), (1, 1)]));
+    assert!(rt; goes_along(&rt, alloc, &mut bland, &[(1, 1), (0, 1), (1, 1)]));
+    assert!(rt; goes_along(&rt, alloc, &mut contrary, &[(0, 1), (1, 1), (1, 1)]));
     // bounds that cross add an empty path, and one solver's paths are not another's
-    let lp = capped(alloc, (Some((3, 1)), Some((2, 1))), whole(4))?;
-    let Some(answer) = solve_one(alloc, &mut contrary, &lp, 1000)? else {
-        panic!(rt; "not well formed");
-    };
-    assert!(rt; is_crossed(&answer, 0, 2));
-    let [first, second] = contrary.paths() else {
-        panic!(rt; "not two paths");
-    };
-    assert!(rt; took(first, &[(3, 5)]) && second.is_empty());
-    let [only] = bland.paths() else {
-        panic!(rt; "not one path");
-    };
-    assert!(rt; took(only, &[(3, 5)]));
-    Ok(())
+    let lp = capped(&rt, alloc, (Some((3, 1)), Some((2, 1))), whole(4));
+    assert!(rt; is_crossed(solve_one(&rt, alloc, &mut contrary, lp, 1000), 0, 2));
+    assert!(rt; paths_are(&contrary, &[&[(3, 5)], &[]]) && paths_are(&bland, &[&[(3, 5)]]));
 }
 
-#[test]
-fn narrow_numbers_first(rt: HostRuntime) -> Result<(), Fail> {
-    let alloc = rt.alloc();
-    let mut bland: Box<dyn LpSolver> = Box::new(alloc, Bland::new(alloc))?;
-    let Some(answer) = solve_one(alloc, &mut bland, &transport(alloc)?, 1000)? else {
-        panic!(rt; "not well formed");
-    };
-    assert!(rt; is_transported(&answer));
-    // a program that needs 127 bits, and a step that needs more
-    let answer = solve_one(alloc, &mut bland, &wide(alloc)?, 1000)?;
-    let product = StepName::Standard {
-        row: 1,
-        column: 1,
-        part: 0,
-    };
-    assert!(rt; stops(&answer, &[], product));
-    // a program that fits in 63 bits, and a step that does not: 2^40 x at most 2^40 and x at least 2^40
+/// 2^40 x at least 0, x at least 2^40 and z = x, z to be least.
+fn wide_between(rt: &impl Abort, alloc: Global) -> Lp<Frac> {
     let great = whole(1_099_511_627_776);
-    let lp = program(
+    program(
+        rt,
         alloc,
         &[(Some(great), None), FREE],
         &[
             (Sense::G, whole(0), &[(0, great)]),
             (Sense::E, whole(0), &[(0, whole(-1)), (1, whole(1))]),
         ],
-        1,
-        false,
-    )?;
-    let Some(answer) = solve_one(alloc, &mut bland, &lp, 1000)? else {
-        panic!(rt; "not well formed");
+        (1, false),
+    )
+}
+
+/// Whether the answer is an optimum with these levels.
+fn has_levels(answer: Answer<Frac>, x: &[Parts]) -> bool {
+    match &answer.end {
+        End::Optimal { levels, .. } => are(levels, x),
+        _ => false,
+    }
+}
+
+#[test]
+fn narrow_numbers_first(rt: HostRuntime) {
+    let alloc = rt.alloc();
+    let bland = Bland::new(alloc);
+    let mut bland: Box<dyn LpSolver> = Box::new(alloc, bland).expect(&rt, "memory");
+    let answer = solve_one(&rt, alloc, &mut bland, transport(&rt, alloc), 1000);
+    assert!(rt; is_transported(answer));
+    // a program that needs 127 bits, and a step that needs more
+    let answer = solve_one(&rt, alloc, &mut bland, wide(&rt, alloc), 1000);
+    let product = StepName::Standard {
+        row: 1,
+        column: 1,
+        part: 0,
     };
-    let End::Optimal { levels, .. } = &answer.end else {
-        panic!(rt; "no optimum");
-    };
-    assert!(rt; are(levels, &[great, great]));
+    assert!(rt; stops(answer, &[], product));
+    // a program that fits in 63 bits, and a step that does not
+    let answer = solve_one(&rt, alloc, &mut bland, wide_between(&rt, alloc), 1000);
+    let great = whole(1_099_511_627_776);
+    assert!(rt; has_levels(answer, &[great, great]));
     assert_eq!(rt; bland.paths().len(), 3);
-    Ok(())
 }
