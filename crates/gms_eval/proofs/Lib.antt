@@ -1,10 +1,14 @@
 pub mod Answering
+pub mod Ascents
 pub mod Bests
 pub mod Chains
 pub mod Choosing
 pub mod Counts
 pub mod Depths
 pub mod Ends
+pub mod Entries
+pub mod Factors
+pub mod Gathering
 pub mod Guards
 pub mod Inner
 pub mod Lagging
@@ -13,8 +17,11 @@ pub mod Marks
 pub mod NodeValues
 pub mod Places
 pub mod Products
+pub mod Scanning
 pub mod Shapes
+pub mod Simple
 pub mod Sizes
+pub mod Thinning
 pub mod TreeValues
 pub mod Tuples
 pub mod Zeros

@@ -4,7 +4,8 @@ use Rattle.gq_number.specs.Number.{Number, whole}
 use Rattle.gq_number.proofs.Quotients.{zero_from_numerator}
 use Rattle.gq_extended.specs.Extended.{is_zero}
 
-whole_zero : is_zero (whole (pos 0)) ≡ true
+-- the number 0 is 0
+pub whole_zero : is_zero (whole (pos 0)) ≡ true
 unfolding whole
 whole_zero = refl
 

@@ -5,6 +5,7 @@ pub mod Faults
 pub mod Gives
 pub mod Holds
 pub mod Lag
+pub mod Leading
 pub mod References
 pub mod Steps
 pub mod Value

@@ -1,6 +1,6 @@
 -- The value of an expression in a state of the run, under the labels that its controlled sets stand for (GAMS User's Guide, "Data
 -- Manipulations with Parameters", "Conditional Expressions, Assignments and Equations", "Sets as Sequences: Ordered Sets").
-use Rattle.std.specs.Prelude.{ℕ, Bool, true, false, not, List, [], ◌∷◌, length, map, Option, Some, Ok, if◌then◌else◌}
+use Rattle.std.specs.Prelude.{ℕ, Bool, true, false, not, List, [], ◌∷◌, length, map, Option, Some, None, Ok, if◌then◌else◌}
 use Rattle.gms_labels.specs.declared.place.Place.{Place}
 use Rattle.gq_number.specs.Number.{Number}
 use Rattle.gq_extended.specs.Extended.{Extended, number, plus_infinity, na, negated}
@@ -16,6 +16,11 @@ use Rattle.gms_eval.specs.References.{reached, tuple_of, place_in_set, entry_of}
 abbrev pub sets_of : {F : Type 0} → tree.Control F → List ℕ
 sets_of (tree.over sets) = sets
 sets_of (tree.over_where sets condition) = sets
+
+-- sets, with a condition where there is one
+abbrev pub control_over : {F : Type 0} → List ℕ → Option (tree.Tree F) → tree.Control F
+control_over sets None = tree.over sets
+control_over sets (Some condition) = tree.over_where sets condition
 
 -- whether a condition's answer holds
 abbrev pub when_so : Answer Extended → Answer Bool

@@ -62,7 +62,7 @@ impl Binding {
     }
 
     /// An equal binding.
-    pub(crate) fn copy(&self, alloc: Global) -> Result<Binding, AllocError>
+    pub fn copy(&self, alloc: Global) -> Result<Binding, AllocError>
         ensures { IfOk result (λ copy. copy ≡ self.now) }
     {
         Ok(Binding {
@@ -71,19 +71,14 @@ impl Binding {
     }
 
     /// How many sets there are.
-    pub(crate) fn len(&self) -> usize
+    pub fn len(&self) -> usize
         ensures { result ≡ length self.now }
     {
         self.pairs.len()
     }
 
     /// Keeps the first `outer` pairs, and puts behind them these sets with the labels of an element.
-    pub(crate) fn control(
-        &mut self,
-        outer: usize,
-        sets: &[u32],
-        labels: &[u32],
-    ) -> Result<(), AllocError>
+    pub fn control(&mut self, outer: usize, sets: &[u32], labels: &[u32]) -> Result<(), AllocError>
         ensures { OnOk result (self.new ≡ take outer self.old ++ paired sets.now labels.now) }
     {
         self.pairs.truncate(outer);

@@ -1,5 +1,5 @@
 //! The value of an expression, when a condition holds, and the elements of a domain.
-ghost use Rattle.std.specs.Prelude.{◌≡◌, map, Ok, IfOk};
+ghost use Rattle.std.specs.Prelude.{◌≡◌, map, Ok, IfOk, option_map, option_copied};
 ghost use Rattle.gq_extended.specs.Meaning.{extended};
 ghost use Rattle.gms_ast.specs.TreeView.{tree_of, control_tree};
 ghost use Rattle.gms_ast.specs.Trees.{plain, signed, placed, related, chosen};
@@ -11,13 +11,14 @@ ghost use Rattle.gms_eval.specs.Gives.{Gives};
 ghost use Rattle.gms_eval.specs.Holds.{holds};
 ghost use Rattle.gms_eval.specs.References.{tuple_of};
 ghost use Rattle.gms_eval.specs.Steps.{signed_step};
-ghost use Rattle.gms_eval.specs.Value.{value, domain};
+ghost use Rattle.gms_eval.specs.Value.{value, domain, control_over};
 ghost use Rattle.gms_eval.specs.Walks.{those_of, IsCounted, label_answer};
 
 use crate::binding::Binding;
 use crate::elements::{Elements, all, keep, size};
 use crate::functions::called;
 use crate::indices::{place_in_set, reached, with_label};
+use crate::leading::candidates;
 use crate::references::entry_of;
 use crate::steps::{
     Signed, all_part, counted, fold_part, is_left_by_and, is_left_by_or, is_so, one_part,
@@ -215,7 +216,7 @@ fn one_of<F: ExactField>(
 
 /// Whether each guard holds: they are taken from the last to the first, up to one that does not hold.
 #[cycle(value)]
-fn all_hold<F: ExactField>(
+pub fn all_hold<F: ExactField>(
     alloc: Global,
     store: &Store<F>,
     guards: &[Expr<F>],
@@ -253,7 +254,7 @@ fn arguments<F: ExactField>(
 
 /// The tuple of indices, where each has a label and they are at most 10.
 #[cycle(value)]
-fn tuple_of<F: ExactField>(
+pub fn tuple_of<F: ExactField>(
     alloc: Global,
     store: &Store<F>,
     indices: &[Index<F>],
@@ -309,7 +310,7 @@ fn elements_of<F: ExactField>(
     let size = size(alloc, store, sets, at, b)?;
     match &control.condition {
         Some(condition) => {
-            let among = Elements::Every(size);
+            let among = candidates(alloc, store, sets, size, condition, b)?;
             let those = chosen(alloc, store, sets, &among, condition, b)?;
             Ok(Elements::Those(those))
         }
@@ -405,5 +406,29 @@ pub fn domain<F: ExactField>(
     match elements_of(alloc, store, c, at, b)? {
         Elements::Every(size) => Ok(all(alloc, store, c.sets.as_slice(), size)?),
         Elements::Those(those) => Ok(those),
+    }
+}
+
+/// The elements of the product of sets for which a condition holds, where there is one, in the order of tuples.
+///
+/// It is `domain` for sets and a condition that stand apart, as those of a left side do, and stops as `domain` does.
+pub fn domain_over<F: ExactField>(
+    alloc: Global,
+    store: &Store<F>,
+    sets: &[u32],
+    condition: Option<&Expr<F>>,
+    at: Place,
+    b: &Binding,
+) -> Result<Vec<Tuple>, StopOrMemory<F>>
+    ensures { Gives F.value (λ those. those.items) result
+        (domain F.value F.limit store.now b.now at (control_over sets.now (option_map tree_of (option_copied condition.entry)))) }
+{
+    let size = size(alloc, store, sets, at, b)?;
+    match condition {
+        Some(condition) => {
+            let among = candidates(alloc, store, sets, size, condition, b)?;
+            chosen(alloc, store, sets, &among, condition, b)
+        }
+        None => Ok(all(alloc, store, sets, size)?),
     }
 }

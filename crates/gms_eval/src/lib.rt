@@ -6,12 +6,14 @@ mod elements;
 mod expressions;
 mod functions;
 mod indices;
+mod leading;
 mod references;
 mod steps;
 mod stop;
 #[cfg(test)]
 mod tests;
+mod walk;
 
 pub use binding::Binding;
-pub use expressions::{domain, holds, value};
-pub use stop::{ExecStop, StopKind, StopOrMemory};
+pub use expressions::{all_hold, domain, domain_over, holds, tuple_of, value};
+pub use stop::{ExecStop, StopKind, StopOrMemory, taken};

@@ -149,7 +149,7 @@ impl<F, T: Drop> From<AllocFailed<T>> for StopOrMemory<F> {
 
 impl<F: ExactField> StopOrMemory<F> {
     /// The stop of a step.
-    pub(crate) fn at_step(
+    pub fn at_step(
         alloc: Global,
         kind: StopKind,
         at: Place,
@@ -172,13 +172,19 @@ impl<F: ExactField> StopOrMemory<F> {
         }
     }
 
-    /// The stop of a domain whose product has so many elements.
-    pub(crate) fn too_large(alloc: Global, at: Place, count: u64, b: &Binding) -> StopOrMemory<F>
-        ensures { Shows F.value result (record { kind = DomainSize; at = at; binding = b.now; left = nothing; right = nothing; count = count }) }
+    /// The stop of a domain, or of a linear program, that has so many elements, rows or columns.
+    pub fn counted(
+        alloc: Global,
+        kind: StopKind,
+        at: Place,
+        count: u64,
+        b: &Binding,
+    ) -> StopOrMemory<F>
+        ensures { Shows F.value result (record { kind = kind; at = at; binding = b.now; left = nothing; right = nothing; count = count }) }
     {
         match b.copy(alloc) {
             Ok(binding) => StopOrMemory::Stop(ExecStop {
-                kind: StopKind::DomainSize,
+                kind,
                 at,
                 binding,
                 left: zero(),
@@ -188,10 +194,17 @@ impl<F: ExactField> StopOrMemory<F> {
             Err(_) => StopOrMemory::Memory,
         }
     }
+
+    /// The stop of a domain whose product has so many elements.
+    pub fn too_large(alloc: Global, at: Place, count: u64, b: &Binding) -> StopOrMemory<F>
+        ensures { Shows F.value result (record { kind = DomainSize; at = at; binding = b.now; left = nothing; right = nothing; count = count }) }
+    {
+        StopOrMemory::counted(alloc, StopKind::DomainSize, at, count, b)
+    }
 }
 
 /// The value of a step on two operands, or its stop.
-pub(crate) fn taken<F: ExactField>(
+pub fn taken<F: ExactField>(
     alloc: Global,
     at: Place,
     left: Ext<F>,

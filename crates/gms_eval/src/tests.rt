@@ -1,5 +1,5 @@
 //! What no clause says: that the calls succeed with ample memory, and what they answer then.
-use crate::{Binding, StopKind, StopOrMemory, domain, holds, value};
+use crate::{Binding, StopKind, StopOrMemory, domain, domain_over, holds, value};
 use gms_ast::{
     Act, Control, Decl, DeclKind, Expr, FoldOp, Function, Index, LagOp, Named, Program, RelOp,
     Sequence, Stmt, Suffix,
@@ -35,10 +35,21 @@ const E: u32 = 3;
 /// `set big`, which a test fills with 257 labels.
 const BIG: u32 = 4;
 
-/// A declaration of a name over one position.
-fn declare<F: ExactField>(rt: &impl Abort, alloc: Global, kind: DeclKind, name: u32) -> Stmt<F> {
+/// `set s(t,big)` with the tuples (0,2), (1,0) and (2,1), where a test puts them in.
+const S: u32 = 5;
+
+/// A declaration of a name over so many positions.
+fn declare<F: ExactField>(
+    rt: &impl Abort,
+    alloc: Global,
+    kind: DeclKind,
+    name: u32,
+    positions: usize,
+) -> Stmt<F> {
     let mut domain = Vec::new(alloc);
-    domain.push(None).expect(rt, "memory");
+    for _ in 0..positions {
+        domain.push(None).expect(rt, "memory");
+    }
     let mut items = Vec::new(alloc);
     items
         .push(Decl {
@@ -57,25 +68,22 @@ fn declare<F: ExactField>(rt: &impl Abort, alloc: Global, kind: DeclKind, name: 
 /// A program that declares the names of these tests.
 fn program<F: ExactField>(rt: &impl Abort, alloc: Global) -> Program<F> {
     let mut names = Labels::new(alloc);
-    for name in ["t", "a", "c", "e", "big"] {
+    for name in ["t", "a", "c", "e", "big", "s"] {
         names.enter(alloc, name).expect(rt, "memory");
     }
     let mut statements = Vec::new(alloc);
-    statements
-        .push(declare(rt, alloc, DeclKind::Set, T))
-        .expect(rt, "memory");
-    statements
-        .push(declare(rt, alloc, DeclKind::Parameter, A))
-        .expect(rt, "memory");
-    statements
-        .push(declare(rt, alloc, DeclKind::Parameter, C))
-        .expect(rt, "memory");
-    statements
-        .push(declare(rt, alloc, DeclKind::Set, E))
-        .expect(rt, "memory");
-    statements
-        .push(declare(rt, alloc, DeclKind::Set, BIG))
-        .expect(rt, "memory");
+    for (kind, name, positions) in [
+        (DeclKind::Set, T, 1),
+        (DeclKind::Parameter, A, 1),
+        (DeclKind::Parameter, C, 1),
+        (DeclKind::Set, E, 1),
+        (DeclKind::Set, BIG, 1),
+        (DeclKind::Set, S, 2),
+    ] {
+        statements
+            .push(declare(rt, alloc, kind, name, positions))
+            .expect(rt, "memory");
+    }
     Program {
         names,
         labels: Labels::new(alloc),
@@ -437,6 +445,83 @@ fn domains_in_the_order_of_tuples(rt: HostRuntime) -> Result<(), Fail> {
             0
         )
     );
+    Ok(())
+}
+
+/// A reference to `s(t,big)`.
+fn pair<F: ExactField>(rt: &impl Abort, alloc: Global) -> Expr<F> {
+    let mut indices = Vec::new(alloc);
+    for name in [T, BIG] {
+        indices
+            .push(Index::Set { name, lag: None })
+            .expect(rt, "memory");
+    }
+    Expr::Ref {
+        at: AT,
+        name: S,
+        suffix: Suffix::None,
+        indices,
+    }
+}
+
+/// The domain over two sets under a condition, as one number in base 10.
+fn listed<F: ExactField>(
+    alloc: Global,
+    store: &Store<F>,
+    sets: [u32; 2],
+    condition: Expr<F>,
+    b: &Binding,
+) -> u32 {
+    let those = domain_over(alloc, store, sets.as_slice(), Some(&condition), AT, b);
+    let mut listed: u32 = 0;
+    if let Ok(those) = &those {
+        for element in those.iter() {
+            for label in element.as_slice() {
+                listed = listed.wrapping_mul(10).wrapping_add(*label);
+            }
+        }
+    }
+    listed
+}
+
+#[test]
+fn domains_by_the_tuples_of_a_factor(rt: HostRuntime) -> Result<(), Fail> {
+    let alloc = rt.alloc();
+    let mut store = state::<Tiny>(&rt, alloc);
+    for (first, second) in [(0, 2), (1, 0), (2, 1)] {
+        let mut t = Tuple::new(alloc);
+        t.push(alloc, second).expect(&rt, "memory");
+        store.set_member(alloc, BIG, &t, true).expect(&rt, "memory");
+        let mut t = Tuple::new(alloc);
+        t.push(alloc, first).expect(&rt, "memory");
+        t.push(alloc, second).expect(&rt, "memory");
+        store.set_member(alloc, S, &t, true).expect(&rt, "memory");
+    }
+    let none = Binding::new(alloc);
+    // s(t,big), over t and big and over big and t
+    assert_eq!(rt;
+        listed(alloc, &store, [T, BIG], pair(&rt, alloc), &none),
+        21021
+    );
+    assert_eq!(rt;
+        listed(alloc, &store, [BIG, T], pair(&rt, alloc), &none),
+        11220
+    );
+    // c(t) and s(t,big), then s(t,big) under the guard c(t)
+    let mut parts = Vec::new(alloc);
+    parts.push(entry(&rt, alloc, C, None)).expect(&rt, "memory");
+    parts.push(pair(&rt, alloc)).expect(&rt, "memory");
+    assert_eq!(rt;
+        listed(alloc, &store, [T, BIG], Expr::And(parts), &none),
+        1021
+    );
+    let mut guards = Vec::new(alloc);
+    guards
+        .push(entry(&rt, alloc, C, None))
+        .expect(&rt, "memory");
+    let operand = Box::new(alloc, pair(&rt, alloc)).expect(&rt, "memory");
+    let guarded = Expr::Guard { operand, guards };
+    assert_eq!(rt; listed(alloc, &store, [BIG, T], guarded, &none), 112);
     Ok(())
 }
 

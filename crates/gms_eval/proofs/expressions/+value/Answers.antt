@@ -23,6 +23,7 @@ use Rattle.gms_eval.proofs.Chains.{from_here, chain-more, chain-part-stops, chai
 use Rattle.gms_eval.proofs.Choosing.{choosing, choosing-start, choosing-more, choosing-end, choosing-stops}
 use Rattle.gms_eval.proofs.Depths.{indices-less_deep}
 use Rattle.gms_eval.proofs.Ends.{chain-result, fold-result, fold-empty, at_itself}
+use Rattle.gms_eval.proofs.Factors.{by-others}
 use Rattle.gms_eval.proofs.Guards.{holds-start, holds-next, all-hold, one-fails, guard-stops, guard-so, guard-not}
 use Rattle.gms_eval.proofs.Inner.{inner-start, inner-controlled, inner-kept, inner-value, inner-stops, inner-holds, inner-holds-stops}
 use Rattle.gms_eval.proofs.Leaving.{signed-takes, and-takes, or-takes, and-left, or-left}
@@ -42,10 +43,10 @@ pub elements_of-returns-in_err-size-clause-value : goal.elements_of-returns-in_e
 elements_of-returns-in_err-size-clause-value g t c = handed_on g.F.ExactField.value (those_of c.args.store.now c.args.control.now.sets) c.from_residual.result c.in_err-size.field-0.0 _ c.from_residual.ensures.1 (size-stops g.F.ExactField.value g.F.ExactField.limit c.args.store.now c.args.b.now c.args.at c.args.control.now c.as_slice-sets.result.now c.as_slice-sets.ensures c.in_err-size.field-0.0 c.in_err-size.ensures.value)
 
 pub elements_of-returns-in_err-those-in-Some-clause-value : goal.elements_of-returns-in_err-those-in-Some-clause-value
-elements_of-returns-in_err-those-in-Some-clause-value g t c = handed_on g.F.ExactField.value (those_of c.args.store.now c.args.control.now.sets) c.from_residual-in_err-those-in-Some.result c.in_err-those-in-Some.field-0.0 _ c.from_residual-in_err-those-in-Some.ensures.1 (stops-same g.F.ExactField.value c.in_err-those-in-Some.field-0.0 _ _ (domain-where g.F.ExactField.value g.F.ExactField.limit c.args.store.now c.args.b.now c.args.at c.args.control.now c.as_slice-sets.result.now c.as_slice-sets.ensures c.in-Some.condition c.deref.result.now c.in-Some.is c.deref.ensures c.in_ok-size.ensures.value) c.in_err-those-in-Some.ensures)
+elements_of-returns-in_err-those-in-Some-clause-value g t c = handed_on g.F.ExactField.value (those_of c.args.store.now c.args.control.now.sets) c.from_residual-in_err-those-in-Some.result c.in_err-those-in-Some.field-0.0 _ c.from_residual-in_err-those-in-Some.ensures.1 (stops-same g.F.ExactField.value c.in_err-those-in-Some.field-0.0 _ _ (by-others g.F.ExactField.value g.F.ExactField.limit c.args.store.now c.args.b.now c.as_slice-sets.result.now c.deref.result.now c.deref-in-Some.result.now (domain g.F.ExactField.value g.F.ExactField.limit c.args.store.now c.args.b.now c.args.at (control_tree c.args.control.now)) (elements c.args.store.now c.as_slice-sets.result.now) (those_of c.args.store.now c.as_slice-sets.result.now c.in_ok-among-in-Some.among) (c.deref-in-Some.ensures ∙ sym c.deref.ensures) (domain-where g.F.ExactField.value g.F.ExactField.limit c.args.store.now c.args.b.now c.args.at c.args.control.now c.as_slice-sets.result.now c.as_slice-sets.ensures c.in-Some.condition c.deref.result.now c.in-Some.is c.deref.ensures c.in_ok-size.ensures.value) c.in_ok-among-in-Some.ensures.value) c.in_err-those-in-Some.ensures)
 
 pub elements_of-returns-in_ok-those-in-Some-clause-value : goal.elements_of-returns-in_ok-those-in-Some-clause-value
-elements_of-returns-in_ok-those-in-Some-clause-value g t c = domain-where g.F.ExactField.value g.F.ExactField.limit c.args.store.now c.args.b.now c.args.at c.args.control.now c.as_slice-sets.result.now c.as_slice-sets.ensures c.in-Some.condition c.deref.result.now c.in-Some.is c.deref.ensures c.in_ok-size.ensures.value ∙ c.in_ok-those-in-Some.ensures
+elements_of-returns-in_ok-those-in-Some-clause-value g t c = by-others g.F.ExactField.value g.F.ExactField.limit c.args.store.now c.args.b.now c.as_slice-sets.result.now c.deref.result.now c.deref-in-Some.result.now (domain g.F.ExactField.value g.F.ExactField.limit c.args.store.now c.args.b.now c.args.at (control_tree c.args.control.now)) (elements c.args.store.now c.as_slice-sets.result.now) (those_of c.args.store.now c.as_slice-sets.result.now c.in_ok-among-in-Some.among) (c.deref-in-Some.ensures ∙ sym c.deref.ensures) (domain-where g.F.ExactField.value g.F.ExactField.limit c.args.store.now c.args.b.now c.args.at c.args.control.now c.as_slice-sets.result.now c.as_slice-sets.ensures c.in-Some.condition c.deref.result.now c.in-Some.is c.deref.ensures c.in_ok-size.ensures.value) c.in_ok-among-in-Some.ensures.value ∙ c.in_ok-those-in-Some.ensures
 
 pub value-returns-else-branch : goal.value-returns-else-branch
 value-returns-else-branch g t c = ap (of_expr g.F.ExactField.value g.F.ExactField.limit c.args.store.now c.args.b.now) c.in-Guard.is ∙ value-Guard g.F.ExactField.value g.F.ExactField.limit c.args.store.now c.args.b.now c.in-Guard.operand c.in-Guard.guards ∙ ap (λ guards. each_holds (map (of_expr g.F.ExactField.value g.F.ExactField.limit c.args.store.now c.args.b.now) guards) and_then (λ hold. if hold then (of_expr g.F.ExactField.value g.F.ExactField.limit c.args.store.now c.args.b.now) c.in-Guard.operand.value else Ok nothing)) (sym c.deref-in-Guard.ensures.value) ∙ guard-not (each_holds (map (of_expr g.F.ExactField.value g.F.ExactField.limit c.args.store.now c.args.b.now) c.deref-in-Guard.result.now)) c.in_ok-all_hold-in-Guard.field-0 ((of_expr g.F.ExactField.value g.F.ExactField.limit c.args.store.now c.args.b.now) c.in-Guard.operand.value) c.in_ok-all_hold-in-Guard.ensures c.if-branch.false ∙ ap Ok (sym c.zero.ensures)

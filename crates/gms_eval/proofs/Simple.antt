@@ -1,0 +1,116 @@
+-- The elements of the product of sets of one dimension.
+use Rattle.std.proofs.Common.{◌≡◌, ℕ, ◌+◌, ◌<◌, ◌≤◌, Bool, true, false, not, ◌&&◌, ◌||◌, List, [], ◌∷◌, map, drop, length, get_or, nat_eq, nat_le, unwrap_or, if◌then◌else◌, refl, sym, ap, ◌∙◌, arith, le-leb, leb-true}
+use Rattle.std.specs.List.{All, list_any}
+use Rattle.std.proofs.lemmas.Bool.{or_parts}
+use Rattle.std.proofs.lemmas.List.{at_drop_more, at_drop_all, drop_more, drop_all, length-map}
+use Rattle.std.proofs.lemmas.List.Elements.{All-map, All-weaker}
+use Rattle.gms_tuple.specs.TupleOrder.{same_tuple, IsOrdered}
+use Rattle.gms_tuple.specs.TupleSet.{has}
+use Rattle.gms_tuple.specs.Products.{product}
+use Rattle.gms_tuple.proofs.Ordered.{same_tuple_refl, ordered-nil}
+use Rattle.gms_store.specs.State.{State, Content, undeclared, alias_of, set_of, parameter_of, variable_of, equation_of, model_with, members_in, members_of, given_in, symbol_of}
+use Rattle.gms_eval.specs.Domain.{elements, labels_of}
+use Rattle.gms_eval.specs.Lag.{label_in}
+use Rattle.gms_eval.specs.Leading.{IsSimple}
+use Rattle.gms_eval.proofs.Ascents.{all_in, has-product, all_in-length, AreAscending, ordered-product}
+use Rattle.gms_eval.proofs.Sizes.{elements-few}
+
+-- tuples of one label each
+abbrev AreSingle : List (List ℕ) → Type 0
+AreSingle members = (member : List ℕ) → has members member ≡ true → length member ≡ 1
+
+single-first : (x : List ℕ) (members : List (List ℕ)) → AreSingle (x ∷ members) → length x ≡ 1
+single-first x members single = single x (ap (λ b. b || has members x) (same_tuple_refl x))
+
+or-true : (b : Bool) → (b || true) ≡ true
+or-true true = refl
+or-true false = refl
+
+single-rest : (x : List ℕ) (members : List (List ℕ)) → AreSingle (x ∷ members) → AreSingle members
+single-rest x members single t there = single t (ap (λ b. same_tuple x t || b) there ∙ or-true (same_tuple x t))
+
+only-label : (x : List ℕ) → length x ≡ 1 → label_in x ∷ [] ≡ x
+only-label [] e = absurd (omega arith)
+only-label (l ∷ []) e = refl
+only-label (l ∷ m ∷ x) e = absurd (omega arith)
+
+-- such tuples are those of their labels
+singles : (members : List (List ℕ)) → AreSingle members → map (λ label. label ∷ []) (map label_in members) ≡ members
+singles [] single = refl
+singles (x ∷ members) single =
+    ap (λ y. y ∷ map (λ label. label ∷ []) (map label_in members)) (only-label x (single-first x members single))
+    ∙ ap (λ ys. x ∷ ys) (singles members (single-rest x members single))
+
+one_label : (m l : ℕ) → (nat_eq m l && true) ≡ nat_eq m l
+one_label m l = elim (nat_eq m l) as (λ b. (b && true) ≡ b) [ true ↦ refl | false ↦ refl ]
+
+any-label : (labels : List ℕ) (l : ℕ) → list_any (λ m. nat_eq m l) labels ≡ has (map (λ label. label ∷ []) labels) (l ∷ [])
+any-label [] l = refl
+any-label (m ∷ labels) l =
+    ap (λ b. b || list_any (λ m. nat_eq m l) labels) (sym (one_label m l)) ∙ ap (λ b. (nat_eq m l && true) || b) (any-label labels l)
+
+module _ (state : State) where
+  labels-ascending : (set : ℕ) → IsSimple state set → AreAscending (labels_of state set)
+  labels-ascending set simple = rw (singles (members_of state set) simple.1) simple.0
+
+  -- a set of one dimension has a label where the tuple of it is a member
+  pub has-label : (set l : ℕ) → IsSimple state set → list_any (λ m. nat_eq m l) (labels_of state set) ≡ has (members_of state set) (l ∷ [])
+  has-label set l simple =
+      any-label (labels_of state set) l ∙ ap (λ members. has members (l ∷ [])) (singles (members_of state set) simple.1)
+
+  ordered-few : (sets : List ℕ) (b : Bool) → All (IsSimple state) sets → IsOrdered (if b then product (map (labels_of state) sets) else [])
+  ordered-few sets true simple =
+      ordered-product (map (labels_of state) sets) (All-map AreAscending (labels_of state) sets (All-weaker (IsSimple state) (λ set. AreAscending (labels_of state set)) (λ set simple. labels-ascending set simple) sets simple))
+  ordered-few sets false simple = ordered-nil
+
+  -- the elements of the product of such sets are in order
+  pub elements-ordered : (sets : List ℕ) → All (IsSimple state) sets → IsOrdered (elements state sets)
+  elements-ordered sets simple = ordered-few sets (nat_le (length sets) 10) simple
+
+  -- each has as many labels as there are sets
+  pub element-length : (sets x : List ℕ) → has (elements state sets) x ≡ true → length x ≡ length sets
+  element-length sets x there = by (nat_le (length sets) 10) there
+    where
+      by : (b : Bool) → has (if b then product (map (labels_of state) sets) else []) x ≡ true → length x ≡ length sets
+      by true e =
+          all_in-length (map (labels_of state) sets) x (sym (has-product (map (labels_of state) sets) x) ∙ e)
+          ∙ length-map sets (labels_of state)
+      by false e = absurd cc
+
+  -- a tuple of another length is none
+  pub no-element : (sets x : List ℕ) → (length x ≡ length sets → ⊥) → has (elements state sets) x ≡ false
+  no-element sets x other = by (has (elements state sets) x) refl
+    where
+      by : (b : Bool) → has (elements state sets) x ≡ b → b ≡ false
+      by true e = absurd (other (element-length sets x e))
+      by false e = refl
+
+  -- ---- the test label by label
+
+  -- whether the labels that are left are in the sets that are left
+  abbrev pub rest_in : List ℕ → List ℕ → ℕ → Bool
+  rest_in sets x place = all_in (map (labels_of state) (drop place sets)) (drop place x)
+
+  pub rest-start : (sets x : List ℕ) → length x ≡ length sets → length x ≤ 10 → has (elements state sets) x ≡ rest_in sets x 0
+  rest-start sets x same few =
+      ap (λ those. has those x) (elements-few state sets (omega arith)) ∙ has-product (map (labels_of state) sets) x
+
+  pub rest-more : (sets x : List ℕ) (place : ℕ) (found : Bool) → place < length sets → place < length x → IsSimple state (get_or sets place 0) → found ≡ has (members_of state (get_or sets place 0)) (get_or x place 0 ∷ []) → rest_in sets x place ≡ (found && rest_in sets x (place + 1))
+  rest-more sets x place found l m simple is =
+      ap (λ s. all_in (map (labels_of state) s) (drop place x)) (drop_more sets place 0 l)
+      ∙ ap (λ y. all_in (labels_of state (get_or sets place 0) ∷ map (labels_of state) (drop (place + 1) sets)) y) (drop_more x place 0 m)
+      ∙ ap (λ b. b && rest_in sets x (place + 1)) (has-label (get_or sets place 0) (get_or x place 0) simple ∙ sym is)
+
+  pub rest-end : (sets x : List ℕ) (place : ℕ) → length sets ≤ place → length x ≤ place → rest_in sets x place ≡ true
+  rest-end sets x place all all_x =
+      ap (λ s. all_in (map (labels_of state) s) (drop place x)) (drop_all place sets all) ∙ ap (all_in []) (drop_all place x all_x)
+
+-- the members of a set of which so much is given
+pub members-arity : (content : Content) (n : ℕ) → ((t : List ℕ) → has (given_in content) t ≡ true → length t ≡ n) → (t : List ℕ) → has (members_in content) t ≡ true → length t ≡ n
+members-arity undeclared n given t there = absurd cc
+members-arity (alias_of base) n given t there = absurd cc
+members-arity (set_of members) n given t there = given t there
+members-arity (parameter_of entries) n given t there = absurd cc
+members-arity (variable_of type entries) n given t there = absurd cc
+members-arity (equation_of entries) n given t there = absurd cc
+members-arity (model_with model solver) n given t there = absurd cc

@@ -1,0 +1,17 @@
+use Rattle.std.proofs.Common.{◌≡◌, subst, take, IsOk}
+use Rattle.std.specs.List.{All}
+use Rattle.std.proofs.lemmas.List.{take_all}
+use Rattle.std.proofs.lemmas.List.Elements.{All-more, All-weaker}
+use Rattle.gms_store.specs.State.{State}
+use Rattle.gms_eval.specs.Bindings.{Pairs}
+use Rattle.gms_eval.specs.Walks.{label_answer}
+use Rattle.gms_eval.proofs.Entries.{plain-indices}
+use Rattle.gms_eval.proofs.leading.are_plain.Goals as goal
+
+pub loop-index-preserved : goal.loop-index-preserved
+loop-index-preserved g c =
+    All-more (λ index. (state : State) (binding : Pairs) → IsOk (label_answer g.F.ExactField.value g.F.ExactField.limit state binding index)) c.args.indices.now c.loop-index.index-index c.index-item.result c.loop-index-test.true c.loop-index.invariant (subst (λ index. (state : State) (binding : Pairs) → IsOk (label_answer g.F.ExactField.value g.F.ExactField.limit state binding index)) c.index-item.is (c.is_plain.ensures c.if-not-is_plain.false))
+
+pub returns : goal.returns
+returns g c =
+    λ _ state binding. plain-indices g.F.ExactField.value g.F.ExactField.limit state binding c.args.indices.now (All-weaker (λ index. (state : State) (binding : Pairs) → IsOk (label_answer g.F.ExactField.value g.F.ExactField.limit state binding index)) (λ index. IsOk (label_answer g.F.ExactField.value g.F.ExactField.limit state binding index)) (λ index ok. ok state binding) c.args.indices.now (subst (λ indices. All (λ index. (state : State) (binding : Pairs) → IsOk (label_answer g.F.ExactField.value g.F.ExactField.limit state binding index)) indices) (take_all c.loop-index.index-index c.args.indices.now c.loop-index-test.false) c.loop-index.invariant))

@@ -1,0 +1,377 @@
+//! The factor of a condition that leads a walk: a reference whose stored tuples are all at which the condition may hold.
+ghost use Rattle.std.specs.Prelude.{◌≡◌, ◌<◌, ℕ, Bool, ◌++◌, List, length, slice_index_or, true, None, Some, Ok, IfOk, IfSome, IsOk, IsTrue};
+ghost use Rattle.gms_ast.specs.TreeView.{tree_of};
+ghost use Rattle.gms_store.specs.State.{State};
+ghost use Rattle.gms_tuple.specs.TupleOrder.{begins_with};
+ghost use Rattle.gms_eval.specs.Bindings.{Pairs, label_of, controlled};
+ghost use Rattle.gms_eval.specs.Domain.{elements, those_where};
+ghost use Rattle.gms_eval.specs.Holds.{holds};
+ghost use Rattle.gms_eval.specs.Leading.{Condition, both, Leads, IsScan, picked, label_answers, tuple_answer, entry_holds, expression_holds, all_hold_in_turn, guards_hold};
+ghost use Rattle.gms_eval.specs.Walks.{those_of, IsCounted, label_answer};
+
+use crate::binding::Binding;
+use crate::elements::Elements;
+use crate::walk::{Walk, are_simple, gathered, listed};
+use gms_ast::{Expr, Index, Suffix};
+use gms_store::Store;
+use gms_tuple::{MOST_LABELS, Tuple};
+use gq_field::ExactField;
+use std::alloc::{AllocError, Global};
+
+/// The label of an index whose set stands for one outside, or that is a label itself.
+fn constant<F: ExactField>(index: &Index<F>, b: &Binding) -> Option<u32>
+    ensures { IfSome result (λ label. (state : State) (more : Pairs) →
+        label_answer F.value F.limit state (b.now ++ more) index.now ≡ Ok (Some label)) }
+{
+    match index {
+        Index::Label(label) => Some(*label),
+        Index::Set { name, lag } => match lag {
+            None => b.label(*name),
+            Some(_) => None,
+        },
+    }
+}
+
+/// The labels with which each tuple of some indices begins: those of the first indices that have one outside.
+fn prefix<F: ExactField>(
+    alloc: Global,
+    indices: &[Index<F>],
+    b: &Binding,
+) -> Result<Tuple, AllocError>
+    ensures { IfOk result (λ prefix. (state : State) (more : Pairs) (tuple : List ℕ) →
+        tuple_answer F.value F.limit state indices.now (b.now ++ more) ≡ Ok (Some tuple) → begins_with tuple prefix ≡ true) }
+{
+    let mut prefix = Tuple::new(alloc);
+    for index in indices {
+        let Some(label) = constant(index, b) else {
+            return Ok(prefix);
+        };
+        if prefix.as_slice().len() >= MOST_LABELS {
+            return Ok(prefix);
+        }
+        prefix.push(alloc, label)?;
+    }
+    Ok(prefix)
+}
+
+/// Whether an index is this set, without a lag.
+fn is_set<F: ExactField>(index: &Index<F>, set: u32) -> bool
+    ensures { IsTrue result → (state : State) (binding : Pairs) →
+        label_answer F.value F.limit state binding index.now ≡ Ok (label_of binding set) }
+{
+    match index {
+        Index::Label(_) => false,
+        Index::Set { name, lag } => *name == set && lag.is_none(),
+    }
+}
+
+/// The place of the first index that is this set, without a lag.
+fn place_of<F: ExactField>(indices: &[Index<F>], set: u32) -> Option<usize>
+    ensures within { IfSome result (λ place. place < length indices.now) }
+    ensures label { IfSome result (λ place. (state : State) (binding : Pairs) →
+        slice_index_or (label_answers F.value F.limit state indices.now binding) place (Ok None) ≡ Ok (label_of binding set)) }
+{
+    for place in 0..indices.len() {
+        if is_set(&indices[place], set) {
+            return Some(place);
+        }
+    }
+    None
+}
+
+/// The place of the index that has the label of the set at `position` of a control; none where the set stands for a label
+/// outside or stands before that place too.
+fn place_at<F: ExactField>(
+    indices: &[Index<F>],
+    sets: &[u32],
+    position: usize,
+    b: &Binding,
+) -> Option<usize>
+    requires { position < length sets.now }
+    ensures { IfSome result (λ place. (state : State) (element tuple : List ℕ) → length element ≡ length sets.now →
+        tuple_answer F.value F.limit state indices.now (controlled b.now sets.now element) ≡ Ok (Some tuple) →
+        slice_index_or tuple place 0 ≡ slice_index_or element position 0) }
+{
+    let set = sets[position];
+    if b.label(set).is_some() || sets[..position].contains(&set) {
+        return None;
+    }
+    place_of(indices, set)
+}
+
+/// The place among indices of each set of a control, where each has one.
+fn places<F: ExactField>(
+    alloc: Global,
+    indices: &[Index<F>],
+    sets: &[u32],
+    b: &Binding,
+) -> Result<Option<Vec<usize>>, AllocError>
+    ensures few { IfOk result (λ places. IfSome places (λ places. length places.items ≡ length sets.now)) }
+    ensures picks { IfOk result (λ places. IfSome places (λ places.
+        (state : State) (element tuple : List ℕ) → length element ≡ length sets.now →
+        tuple_answer F.value F.limit state indices.now (controlled b.now sets.now element) ≡ Ok (Some tuple) →
+        picked places.items tuple ≡ element)) }
+{
+    let mut places = Vec::new(alloc);
+    for position in 0..sets.len() {
+        let Some(place) = place_at(indices, sets, position, b) else {
+            return Ok(None);
+        };
+        places.push(place)?;
+    }
+    Ok(Some(places))
+}
+
+/// Whether an index has no lag.
+fn is_plain<F: ExactField>(index: &Index<F>) -> bool
+    ensures { IsTrue result → (state : State) (binding : Pairs) →
+        IsOk (label_answer F.value F.limit state binding index.now) }
+{
+    match index {
+        Index::Label(_) => true,
+        Index::Set { lag, .. } => lag.is_none(),
+    }
+}
+
+/// Whether no index has a lag.
+fn are_plain<F: ExactField>(indices: &[Index<F>]) -> bool
+    ensures { IsTrue result → (state : State) (binding : Pairs) →
+        IsOk (tuple_answer F.value F.limit state indices.now binding) }
+{
+    for index in indices {
+        if !is_plain(index) {
+            return false;
+        }
+    }
+    true
+}
+
+/// The walk over the tuples of a reference, where they are fewer than `bound` and each set is one of its indices.
+fn walk_by<F: ExactField>(
+    alloc: Global,
+    store: &Store<F>,
+    sets: &[u32],
+    bound: usize,
+    name: u32,
+    indices: &[Index<F>],
+    b: &Binding,
+) -> Result<Option<Walk>, AllocError>
+    requires { (binding : Pairs) → IsOk (tuple_answer F.value F.limit store.now indices.now binding) }
+    ensures { IfOk result (λ walk. IfSome walk (λ walk.
+        Leads store.now b.now sets.now (entry_holds F.value F.limit store.now name indices.now) walk)) }
+{
+    let prefix = prefix(alloc, indices, b)?;
+    let (from, upto) = store.given(name).span(&prefix);
+    if upto - from >= bound || sets.len() > MOST_LABELS {
+        return Ok(None);
+    }
+    match places(alloc, indices, sets, b)? {
+        Some(places) => Ok(Some(Walk {
+            name,
+            from,
+            upto,
+            places,
+        })),
+        None => Ok(None),
+    }
+}
+
+/// What is known of a condition.
+#[derive(Drop)]
+pub(crate) struct Scan {
+    /// Whether it never has a fault.
+    pub safe: bool,
+    /// How many tuples a walk has at most to be shorter than this one.
+    pub bound: usize,
+    /// The walk that leads, where there is one.
+    pub walk: Option<Walk>,
+}
+
+impl Scan {
+    /// What is known of two conditions of which the second is taken where the first holds and never has a fault.
+    fn and(self, second: Scan) -> Scan
+        ensures { IsTrue self.safe → (state : State) (binding : Pairs) (sets : List ℕ) (one other : Condition) →
+            IsScan state binding sets one self → IsScan state binding sets other second →
+            IsScan state binding sets (λ b. both (one b) (other b)) result }
+    {
+        let Scan { safe, bound, walk } = second;
+        match walk {
+            Some(walk) => Scan {
+                safe,
+                bound,
+                walk: Some(walk),
+            },
+            None => Scan {
+                safe,
+                bound,
+                walk: self.walk,
+            },
+        }
+    }
+}
+
+/// What is known of a condition that is a reference without a suffix.
+fn scan_reference<F: ExactField>(
+    alloc: Global,
+    store: &Store<F>,
+    sets: &[u32],
+    bound: usize,
+    name: u32,
+    indices: &[Index<F>],
+    b: &Binding,
+) -> Result<Scan, AllocError>
+    ensures { IfOk result (λ scan.
+        IsScan store.now b.now sets.now (entry_holds F.value F.limit store.now name indices.now) scan) }
+{
+    if !are_plain(indices) {
+        return Ok(Scan {
+            safe: false,
+            bound,
+            walk: None,
+        });
+    }
+    match walk_by(alloc, store, sets, bound, name, indices, b)? {
+        Some(walk) => Ok(Scan {
+            safe: true,
+            bound: walk.upto - walk.from,
+            walk: Some(walk),
+        }),
+        None => Ok(Scan {
+            safe: true,
+            bound,
+            walk: None,
+        }),
+    }
+}
+
+/// What is known of a condition, with the shortest walk that leads.
+#[cycle(scan_condition)]
+fn scan_condition<F: ExactField>(
+    alloc: Global,
+    store: &Store<F>,
+    sets: &[u32],
+    bound: usize,
+    condition: &Expr<F>,
+    b: &Binding,
+) -> Result<Scan, AllocError>
+    ensures { IfOk result (λ scan.
+        IsScan store.now b.now sets.now (expression_holds F.value F.limit store.now condition.now) scan) }
+{
+    match condition {
+        Expr::Number(_) => Ok(Scan {
+            safe: true,
+            bound,
+            walk: None,
+        }),
+        Expr::Ref {
+            name,
+            suffix,
+            indices,
+            ..
+        } => match suffix {
+            Suffix::None => scan_reference(alloc, store, sets, bound, *name, indices, b),
+            _ => Ok(Scan {
+                safe: false,
+                bound,
+                walk: None,
+            }),
+        },
+        Expr::And(parts) => scan_parts(alloc, store, sets, bound, parts, b),
+        Expr::Guard { operand, guards } => {
+            let first = scan_guards(alloc, store, sets, bound, guards, b)?;
+            if !first.safe {
+                return Ok(first);
+            }
+            let second = scan_condition(alloc, store, sets, first.bound, operand, b)?;
+            Ok(first.and(second))
+        }
+        _ => Ok(Scan {
+            safe: false,
+            bound,
+            walk: None,
+        }),
+    }
+}
+
+/// What is known of conditions that are taken from the first to the last, up to one that does not hold.
+#[cycle(scan_condition)]
+fn scan_parts<F: ExactField>(
+    alloc: Global,
+    store: &Store<F>,
+    sets: &[u32],
+    bound: usize,
+    parts: &[Expr<F>],
+    b: &Binding,
+) -> Result<Scan, AllocError>
+    ensures { IfOk result (λ scan.
+        IsScan store.now b.now sets.now (all_hold_in_turn F.value F.limit store.now parts.now) scan) }
+{
+    let mut first = Scan {
+        safe: true,
+        bound,
+        walk: None,
+    };
+    for part in parts {
+        if !first.safe {
+            return Ok(first);
+        }
+        let second = scan_condition(alloc, store, sets, first.bound, part, b)?;
+        first = first.and(second);
+    }
+    Ok(first)
+}
+
+/// What is known of guards, which are taken from the last to the first, up to one that does not hold.
+#[cycle(scan_condition)]
+fn scan_guards<F: ExactField>(
+    alloc: Global,
+    store: &Store<F>,
+    sets: &[u32],
+    bound: usize,
+    guards: &[Expr<F>],
+    b: &Binding,
+) -> Result<Scan, AllocError>
+    ensures { IfOk result (λ scan.
+        IsScan store.now b.now sets.now (guards_hold F.value F.limit store.now guards.now) scan) }
+{
+    let mut first = Scan {
+        safe: true,
+        bound,
+        walk: None,
+    };
+    for place in (0..guards.len()).rev() {
+        if !first.safe {
+            return Ok(first);
+        }
+        let second = scan_condition(alloc, store, sets, first.bound, &guards[place], b)?;
+        first = first.and(second);
+    }
+    Ok(first)
+}
+
+/// The elements at which a condition is to be tested, for those of the product of sets at which it holds: all of the
+/// product, which are `size`, or those to which a walk comes that leads.
+pub(crate) fn candidates<F: ExactField>(
+    alloc: Global,
+    store: &Store<F>,
+    sets: &[u32],
+    size: usize,
+    condition: &Expr<F>,
+    b: &Binding,
+) -> Result<Elements, AllocError>
+    requires { size ≡ length (elements store.now sets.now) }
+    ensures value { IfOk result (λ among.
+        those_where (λ element. holds F.value F.limit store.now (controlled b.now sets.now element) (tree_of condition.now)) (those_of store.now sets.now among)
+        ≡ those_where (λ element. holds F.value F.limit store.now (controlled b.now sets.now element) (tree_of condition.now)) (elements store.now sets.now)) }
+    ensures counted { IfOk result (IsCounted store.now sets.now) }
+{
+    if !are_simple(store, sets) {
+        return Ok(Elements::Every(size));
+    }
+    let scan = scan_condition(alloc, store, sets, size, condition, b)?;
+    let Some(walk) = &scan.walk else {
+        return Ok(Elements::Every(size));
+    };
+    let found = gathered(alloc, store, sets, walk)?;
+    Ok(Elements::Those(listed(alloc, &found)?))
+}

@@ -1,0 +1,139 @@
+//! Walks over the stored tuples of a name, in place of the whole product of sets.
+ghost use Rattle.std.specs.Prelude.{◌≡◌, ◌≤◌, ℕ, ◌∷◌, [], ◌&&◌, List, length, slice_index, All, IfOk, IsTrue};
+ghost use Rattle.gms_tuple.specs.TupleOrder.{IsOrdered};
+ghost use Rattle.gms_tuple.specs.TupleSet.{has};
+ghost use Rattle.gms_store.specs.State.{given_of};
+ghost use Rattle.gms_eval.specs.Domain.{elements};
+ghost use Rattle.gms_eval.specs.Leading.{IsSimple, picked, walked};
+
+use gms_store::Store;
+use gms_tuple::{MOST_LABELS, Tuple, TupleSet};
+use gq_field::ExactField;
+use std::alloc::{AllocError, Global};
+
+/// A walk over stored tuples of a name, each of which has the labels of an element at some places.
+///
+/// In `sum((i,j)$s(j,i), w(i,j))` it goes over the tuples of `s`, and the labels of `i` and `j` are at the places 1 and 0.
+#[derive(Drop)]
+pub(crate) struct Walk {
+    /// The name.
+    pub name: u32,
+    /// The place of the first of its tuples.
+    pub from: usize,
+    /// The place behind the last of them.
+    pub upto: usize,
+    /// The place in a tuple of each label of an element.
+    pub places: Vec<usize>,
+}
+
+/// The label that a tuple has at a place, 0 where it has none.
+fn label_at(tuple: &Tuple, place: usize) -> u32
+    ensures { result ≡ slice_index tuple.now place }
+{
+    match tuple.as_slice().get(place) {
+        Some(label) => *label,
+        None => 0,
+    }
+}
+
+/// The labels that a tuple has at these places, 0 where it has none.
+fn picked(alloc: Global, tuple: &Tuple, places: &[usize]) -> Result<Tuple, AllocError>
+    requires { length places.now ≤ MOST_LABELS }
+    ensures { IfOk result (λ element. element ≡ picked places.now tuple.now) }
+{
+    let mut element = Tuple::new(alloc);
+    for place in places {
+        element.push(alloc, label_at(tuple, *place))?;
+    }
+    Ok(element)
+}
+
+/// Whether a set has one dimension.
+fn is_simple<F: ExactField>(store: &Store<F>, set: u32) -> bool
+    ensures { IsTrue result → IsSimple store.now set }
+{
+    let _members = store.members(set);
+    let _given = store.given(set);
+    store.domain_of(set).len() == 1
+}
+
+/// Whether each set has one dimension.
+pub(crate) fn are_simple<F: ExactField>(store: &Store<F>, sets: &[u32]) -> bool
+    ensures { IsTrue result → All (IsSimple store.now) sets.now }
+{
+    for set in sets {
+        if !is_simple(store, *set) {
+            return false;
+        }
+    }
+    true
+}
+
+/// Whether a set of one dimension has a label.
+fn has_label(alloc: Global, members: &TupleSet, label: u32) -> Result<bool, AllocError>
+    ensures { IfOk result (λ found. found ≡ has members.now (label ∷ [])) }
+{
+    let mut member = Tuple::new(alloc);
+    member.push(alloc, label)?;
+    Ok(members.contains(&member))
+}
+
+/// Whether a tuple is an element of the product of sets of one dimension.
+fn is_element<F: ExactField>(
+    alloc: Global,
+    store: &Store<F>,
+    sets: &[u32],
+    tuple: &Tuple,
+) -> Result<bool, AllocError>
+    requires { All (IsSimple store.now) sets.now }
+    ensures { IfOk result (λ found. found ≡ has (elements store.now sets.now) tuple.now) }
+{
+    let labels = tuple.as_slice();
+    if labels.len() != sets.len() {
+        return Ok(false);
+    }
+    for place in 0..sets.len() {
+        if !has_label(alloc, store.members(sets[place]), labels[place])? {
+            return Ok(false);
+        }
+    }
+    Ok(true)
+}
+
+/// The elements of the product of sets of one dimension to which a walk comes.
+pub(crate) fn gathered<F: ExactField>(
+    alloc: Global,
+    store: &Store<F>,
+    sets: &[u32],
+    walk: &Walk,
+) -> Result<TupleSet, AllocError>
+    requires simple { All (IsSimple store.now) sets.now }
+    requires few { length walk.now.places.items ≤ MOST_LABELS }
+    requires range { walk.now.from ≤ walk.now.upto }
+    requires within { walk.now.upto ≤ length (given_of store.now walk.now.name) }
+    ensures members { IfOk result (λ found.
+        (t : List ℕ) → has found t ≡ (has (walked store.now walk.now) t && has (elements store.now sets.now) t)) }
+    ensures ordered { IfOk result IsOrdered }
+{
+    let mut found = TupleSet::new(alloc);
+    let given = store.given(walk.name);
+    for place in walk.from..walk.upto {
+        let element = picked(alloc, given.get(place), walk.places.as_slice())?;
+        if !is_element(alloc, store, sets, &element)? {
+            continue;
+        }
+        found.insert(alloc, element)?;
+    }
+    Ok(found)
+}
+
+/// The members of a set of tuples, in order.
+pub(crate) fn listed(alloc: Global, tuples: &TupleSet) -> Result<Vec<Tuple>, AllocError>
+    ensures { IfOk result (λ list. list.items ≡ tuples.now) }
+{
+    let mut list = Vec::new(alloc);
+    for place in 0..tuples.len() {
+        list.push(tuples.get(place).copy(alloc)?)?;
+    }
+    Ok(list)
+}
