@@ -34,7 +34,8 @@ has_not-behind : (m : ℕ) (tuples : List (List ℕ)) → has (map (λ tuple. m 
 has_not-behind m [] = refl
 has_not-behind m (s ∷ tuples) = has_not-behind m tuples
 
-either-and : (a b c : Bool) → ((a && c) || (b && c)) ≡ ((a || b) && c)
+-- what is one of two and another is the other and one of them
+pub either-and : (a b c : Bool) → ((a && c) || (b && c)) ≡ ((a || b) && c)
 either-and true true true = refl
 either-and true true false = refl
 either-and true false true = refl

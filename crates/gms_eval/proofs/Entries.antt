@@ -1,6 +1,7 @@
 -- The labels of a reference's tuple, and that a walk over its stored tuples serves for it.
 use Rattle.std.proofs.Common.{◌≡◌, ℕ, ◌+◌, ◌-◌, ◌<◌, ◌≤◌, zero, suc, Bool, true, false, not, ◌&&◌, ◌||◌, List, [], ◌∷◌, ◌++◌, map, take, get_or, length, slice_range, slice_get, nat_le, nat_eq, pos, ◌==◌, Option, Some, None, option_map, Ok, Err, Box, IsOk, IfSome, is_some, if◌then◌else◌, refl, sym, ap, subst, ◌∙◌, eq-eqb, arith}
-use Rattle.std.specs.List.{All, list_any}
+use Rattle.std.specs.List.{All, list_any, flat_map}
+use Rattle.std.proofs.lemmas.List.Folds.{list_any-append}
 use Rattle.std.proofs.lemmas.List.Elements.{All-head, All-tail}
 use Rattle.std.specs.Ordering.{is_eq}
 use Rattle.std.specs.declared.cmp.Ordering.{Ordering}
@@ -23,9 +24,10 @@ use Rattle.gms_tuple.proofs.Members.{has-filter}
 use Rattle.gms_store.specs.State.{State, Content, undeclared, alias_of, set_of, parameter_of, variable_of, equation_of, model_with, symbol_of, given_of, value_of, value_in, is_given, same_number, differs_in}
 use Rattle.gms_eval.specs.Answers.{in_order, is_so, truth}
 use Rattle.gms_eval.specs.Bindings.{Pairs, label_of, paired, controlled}
+use Rattle.gms_eval.specs.Domain.{elements}
 use Rattle.gms_eval.specs.Faults.{Answer, nothing, ◌and_then◌}
 use Rattle.gms_eval.specs.References.{all_there, tuple_of, plain_value}
-use Rattle.gms_eval.specs.Leading.{picked, walked, plain_so, Leads, tuple_answer, entry_holds}
+use Rattle.gms_eval.specs.Leading.{walked, spread_over, plain_so, Leads, tuple_answer, entry_holds}
 use Rattle.gms_eval.specs.Walks.{label_answer}
 use Rattle.gms_eval.specs.declared.walk.Walk.{Walk}
 use Rattle.gms_eval.proofs.Scanning.{nothing_not_so}
@@ -229,48 +231,50 @@ so-differs state name t (model_with model solver) is so =
 
 -- ---- walks
 
-pub has-map : (f : List ℕ → List ℕ) (xs : List (List ℕ)) (t : List ℕ) → has xs t ≡ true → has (map f xs) (f t) ≡ true
-has-map f [] t e = absurd cc
-has-map f (x ∷ xs) t e = by (has-map f xs t) (same_tuple x t) refl e
+-- what one of them makes is among what all make
+pub has-flat_map : (f : List ℕ → List (List ℕ)) (xs : List (List ℕ)) (x t : List ℕ) → has xs x ≡ true → has (f x) t ≡ true → has (flat_map f xs) t ≡ true
+has-flat_map f [] x t e there = absurd cc
+has-flat_map f (y ∷ xs) x t e there =
+    list_any-append (λ member. same_tuple member t) (f y) (flat_map f xs) ∙ by (has-flat_map f xs x t) (same_tuple y x) refl e
   where
     or-true : (b : Bool) → (b || true) ≡ true
     or-true true = refl
     or-true false = refl
 
-    by : (has xs t ≡ true → has (map f xs) (f t) ≡ true) → (b : Bool) → same_tuple x t ≡ b → (b || has xs t) ≡ true → (same_tuple (f x) (f t) || has (map f xs) (f t)) ≡ true
+    by : (has xs x ≡ true → has (f x) t ≡ true → has (flat_map f xs) t ≡ true) → (b : Bool) → same_tuple y x ≡ b → (b || has xs x) ≡ true → (has (f y) t || has (flat_map f xs) t) ≡ true
     by rest true same _ =
-        ap (λ y. same_tuple (f y) (f t) || has (map f xs) (f t)) ((same_tuple-Decides x t).0 same)
-        ∙ ap (λ b. b || has (map f xs) (f t)) (same_tuple_refl (f t))
-    by rest false other later = ap (λ b. same_tuple (f x) (f t) || b) (rest later) ∙ or-true (same_tuple (f x) (f t))
+        ap (λ z. has (f z) t || has (flat_map f xs) t) ((same_tuple-Decides y x).0 same)
+        ∙ ap (λ b. b || has (flat_map f xs) t) there
+    by rest false other later = ap (λ b. has (f y) t || b) (rest later there) ∙ or-true (has (f y) t)
 
 module _ {F : Type 0} (v : F → Number) (limit : ℕ) (state : State) (b : Pairs) (sets : List ℕ) (name : ℕ) (indices : List (Index F)) where
-  -- a walk over the stored tuples that begin with the labels from outside, of which each gives the element of its labels
-  pub leads-by : (walk : Walk) (prefix : List ℕ) (given : List (List ℕ)) → walk.name ≡ name → given ≡ given_of state name → ((t : List ℕ) → has given t ≡ differs_in (symbol_of state name).content t) → walk.from ≤ walk.upto → walk.upto ≤ length given → slice_range given walk.from walk.upto ≡ those_with given prefix → length walk.places.items ≡ length sets → length sets ≤ 10 → ((binding : Pairs) → IsOk (tuple_answer v limit state indices binding)) → ((more : Pairs) (t : List ℕ) → tuple_answer v limit state indices (b ++ more) ≡ Ok (Some t) → begins_with t prefix ≡ true) → ((x t : List ℕ) → length x ≡ length sets → tuple_answer v limit state indices (controlled b sets x) ≡ Ok (Some t) → picked walk.places.items t ≡ x) → Leads state b sets (entry_holds v limit state name indices) walk
-  leads-by walk prefix given same_name same_given differs from_upto within range covers few ok begins picks =
+  -- a walk over the stored tuples that begin with the labels from outside, of which each gives the elements of its labels
+  pub leads-by : (walk : Walk) (prefix : List ℕ) (given : List (List ℕ)) → walk.name ≡ name → given ≡ given_of state name → ((t : List ℕ) → has given t ≡ differs_in (symbol_of state name).content t) → walk.from ≤ walk.upto → walk.upto ≤ length given → slice_range given walk.from walk.upto ≡ those_with given prefix → length walk.places.items ≡ length sets → length sets ≤ 10 → walk.spread ≡ length (elements state walk.free.items) → ((binding : Pairs) → IsOk (tuple_answer v limit state indices binding)) → ((more : Pairs) (t : List ℕ) → tuple_answer v limit state indices (b ++ more) ≡ Ok (Some t) → begins_with t prefix ≡ true) → ((x t : List ℕ) → has (elements state sets) x ≡ true → tuple_answer v limit state indices (controlled b sets x) ≡ Ok (Some t) → has (spread_over state walk.free.items walk.places.items t) x ≡ true) → Leads state b sets (entry_holds v limit state name indices) walk
+  leads-by walk prefix given same_name same_given differs from_upto within range covers few counted ok begins spreads =
       record {
         few = omega arith;
         range = from_upto;
         within = rw (same_name, ← same_given) within;
-        needed = λ x long out. by x long out (tuple_answer v limit state indices (controlled b sets x)) refl (ok (controlled b sets x));
+        counted = counted;
+        needed = λ x there out. by x there out (tuple_answer v limit state indices (controlled b sets x)) refl (ok (controlled b sets x));
       }
     where
-      stored : (x t : List ℕ) → length x ≡ length sets → tuple_answer v limit state indices (controlled b sets x) ≡ Ok (Some t) → is_so (plain_value state name (symbol_of state name).content t) ≡ true → has (walked state walk) x ≡ true
-      stored x t long e so =
+      stored : (x t : List ℕ) → has (elements state sets) x ≡ true → tuple_answer v limit state indices (controlled b sets x) ≡ Ok (Some t) → is_so (plain_value state name (symbol_of state name).content t) ≡ true → has (walked state walk) x ≡ true
+      stored x t there e so =
           let kept : has given t ≡ true = differs t ∙ so-differs state name t (symbol_of state name).content refl so in
           let first : begins_with t prefix ≡ true = begins (paired sets x) t e in
           let with_prefix : has (those_with given prefix) t ≡ true = has-filter (λ member. begins_with member prefix) given t ∙ ap (λ c. c && begins_with t prefix) kept ∙ first in
           let in_range : has (slice_range given walk.from walk.upto) t ≡ true = ap (λ ts. has ts t) range ∙ with_prefix in
           let at_walk : has (slice_range (given_of state walk.name) walk.from walk.upto) t ≡ true = ap (λ n. has (slice_range (given_of state n) walk.from walk.upto) t) same_name ∙ ap (λ ts. has (slice_range ts walk.from walk.upto) t) (sym same_given) ∙ in_range in
-          ap (has (walked state walk)) (sym (picks x t long e))
-          ∙ has-map (picked walk.places.items) (slice_range (given_of state walk.name) walk.from walk.upto) t at_walk
+          has-flat_map (spread_over state walk.free.items walk.places.items) (slice_range (given_of state walk.name) walk.from walk.upto) t x at_walk (spreads x t there e)
 
-      at_tuple : (x t : List ℕ) → length x ≡ length sets → tuple_answer v limit state indices (controlled b sets x) ≡ Ok (Some t) → has (walked state walk) x ≡ false → (so : Bool) → is_so (plain_value state name (symbol_of state name).content t) ≡ so → so ≡ false
-      at_tuple x t long e out true so = absurd (both_ways (has (walked state walk) x) out (stored x t long e so))
-      at_tuple x t long e out false so = refl
+      at_tuple : (x t : List ℕ) → has (elements state sets) x ≡ true → tuple_answer v limit state indices (controlled b sets x) ≡ Ok (Some t) → has (walked state walk) x ≡ false → (so : Bool) → is_so (plain_value state name (symbol_of state name).content t) ≡ so → so ≡ false
+      at_tuple x t there e out true so = absurd (both_ways (has (walked state walk) x) out (stored x t there e so))
+      at_tuple x t there e out false so = refl
 
-      by : (x : List ℕ) → length x ≡ length sets → has (walked state walk) x ≡ false → (a : Answer (Option (List ℕ))) → tuple_answer v limit state indices (controlled b sets x) ≡ a → IsOk a → (tuple_answer v limit state indices (controlled b sets x) and_then λ tuple. Ok (plain_so state name tuple)) ≡ Ok false
-      by x long out (Err fault) e ok = absurd cc
-      by x long out (Ok None) e ok = ap (λ a. a and_then λ tuple. Ok (plain_so state name tuple)) e ∙ ap Ok nothing_not_so
-      by x long out (Ok (Some t)) e ok =
+      by : (x : List ℕ) → has (elements state sets) x ≡ true → has (walked state walk) x ≡ false → (a : Answer (Option (List ℕ))) → tuple_answer v limit state indices (controlled b sets x) ≡ a → IsOk a → (tuple_answer v limit state indices (controlled b sets x) and_then λ tuple. Ok (plain_so state name tuple)) ≡ Ok false
+      by x there out (Err fault) e ok = absurd cc
+      by x there out (Ok None) e ok = ap (λ a. a and_then λ tuple. Ok (plain_so state name tuple)) e ∙ ap Ok nothing_not_so
+      by x there out (Ok (Some t)) e ok =
           ap (λ a. a and_then λ tuple. Ok (plain_so state name tuple)) e
-          ∙ ap Ok (at_tuple x t long e out (is_so (plain_value state name (symbol_of state name).content t)) refl)
+          ∙ ap Ok (at_tuple x t there e out (is_so (plain_value state name (symbol_of state name).content t)) refl)

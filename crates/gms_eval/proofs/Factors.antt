@@ -26,7 +26,7 @@ use Rattle.gms_eval.specs.Value.{when_so}
 use Rattle.gms_eval.specs.declared.leading.Scan.{Scan}
 use Rattle.gms_eval.proofs.NodeValues.{value-Ref}
 use Rattle.gms_eval.proofs.Scanning.{scan-follows, scan-And, scan-Guard, scan-Guard_unsafe}
-use Rattle.gms_eval.proofs.Simple.{elements-ordered, element-length}
+use Rattle.gms_eval.proofs.Simple.{elements-ordered}
 use Rattle.gms_eval.proofs.Thinning.{walk-thinned}
 
 module _ {F : Type 0} (v : F → Number) (limit : ℕ) (state : State) (binding : Pairs) (sets : List ℕ) where
@@ -66,7 +66,7 @@ module _ {F : Type 0} (v : F → Number) (limit : ℕ) (state : State) (binding 
   -- the elements to which a walk comes that leads are all at which the condition may hold
   pub led : (e : Expr F) (walk : Walk) (found : List (List ℕ)) → All (IsSimple state) sets → IsOrdered found → ((t : List ℕ) → has found t ≡ (has (walked state walk) t && has (elements state sets) t)) → Leads state binding sets (expression_holds v limit state e) walk → those_where (λ element. holds v limit state (controlled binding sets element) (tree_of e)) found ≡ those_where (λ element. holds v limit state (controlled binding sets element) (tree_of e)) (elements state sets)
   led e walk found simple ordered members leads =
-      walk-thinned (λ element. holds v limit state (controlled binding sets element) (tree_of e)) (elements state sets) found (elements-ordered state sets simple) ordered (λ t there. second (has (walked state walk) t) (has (elements state sets) t) (sym (members t) ∙ there)) (λ x there out. leads.needed x (element-length state sets x there) (first (has (walked state walk) x) (has (elements state sets) x) there (sym (members x) ∙ out)))
+      walk-thinned (λ element. holds v limit state (controlled binding sets element) (tree_of e)) (elements state sets) found (elements-ordered state sets simple) ordered (λ t there. second (has (walked state walk) t) (has (elements state sets) t) (sym (members t) ∙ there)) (λ x there out. leads.needed x there (first (has (walked state walk) x) (has (elements state sets) x) there (sym (members x) ∙ out)))
     where
       second : (a b : Bool) → (a && b) ≡ true → b ≡ true
       second true b e = e

@@ -56,7 +56,7 @@ module _ (state : State) (binding : Pairs) (sets : List ℕ) where
       walk-follows : (walk : Option Walk) → IfSome walk (λ w. Leads state binding sets one w) → IfSome walk (λ w. Leads state binding sets other w)
       walk-follows None l = l
       walk-follows (Some w) l =
-          record { few = l.few; range = l.range; within = l.within; needed = λ x long out. fails (controlled binding sets x) (l.needed x long out) }
+          record { few = l.few; range = l.range; within = l.within; counted = l.counted; needed = λ x long out. fails (controlled binding sets x) (l.needed x long out) }
 
   -- of a scan that has found a fault to be possible, only that the condition fails where the other does
   pub scan-unsafe : (one other : Condition) (scan : Scan) → scan.safe ≡ false → ((b : Pairs) → one b ≡ Ok false → other b ≡ Ok false) → IsScan state binding sets one scan → IsScan state binding sets other scan
@@ -69,7 +69,7 @@ module _ (state : State) (binding : Pairs) (sets : List ℕ) where
       walk-follows : (walk : Option Walk) → IfSome walk (λ w. Leads state binding sets one w) → IfSome walk (λ w. Leads state binding sets other w)
       walk-follows None l = l
       walk-follows (Some w) l =
-          record { few = l.few; range = l.range; within = l.within; needed = λ x long out. fails (controlled binding sets x) (l.needed x long out) }
+          record { few = l.few; range = l.range; within = l.within; counted = l.counted; needed = λ x long out. fails (controlled binding sets x) (l.needed x long out) }
 
   -- nothing is known of a condition without a walk that may have a fault
   pub scan-nothing : (one : Condition) (scan : Scan) → scan.safe ≡ false → scan.walk ≡ None → IsScan state binding sets one scan
@@ -93,7 +93,7 @@ module _ (state : State) (binding : Pairs) (sets : List ℕ) where
       let l : Leads state binding sets other walk = subst (λ w. IfSome w (λ w. Leads state binding sets other w)) has_walk later.leads in
       record {
         safe = λ so b. both-ok (one b) (other b) (known.safe sure b) (later.safe (sym same_safe ∙ so) b);
-        leads = subst (λ w. IfSome w (λ w. Leads state binding sets (λ b. both (one b) (other b)) w)) (sym same_walk) (record { few = l.few; range = l.range; within = l.within; needed = λ x long out. second-false (one (controlled binding sets x)) (other (controlled binding sets x)) (known.safe sure (controlled binding sets x)) (l.needed x long out) });
+        leads = subst (λ w. IfSome w (λ w. Leads state binding sets (λ b. both (one b) (other b)) w)) (sym same_walk) (record { few = l.few; range = l.range; within = l.within; counted = l.counted; needed = λ x long out. second-false (one (controlled binding sets x)) (other (controlled binding sets x)) (known.safe sure (controlled binding sets x)) (l.needed x long out) });
       }
 
   -- and else that of the first
@@ -107,7 +107,7 @@ module _ (state : State) (binding : Pairs) (sets : List ℕ) where
       walk-first : (walk : Option Walk) → IfSome walk (λ w. Leads state binding sets one w) → IfSome walk (λ w. Leads state binding sets (λ b. both (one b) (other b)) w)
       walk-first None l = l
       walk-first (Some w) l =
-          record { few = l.few; range = l.range; within = l.within; needed = λ x long out. first-false (one (controlled binding sets x)) (other (controlled binding sets x)) (l.needed x long out) }
+          record { few = l.few; range = l.range; within = l.within; counted = l.counted; needed = λ x long out. first-false (one (controlled binding sets x)) (other (controlled binding sets x)) (l.needed x long out) }
 
 -- ---- conditions in turn
 

@@ -1,5 +1,6 @@
 -- What the pieces of the code promise each other of walks over the stored tuples of a name, in place of a whole product of sets.
-use Rattle.std.specs.Prelude.{◌≡◌, ◌≤◌, ℕ, Bool, true, false, List, length, map, fold, slice_index, slice_range, Option, Some, None, Ok, IsOk, IsTrue, IfSome, if◌then◌else◌}
+use Rattle.std.specs.Prelude.{◌≡◌, ◌≤◌, ℕ, Bool, true, false, List, ◌++◌, length, map, fold, slice_index, slice_range, Option, Some, None, Ok, IsOk, IsTrue, IfSome, if◌then◌else◌}
+use Rattle.std.specs.List.{flat_map}
 use Rattle.gq_number.specs.Number.{Number}
 use Rattle.gms_ast.specs.declared.expression.Expr.{Expr}
 use Rattle.gms_ast.specs.declared.expression.Index.{Index}
@@ -9,6 +10,7 @@ use Rattle.gms_tuple.specs.TupleSet.{has}
 use Rattle.gms_store.specs.State.{State, symbol_of, members_of, given_of}
 use Rattle.gms_eval.specs.Answers.{is_so, in_order, each_holds}
 use Rattle.gms_eval.specs.Bindings.{Pairs, controlled}
+use Rattle.gms_eval.specs.Domain.{elements}
 use Rattle.gms_eval.specs.Faults.{Answer, nothing, ◌and_then◌}
 use Rattle.gms_eval.specs.Holds.{holds}
 use Rattle.gms_eval.specs.References.{tuple_of, plain_value}
@@ -30,9 +32,14 @@ IsSimple state set =
 abbrev pub picked : List ℕ → List ℕ → List ℕ
 picked places tuple = map (λ place. slice_index tuple place) places
 
+-- the elements whose labels are at these places of a tuple that an element of free sets follows
+abbrev pub spread_over : State → List ℕ → List ℕ → List ℕ → List (List ℕ)
+spread_over state free places tuple = map (λ rest. picked places (tuple ++ rest)) (elements state free)
+
 -- the elements that a walk comes to, in the order of the stored tuples
 abbrev pub walked : State → Walk → List (List ℕ)
-walked state walk = map (picked walk.places.items) (slice_range (given_of state walk.name) walk.from walk.upto)
+walked state walk =
+    flat_map (spread_over state walk.free.items walk.places.items) (slice_range (given_of state walk.name) walk.from walk.upto)
 
 -- ---- conditions
 
@@ -53,7 +60,8 @@ pub record Leads (state : State) (binding : Pairs) (sets : List ℕ) (condition 
   pub few : length walk.places.items ≤ 10
   pub range : walk.from ≤ walk.upto
   pub within : walk.upto ≤ length (given_of state walk.name)
-  pub needed : (element : List ℕ) → length element ≡ length sets → has (walked state walk) element ≡ false → condition (controlled binding sets element) ≡ Ok false
+  pub counted : walk.spread ≡ length (elements state walk.free.items)
+  pub needed : (element : List ℕ) → has (elements state sets) element ≡ true → has (walked state walk) element ≡ false → condition (controlled binding sets element) ≡ Ok false
 
 -- What is known of a condition: whether it never has a fault, and a walk that serves for it.
 pub record IsScan (state : State) (binding : Pairs) (sets : List ℕ) (condition : Condition) (scan : Scan) : Type 0 where

@@ -14,10 +14,10 @@ use gq_field::ExactField;
 use std::alloc::{AllocError, Global};
 
 /// How many elements the product of the sets of a domain may have.
-const MOST_ELEMENTS: u64 = 16_777_216;
+pub(crate) const MOST_ELEMENTS: u64 = 16_777_216;
 
 /// How many elements the product of sets has, or the greatest number of a `u64` where they pass it.
-fn count<F: ExactField>(store: &Store<F>, sets: &[u32]) -> u64
+pub(crate) fn count<F: ExactField>(store: &Store<F>, sets: &[u32]) -> u64
     ensures { result ≡ min (length (elements store.now sets.now)) 18446744073709551615 }
 {
     if sets.len() > MOST_LABELS {

@@ -1,16 +1,17 @@
 //! The factor of a condition that leads a walk: a reference whose stored tuples are all at which the condition may hold.
-ghost use Rattle.std.specs.Prelude.{◌≡◌, ◌<◌, ℕ, Bool, ◌++◌, List, length, slice_index_or, true, None, Some, Ok, IfOk, IfSome, IsOk, IsTrue};
+ghost use Rattle.std.specs.Prelude.{◌≡◌, ◌<◌, ◌≤◌, ℕ, Bool, ◌++◌, List, length, slice_index_or, true, None, Some, Ok, IfOk, IfSome, IsOk, IsTrue};
 ghost use Rattle.gms_ast.specs.TreeView.{tree_of};
 ghost use Rattle.gms_store.specs.State.{State};
 ghost use Rattle.gms_tuple.specs.TupleOrder.{begins_with};
+ghost use Rattle.gms_tuple.specs.TupleSet.{has};
 ghost use Rattle.gms_eval.specs.Bindings.{Pairs, label_of, controlled};
 ghost use Rattle.gms_eval.specs.Domain.{elements, those_where};
 ghost use Rattle.gms_eval.specs.Holds.{holds};
-ghost use Rattle.gms_eval.specs.Leading.{Condition, both, Leads, IsScan, picked, label_answers, tuple_answer, entry_holds, expression_holds, all_hold_in_turn, guards_hold};
+ghost use Rattle.gms_eval.specs.Leading.{Condition, both, Leads, IsScan, spread_over, label_answers, tuple_answer, entry_holds, expression_holds, all_hold_in_turn, guards_hold};
 ghost use Rattle.gms_eval.specs.Walks.{those_of, IsCounted, label_answer};
 
 use crate::binding::Binding;
-use crate::elements::Elements;
+use crate::elements::{Elements, MOST_ELEMENTS, count};
 use crate::walk::{Walk, are_simple, gathered, listed};
 use gms_ast::{Expr, Index, Suffix};
 use gms_store::Store;
@@ -88,7 +89,8 @@ fn place_at<F: ExactField>(
     b: &Binding,
 ) -> Option<usize>
     requires { position < length sets.now }
-    ensures { IfSome result (λ place. (state : State) (element tuple : List ℕ) → length element ≡ length sets.now →
+    ensures within { IfSome result (λ place. place < length indices.now) }
+    ensures label { IfSome result (λ place. (state : State) (element tuple : List ℕ) → length element ≡ length sets.now →
         tuple_answer F.value F.limit state indices.now (controlled b.now sets.now element) ≡ Ok (Some tuple) →
         slice_index_or tuple place 0 ≡ slice_index_or element position 0) }
 {
@@ -99,27 +101,41 @@ fn place_at<F: ExactField>(
     place_of(indices, set)
 }
 
-/// The place among indices of each set of a control, where each has one.
-fn places<F: ExactField>(
+/// Where the labels of an element of a control are: those that are labels of indices in the tuple of the indices, the
+/// others behind it.
+#[derive(Drop)]
+struct Cover {
+    /// The place of each label.
+    places: Vec<usize>,
+    /// The sets whose labels the indices do not have.
+    free: Vec<u32>,
+}
+
+/// Where the labels of an element of a control are, by the tuple of indices.
+fn covered<F: ExactField>(
     alloc: Global,
     indices: &[Index<F>],
     sets: &[u32],
     b: &Binding,
-) -> Result<Option<Vec<usize>>, AllocError>
-    ensures few { IfOk result (λ places. IfSome places (λ places. length places.items ≡ length sets.now)) }
-    ensures picks { IfOk result (λ places. IfSome places (λ places.
-        (state : State) (element tuple : List ℕ) → length element ≡ length sets.now →
+) -> Result<Cover, AllocError>
+    requires few { length indices.now ≤ MOST_LABELS }
+    requires few_sets { length sets.now ≤ MOST_LABELS }
+    ensures few { IfOk result (λ cover. length cover.places.items ≡ length sets.now) }
+    ensures spreads { IfOk result (λ cover. (state : State) (element tuple : List ℕ) → has (elements state sets.now) element ≡ true →
         tuple_answer F.value F.limit state indices.now (controlled b.now sets.now element) ≡ Ok (Some tuple) →
-        picked places.items tuple ≡ element)) }
+        has (spread_over state cover.free.items cover.places.items tuple) element ≡ true) }
 {
     let mut places = Vec::new(alloc);
+    let mut free = Vec::new(alloc);
     for position in 0..sets.len() {
-        let Some(place) = place_at(indices, sets, position, b) else {
-            return Ok(None);
-        };
-        places.push(place)?;
+        if let Some(place) = place_at(indices, sets, position, b) {
+            places.push(place)?;
+            continue;
+        }
+        places.push(indices.len() + free.len())?;
+        free.push(sets[position])?;
     }
-    Ok(Some(places))
+    Ok(Cover { places, free })
 }
 
 /// Whether an index has no lag.
@@ -146,7 +162,7 @@ fn are_plain<F: ExactField>(indices: &[Index<F>]) -> bool
     true
 }
 
-/// The walk over the tuples of a reference, where they are fewer than `bound` and each set is one of its indices.
+/// The walk over the tuples of a reference, where it comes to fewer than `bound` elements.
 fn walk_by<F: ExactField>(
     alloc: Global,
     store: &Store<F>,
@@ -160,20 +176,27 @@ fn walk_by<F: ExactField>(
     ensures { IfOk result (λ walk. IfSome walk (λ walk.
         Leads store.now b.now sets.now (entry_holds F.value F.limit store.now name indices.now) walk)) }
 {
-    let prefix = prefix(alloc, indices, b)?;
-    let (from, upto) = store.given(name).span(&prefix);
-    if upto - from >= bound || sets.len() > MOST_LABELS {
+    if indices.len() > MOST_LABELS || sets.len() > MOST_LABELS {
         return Ok(None);
     }
-    match places(alloc, indices, sets, b)? {
-        Some(places) => Ok(Some(Walk {
-            name,
-            from,
-            upto,
-            places,
-        })),
-        None => Ok(None),
+    let prefix = prefix(alloc, indices, b)?;
+    let (from, upto) = store.given(name).span(&prefix);
+    if upto - from >= bound {
+        return Ok(None);
     }
+    let Cover { places, free } = covered(alloc, indices, sets, b)?;
+    let spread = count(store, free.as_slice());
+    if spread > MOST_ELEMENTS || (upto - from).saturating_mul(spread as usize) >= bound {
+        return Ok(None);
+    }
+    Ok(Some(Walk {
+        name,
+        from,
+        upto,
+        free,
+        spread: spread as usize,
+        places,
+    }))
 }
 
 /// What is known of a condition.
@@ -233,7 +256,7 @@ fn scan_reference<F: ExactField>(
     match walk_by(alloc, store, sets, bound, name, indices, b)? {
         Some(walk) => Ok(Scan {
             safe: true,
-            bound: walk.upto - walk.from,
+            bound: (walk.upto - walk.from).saturating_mul(walk.spread),
             walk: Some(walk),
         }),
         None => Ok(Scan {
@@ -306,19 +329,19 @@ fn scan_parts<F: ExactField>(
     ensures { IfOk result (λ scan.
         IsScan store.now b.now sets.now (all_hold_in_turn F.value F.limit store.now parts.now) scan) }
 {
-    let mut first = Scan {
+    let mut known = Scan {
         safe: true,
         bound,
         walk: None,
     };
     for part in parts {
-        if !first.safe {
-            return Ok(first);
+        if !known.safe {
+            return Ok(known);
         }
-        let second = scan_condition(alloc, store, sets, first.bound, part, b)?;
-        first = first.and(second);
+        let second = scan_condition(alloc, store, sets, known.bound, part, b)?;
+        known = known.and(second);
     }
-    Ok(first)
+    Ok(known)
 }
 
 /// What is known of guards, which are taken from the last to the first, up to one that does not hold.

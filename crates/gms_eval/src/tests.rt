@@ -471,13 +471,13 @@ fn listed<F: ExactField>(
     sets: [u32; 2],
     condition: Expr<F>,
     b: &Binding,
-) -> u32 {
+) -> u64 {
     let those = domain_over(alloc, store, sets.as_slice(), Some(&condition), AT, b);
-    let mut listed: u32 = 0;
+    let mut listed: u64 = 0;
     if let Ok(those) = &those {
         for element in those.iter() {
             for label in element.as_slice() {
-                listed = listed.wrapping_mul(10).wrapping_add(*label);
+                listed = listed.wrapping_mul(10).wrapping_add(*label as u64);
             }
         }
     }
@@ -506,6 +506,12 @@ fn domains_by_the_tuples_of_a_factor(rt: HostRuntime) -> Result<(), Fail> {
     assert_eq!(rt;
         listed(alloc, &store, [BIG, T], pair(&rt, alloc), &none),
         11220
+    );
+    // c(t), over big and t
+    let condition = entry(&rt, alloc, C, None);
+    assert_eq!(rt;
+        listed(alloc, &store, [BIG, T], condition, &none),
+        10_211_122_122
     );
     // c(t) and s(t,big), then s(t,big) under the guard c(t)
     let mut parts = Vec::new(alloc);

@@ -1,19 +1,22 @@
 //! Walks over the stored tuples of a name, in place of the whole product of sets.
-ghost use Rattle.std.specs.Prelude.{◌≡◌, ◌≤◌, ℕ, ◌∷◌, [], ◌&&◌, List, length, slice_index, All, IfOk, IsTrue};
+ghost use Rattle.std.specs.Prelude.{◌≡◌, ◌≤◌, ℕ, ◌∷◌, [], ◌++◌, ◌&&◌, ◌||◌, List, length, slice_index, All, IfOk, IsTrue};
 ghost use Rattle.gms_tuple.specs.TupleOrder.{IsOrdered};
 ghost use Rattle.gms_tuple.specs.TupleSet.{has};
 ghost use Rattle.gms_store.specs.State.{given_of};
 ghost use Rattle.gms_eval.specs.Domain.{elements};
-ghost use Rattle.gms_eval.specs.Leading.{IsSimple, picked, walked};
+ghost use Rattle.gms_eval.specs.Leading.{IsSimple, picked, spread_over, walked};
 
+use crate::elements::element;
 use gms_store::Store;
 use gms_tuple::{MOST_LABELS, Tuple, TupleSet};
 use gq_field::ExactField;
 use std::alloc::{AllocError, Global};
 
-/// A walk over stored tuples of a name, each of which has the labels of an element at some places.
+/// A walk over stored tuples of a name. A label of an element is one of the tuple, or one of an element of sets of which
+/// the tuple says nothing.
 ///
-/// In `sum((i,j)$s(j,i), w(i,j))` it goes over the tuples of `s`, and the labels of `i` and `j` are at the places 1 and 0.
+/// In `sum((i,j,k)$s(j,i), w(i,k))` it goes over the tuples of `s`; the labels of `i` and `j` are at the places 1 and 0 of
+/// each, and that of `k` is at place 2, behind them.
 #[derive(Drop)]
 pub(crate) struct Walk {
     /// The name.
@@ -22,12 +25,16 @@ pub(crate) struct Walk {
     pub from: usize,
     /// The place behind the last of them.
     pub upto: usize,
-    /// The place in a tuple of each label of an element.
+    /// The sets of which the tuples say nothing.
+    pub free: Vec<u32>,
+    /// How many elements the product of these sets has.
+    pub spread: usize,
+    /// The place of each label of an element in a tuple that an element of these sets follows.
     pub places: Vec<usize>,
 }
 
 /// The label that a tuple has at a place, 0 where it has none.
-fn label_at(tuple: &Tuple, place: usize) -> u32
+fn label_in(tuple: &Tuple, place: usize) -> u32
     ensures { result ≡ slice_index tuple.now place }
 {
     match tuple.as_slice().get(place) {
@@ -36,14 +43,26 @@ fn label_at(tuple: &Tuple, place: usize) -> u32
     }
 }
 
-/// The labels that a tuple has at these places, 0 where it has none.
-fn picked(alloc: Global, tuple: &Tuple, places: &[usize]) -> Result<Tuple, AllocError>
+/// The label that a tuple has at a place, where another follows it; 0 where it has none.
+fn label_at(tuple: &Tuple, rest: &Tuple, place: usize) -> u32
+    ensures { result ≡ slice_index (tuple.now ++ rest.now) place }
+{
+    let count = tuple.as_slice().len();
+    if place < count {
+        label_in(tuple, place)
+    } else {
+        label_in(rest, place - count)
+    }
+}
+
+/// The labels that a tuple has at these places, where another follows it; 0 where it has none.
+fn picked(alloc: Global, tuple: &Tuple, rest: &Tuple, places: &[usize]) -> Result<Tuple, AllocError>
     requires { length places.now ≤ MOST_LABELS }
-    ensures { IfOk result (λ element. element ≡ picked places.now tuple.now) }
+    ensures { IfOk result (λ element. element ≡ picked places.now (tuple.now ++ rest.now)) }
 {
     let mut element = Tuple::new(alloc);
     for place in places {
-        element.push(alloc, label_at(tuple, *place))?;
+        element.push(alloc, label_at(tuple, rest, *place))?;
     }
     Ok(element)
 }
@@ -100,6 +119,35 @@ fn is_element<F: ExactField>(
     Ok(true)
 }
 
+/// Elements, and those of the product of sets of one dimension to which a walk comes at a tuple.
+fn spread<F: ExactField>(
+    alloc: Global,
+    store: &Store<F>,
+    sets: &[u32],
+    walk: &Walk,
+    tuple: &Tuple,
+    found: TupleSet,
+) -> Result<TupleSet, AllocError>
+    requires simple { All (IsSimple store.now) sets.now }
+    requires few { length walk.now.places.items ≤ MOST_LABELS }
+    requires counted { walk.now.spread ≡ length (elements store.now walk.now.free.items) }
+    requires ordered { IsOrdered found }
+    ensures members { IfOk result (λ more. (t : List ℕ) → has more t ≡
+        (has found t || (has (spread_over store.now walk.now.free.items walk.now.places.items tuple.now) t && has (elements store.now sets.now) t))) }
+    ensures ordered { IfOk result IsOrdered }
+{
+    let mut more = found;
+    for number in 0..walk.spread {
+        let rest = element(alloc, store, walk.free.as_slice(), walk.spread, number)?;
+        let element = picked(alloc, tuple, &rest, walk.places.as_slice())?;
+        if !is_element(alloc, store, sets, &element)? {
+            continue;
+        }
+        more.insert(alloc, element)?;
+    }
+    Ok(more)
+}
+
 /// The elements of the product of sets of one dimension to which a walk comes.
 pub(crate) fn gathered<F: ExactField>(
     alloc: Global,
@@ -111,6 +159,7 @@ pub(crate) fn gathered<F: ExactField>(
     requires few { length walk.now.places.items ≤ MOST_LABELS }
     requires range { walk.now.from ≤ walk.now.upto }
     requires within { walk.now.upto ≤ length (given_of store.now walk.now.name) }
+    requires counted { walk.now.spread ≡ length (elements store.now walk.now.free.items) }
     ensures members { IfOk result (λ found.
         (t : List ℕ) → has found t ≡ (has (walked store.now walk.now) t && has (elements store.now sets.now) t)) }
     ensures ordered { IfOk result IsOrdered }
@@ -118,11 +167,7 @@ pub(crate) fn gathered<F: ExactField>(
     let mut found = TupleSet::new(alloc);
     let given = store.given(walk.name);
     for place in walk.from..walk.upto {
-        let element = picked(alloc, given.get(place), walk.places.as_slice())?;
-        if !is_element(alloc, store, sets, &element)? {
-            continue;
-        }
-        found.insert(alloc, element)?;
+        found = spread(alloc, store, sets, walk, given.get(place), found)?;
     }
     Ok(found)
 }

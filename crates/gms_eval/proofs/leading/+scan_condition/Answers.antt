@@ -29,10 +29,10 @@ pub scan_guards-loop-place-preserved : goal.scan_guards-loop-place-preserved
 scan_guards-loop-place-preserved g t c =
     scan-guard g.F.ExactField.value g.F.ExactField.limit c.args.store.now c.args.b.now c.args.sets.now c.args.guards.now c.loop-place.place c.index-guards-place.result c.and-first.result (omega arith) (omega arith) c.index-guards-place.is (c.and-first.ensures (not-false c.loop-place.first.safe c.if-not-first.false) c.args.store.now c.args.b.now c.args.sets.now (guards_hold g.F.ExactField.value g.F.ExactField.limit c.args.store.now (drop c.loop-place.place c.args.guards.now)) (expression_holds g.F.ExactField.value g.F.ExactField.limit c.args.store.now c.index-guards-place.result) c.loop-place.invariant c.in_ok-second.ensures)
 
-pub scan_parts-returns-then-not-first : goal.scan_parts-returns-then-not-first
-scan_parts-returns-then-not-first g t c =
-    scan-parts_unsafe g.F.ExactField.value g.F.ExactField.limit c.args.store.now c.args.b.now c.args.sets.now c.args.parts.now c.loop-part.part-index c.loop-part.first (not-true c.loop-part.first.safe c.if-not-first.true) c.loop-part.invariant
+pub scan_parts-returns-then-not-known : goal.scan_parts-returns-then-not-known
+scan_parts-returns-then-not-known g t c =
+    scan-parts_unsafe g.F.ExactField.value g.F.ExactField.limit c.args.store.now c.args.b.now c.args.sets.now c.args.parts.now c.loop-part.part-index c.loop-part.known (not-true c.loop-part.known.safe c.if-not-known.true) c.loop-part.invariant
 
 pub scan_parts-loop-part-preserved : goal.scan_parts-loop-part-preserved
 scan_parts-loop-part-preserved g t c =
-    scan-part g.F.ExactField.value g.F.ExactField.limit c.args.store.now c.args.b.now c.args.sets.now c.args.parts.now c.loop-part.part-index c.part-item.result c.and-first.result c.loop-part-test.true c.part-item.is (c.and-first.ensures (not-false c.loop-part.first.safe c.if-not-first.false) c.args.store.now c.args.b.now c.args.sets.now (all_hold_in_turn g.F.ExactField.value g.F.ExactField.limit c.args.store.now (take c.loop-part.part-index c.args.parts.now)) (expression_holds g.F.ExactField.value g.F.ExactField.limit c.args.store.now c.part-item.result) c.loop-part.invariant c.in_ok-second.ensures)
+    scan-part g.F.ExactField.value g.F.ExactField.limit c.args.store.now c.args.b.now c.args.sets.now c.args.parts.now c.loop-part.part-index c.part-item.result c.and-known.result c.loop-part-test.true c.part-item.is (c.and-known.ensures (not-false c.loop-part.known.safe c.if-not-known.false) c.args.store.now c.args.b.now c.args.sets.now (all_hold_in_turn g.F.ExactField.value g.F.ExactField.limit c.args.store.now (take c.loop-part.part-index c.args.parts.now)) (expression_holds g.F.ExactField.value g.F.ExactField.limit c.args.store.now c.part-item.result) c.loop-part.invariant c.in_ok-second.ensures)
