@@ -1,0 +1,25 @@
+-- Texts of elements (GAMS User's Guide, "GAMS Output"). Names and labels are as they were first written.
+use Rattle.std.specs.Prelude.{ℕ, List, [], ◌∷◌, ◌++◌, map, slice_index_or, codes}
+
+-- the text of this number in a table
+abbrev pub text_of : List (List ℕ) → ℕ → List ℕ
+text_of table n = slice_index_or table n []
+
+-- texts with another between each and the next
+abbrev pub joined_by : List ℕ → List (List ℕ) → List ℕ
+joined_by between [] = []
+joined_by between (text ∷ []) = text
+joined_by between (text ∷ next ∷ texts) = text ++ between ++ joined_by between (next ∷ texts)
+
+-- the labels of a tuple with dots between them: `a.b`
+abbrev pub dotted_text : List (List ℕ) → List ℕ → List ℕ
+dotted_text labels t = joined_by (codes ".") (map (text_of labels) t)
+
+-- the labels of a tuple in parentheses, and nothing where there are none: `(a,b)`
+abbrev pub in_parentheses : List (List ℕ) → List ℕ → List ℕ
+in_parentheses labels [] = []
+in_parentheses labels (label ∷ t) = codes "(" ++ joined_by (codes ",") (map (text_of labels) (label ∷ t)) ++ codes ")"
+
+-- an element: `x` or `x(a,b)`
+abbrev pub element_text : List (List ℕ) → List (List ℕ) → ℕ → List ℕ → List ℕ
+element_text names labels name t = text_of names name ++ in_parentheses labels t

@@ -1,0 +1,59 @@
+//! Texts of elements.
+ghost use Rattle.std.specs.Prelude.{◌≡◌, ◌<◌, ◌++◌, All, length, map, IfOk, OnOk, string_bytes};
+ghost use Rattle.gms_fmt.specs.ElementTexts.{text_of, joined_by, element_text, dotted_text};
+
+use gms_labels::Labels;
+use gms_tuple::Tuple;
+use std::alloc::{AllocError, Global};
+
+/// Appends the labels of a tuple, with a text between each and the next.
+fn push_labels(
+    labels: &Labels,
+    t: &Tuple,
+    between: &str,
+    into: &mut String,
+) -> Result<(), AllocError>
+    requires { All (λ label. label < length labels.now) t.now }
+    ensures { OnOk result (string_bytes into.new ≡ string_bytes into.old ++ joined_by between.now (map (text_of labels.now) t.now)) }
+{
+    let mut first = true;
+    for label in t.as_slice() {
+        if !first {
+            into.push_str(between)?;
+        }
+        into.push_str(labels.text(*label))?;
+        first = false;
+    }
+    Ok(())
+}
+
+/// The text of an element: `x`, or with labels `x(a,b)`. Names and labels are as they were first written.
+pub fn element(
+    alloc: Global,
+    names: &Labels,
+    labels: &Labels,
+    name: u32,
+    t: &Tuple,
+) -> Result<String, AllocError>
+    requires name { name < length names.now }
+    requires labels { All (λ label. label < length labels.now) t.now }
+    ensures { IfOk result (λ text. string_bytes text ≡ element_text names.now labels.now name t.now) }
+{
+    let mut text = String::from_str(alloc, names.text(name))?;
+    if !t.as_slice().is_empty() {
+        text.push_str("(")?;
+        push_labels(labels, t, ",", &mut text)?;
+        text.push_str(")")?;
+    }
+    Ok(text)
+}
+
+/// The text of a tuple: its labels with dots between them, as `a.b`. Labels are as they were first written.
+pub fn dotted(alloc: Global, labels: &Labels, t: &Tuple) -> Result<String, AllocError>
+    requires { All (λ label. label < length labels.now) t.now }
+    ensures { IfOk result (λ text. string_bytes text ≡ dotted_text labels.now t.now) }
+{
+    let mut text = String::new(alloc);
+    push_labels(labels, t, ".", &mut text)?;
+    Ok(text)
+}

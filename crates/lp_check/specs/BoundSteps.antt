@@ -1,0 +1,129 @@
+-- The steps by which the dual bound is taken, in their order, each with whether it fits (Chvatal, "Linear Programming", chapters 5 and 9, for
+-- the bound). In which order they come is this project's own rule: first each column's reduced cost, row by row; then each row's part of the
+-- bound; then each column's part.
+use Rattle.std.specs.Prelude.{◌≡◌, ℕ, ◌+◌, ◌==◌, pos, Bool, true, false, List, [], ◌∷◌, ◌++◌, map, Option, Some, None, Result, Ok, Err, if◌then◌else◌}
+use Rattle.std.specs.List.{enumerate_from}
+use Rattle.std.specs.declared.cmp.Ordering.{Ordering}
+use Rattle.std.specs.declared.cmp.Ordering.TheVariants.{Less, Equal, Greater}
+use Rattle.gq_number.specs.Number.{Number, whole, ◌+ℚ◌, ◌-ℚ◌, ◌*ℚ◌}
+use Rattle.gq_number.specs.Order.{number_cmp}
+use Rattle.gq_field.specs.Fits.{sum_fits}
+use Rattle.lp_core.specs.declared.answer.StepName.{StepName}
+use Rattle.lp_core.specs.declared.answer.StepName.TheVariants.{Check}
+use Rattle.lp_core.specs.declared.program.Column.{Column}
+use Rattle.lp_core.specs.declared.program.Row.{Row}
+use Rattle.lp_core.specs.declared.program.Lp.{Lp}
+use Rattle.lp_core.specs.Feasible.{bound_value}
+use Rattle.lp_core.specs.DualBound.{row_lower, row_upper, objective_costs, no_costs, reduced_cost}
+use Rattle.lp_core.specs.DualBound as dual
+use Rattle.lp_core.specs.Steps.{Due, AllFit, FirstStop, product_fits, difference_fits, asks_nothing}
+
+-- a product, and its sum with a number; no step where there is no bound to multiply by
+abbrev pub plus_steps : ℕ → Number → Number → Option Number → List Bool
+plus_steps limit s factor None = []
+plus_steps limit s factor (Some bound) = product_fits limit factor bound ∷ sum_fits limit s (factor *ℚ bound) ∷ []
+
+-- the sum after these steps
+abbrev pub plus_product : Number → Number → Option Number → Number
+plus_product s factor None = s
+plus_product s factor (Some bound) = s +ℚ factor *ℚ bound
+
+-- a product, and a number less it; no step where there is no entry to multiply by
+abbrev pub less_steps : ℕ → Number → Number → Option Number → List Bool
+less_steps limit s factor None = []
+less_steps limit s factor (Some entry) = product_fits limit factor entry ∷ difference_fits limit s (factor *ℚ entry) ∷ []
+
+-- the difference after these steps
+abbrev pub less_product : Number → Number → Option Number → Number
+less_product s factor None = s
+less_product s factor (Some entry) = s -ℚ factor *ℚ entry
+
+-- the bound that a factor uses, by how it compares with 0: the first where it is above, the second where it is below, and none at 0
+abbrev pub bound_by_sign : Ordering → Option Number → Option Number → Option Number
+bound_by_sign Greater first second = first
+bound_by_sign Equal first second = None
+bound_by_sign Less first second = second
+
+abbrev pub bound_used : Number → Option Number → Option Number → Option Number
+bound_used factor first second = bound_by_sign (number_cmp factor (whole (pos 0))) first second
+
+-- the entry of a column, where there is one
+abbrev pub entry_of : {F : Type 0} → (F → Number) → List (ℕ × F) → ℕ → Option Number
+entry_of value [] j = None
+entry_of value (e ∷ entries) j = if e.0 == j then Some (value e.1) else entry_of value entries j
+
+-- the entry of a column in a row that asks something
+abbrev pub entry_in : {F : Type 0} → (F → Number) → ℕ → Row F → Option Number
+entry_in value j row = if asks_nothing row.sense then None else entry_of value row.entries j
+
+-- the bound of a row that its dual uses, for a bound from above or from below
+abbrev pub row_bound : {F : Type 0} → (F → Number) → Bool → Row F → Number → Option Number
+row_bound value true row y = bound_used y (row_upper row.sense (value row.right)) (row_lower row.sense (value row.right))
+row_bound value false row y = bound_used y (row_lower row.sense (value row.right)) (row_upper row.sense (value row.right))
+
+-- the bound of a column that its reduced cost uses
+abbrev pub column_bound : {F : Type 0} → (F → Number) → Bool → Column F → Number → Option Number
+column_bound value true column d = bound_used d (bound_value value column.upper) (bound_value value column.lower)
+column_bound value false column d = bound_used d (bound_value value column.lower) (bound_value value column.upper)
+
+-- the sum after the rows' parts
+abbrev pub rows_sum : {F : Type 0} → (F → Number) → Bool → Number → List (Row F) → List Number → Number
+rows_sum value above s [] duals = s
+rows_sum value above s (row ∷ rows) [] = s
+rows_sum value above s (row ∷ rows) (y ∷ duals) = rows_sum value above (plus_product s y (row_bound value above row y)) rows duals
+
+-- the sum after the columns' parts, by their reduced costs
+abbrev pub columns_sum : {F : Type 0} → (F → Number) → Bool → (ℕ → Number) → Number → ℕ → List (Column F) → Number
+columns_sum value above reduced s j [] = s
+columns_sum value above reduced s j (column ∷ columns) =
+    columns_sum value above reduced (plus_product s (reduced j) (column_bound value above column (reduced j))) (j + 1) columns
+
+module _ {F : Type 0} (value : F → Number) (limit : ℕ) where
+  -- the steps of the reduced cost of a column over these rows, each with its dual, where it stands at s
+  abbrev pub reduced_steps : ℕ → Number → List (Row F) → List Number → List Bool
+  reduced_steps j s [] duals = []
+  reduced_steps j s (row ∷ rows) [] = []
+  reduced_steps j s (row ∷ rows) (y ∷ duals) =
+      less_steps limit s y (entry_in value j row) ++ reduced_steps j (less_product s y (entry_in value j row)) rows duals
+
+  -- those of all columns, of which the first has place j
+  abbrev pub all_reduced_steps : (ℕ → Number) → List (Row F) → List Number → ℕ → List (Column F) → List Bool
+  all_reduced_steps costs rows duals j [] = []
+  all_reduced_steps costs rows duals j (column ∷ columns) =
+      reduced_steps j (costs j) rows duals ++ all_reduced_steps costs rows duals (j + 1) columns
+
+  -- the steps of the rows' parts, where the sum stands at s
+  abbrev pub rows_steps : Bool → Number → List (Row F) → List Number → List Bool
+  rows_steps above s [] duals = []
+  rows_steps above s (row ∷ rows) [] = []
+  rows_steps above s (row ∷ rows) (y ∷ duals) =
+      plus_steps limit s y (row_bound value above row y) ++ rows_steps above (plus_product s y (row_bound value above row y)) rows duals
+
+  -- the steps of the columns' parts, by the columns' reduced costs; the first column has place j
+  abbrev pub columns_steps : Bool → (ℕ → Number) → Number → ℕ → List (Column F) → List Bool
+  columns_steps above reduced s j [] = []
+  columns_steps above reduced s j (column ∷ columns) =
+      plus_steps limit s (reduced j) (column_bound value above column (reduced j))
+      ++ columns_steps above reduced (plus_product s (reduced j) (column_bound value above column (reduced j))) (j + 1) columns
+
+  -- all steps of the bound
+  abbrev pub steps_of_bound : Bool → (ℕ → Number) → Lp F → List Number → List Bool
+  steps_of_bound above costs lp duals =
+      all_reduced_steps costs lp.rows duals 0 lp.columns
+      ++ rows_steps above (whole (pos 0)) lp.rows duals
+      ++ columns_steps above (reduced_cost value lp costs duals) (rows_sum value above (whole (pos 0)) lp.rows duals) 0 lp.columns
+
+  -- the steps of the bound of the objective, or of 0, numbered from 0
+  abbrev pub bound_steps : Bool → Lp F → List Number → List Due
+  bound_steps true lp duals = map (λ (p : ℕ × Bool). (Check p.0, p.1)) (enumerate_from 0 (steps_of_bound lp.maximize (objective_costs lp) lp duals))
+  bound_steps false lp duals = map (λ (p : ℕ × Bool). (Check p.0, p.1)) (enumerate_from 0 (steps_of_bound false no_costs lp duals))
+
+-- the bound of the objective, or of 0, where each bound that is used is there
+abbrev pub bound_of : {F : Type 0} → (F → Number) → Bool → Lp F → List Number → Option Number
+bound_of value true lp duals = dual.dual_bound value lp duals
+bound_of value false lp duals = dual.low value lp no_costs duals
+
+-- where all these steps fit the answer is this number, and else it is the first step that does not
+abbrev pub Bounds : {F : Type 0} → (F → Number) → List Due → Option Number → Result F StepName → Type 0
+Bounds value steps number (Ok x) = AllFit steps × (number ≡ Some (value x))
+Bounds value steps number (Err step) = FirstStop steps step

@@ -1,0 +1,70 @@
+-- What the pieces of the code promise each other: a number on the way with how many steps were taken for it.
+use Rattle.std.specs.Prelude.{◌≡◌, ℕ, ◌+◌, ◌==◌, if◌then◌else◌, Bool, true, false, List, [], ◌∷◌, ◌++◌, length, pos, Option, Some, None, option_map, Result, Ok, Err}
+use Rattle.gq_number.specs.Number.{Number, whole}
+use Rattle.lp_core.specs.declared.answer.StepName.{StepName}
+use Rattle.lp_core.specs.declared.answer.StepName.TheVariants.{Check, Standard as StandardStep, Ratio, Exchange, Recover}
+use Rattle.lp_core.specs.declared.program.Row.{Row}
+use Rattle.lp_core.specs.declared.program.Column.{Column}
+use Rattle.lp_core.specs.declared.program.Lp.{Lp}
+use Rattle.lp_check.specs.BoundSteps.{less_product, entry_in, all_reduced_steps, rows_steps, rows_sum, columns_steps, columns_sum}
+use Rattle.lp_check.specs.declared.partial.Partial.{Partial}
+
+-- how many steps fit before the first that does not, if there is one
+abbrev pub first_unfit : List Bool → Option ℕ
+first_unfit [] = None
+first_unfit (true ∷ fits) = option_map (λ n. n + 1) (first_unfit fits)
+first_unfit (false ∷ fits) = Some 0
+
+-- the step is the first of these that does not fit, where so many were taken before them
+abbrev pub StopsAt : ℕ → List Bool → StepName → Type 0
+StopsAt taken fits (Check part) = (n : ℕ) × (first_unfit fits ≡ Some n) × (part ≡ taken + n)
+StopsAt taken fits (StandardStep row column part) = ⊥
+StopsAt taken fits (Ratio pivot row) = ⊥
+StopsAt taken fits (Exchange pivot row column part) = ⊥
+StopsAt taken fits (Recover what index entry part) = ⊥
+
+-- all these steps fit, and so many were taken with them
+abbrev pub Took : ℕ → List Bool → ℕ → Type 0
+Took before fits after = (first_unfit fits ≡ None) × (after ≡ before + length fits)
+
+-- from a number on the way these steps lead to another; or the first that does not fit is answered
+abbrev pub Reaches : {F : Type 0} → (F → Number) → ℕ → List Bool → Number → Result (Partial F) StepName → Type 0
+Reaches value taken fits number (Ok p) = Took taken fits p.taken × (value p.sum ≡ number)
+Reaches value taken fits number (Err step) = StopsAt taken fits step
+
+-- these steps are taken, or the first that does not fit is answered
+abbrev pub Takes : ℕ → List Bool → Result ℕ StepName → Type 0
+Takes taken fits (Ok after) = Took taken fits after
+Takes taken fits (Err step) = StopsAt taken fits step
+
+-- a reduced cost less the parts of these rows, each with its dual
+abbrev pub reduced_sum : {F : Type 0} → (F → Number) → ℕ → Number → List (Row F) → List Number → Number
+reduced_sum value j s [] duals = s
+reduced_sum value j s (row ∷ rows) [] = s
+reduced_sum value j s (row ∷ rows) (y ∷ duals) = reduced_sum value j (less_product s y (entry_in value j row)) rows duals
+
+-- the reduced costs of columns by their places, so taken
+abbrev pub reduced_costs : {F : Type 0} → (F → Number) → (ℕ → Number) → List (Row F) → List Number → ℕ → Number
+reduced_costs value costs rows duals j = reduced_sum value j (costs j) rows duals
+
+-- 1 at the objective, where there is one, and 0 elsewhere
+abbrev pub costs_of : Option ℕ → ℕ → Number
+costs_of None j = whole (pos 0)
+costs_of (Some objective) j = if objective == j then whole (pos 1) else whole (pos 0)
+
+-- whether the bound is one from above
+abbrev pub is_above : {F : Type 0} → Bool → Lp F → Bool
+is_above true lp = lp.maximize
+is_above false lp = false
+
+module _ {F : Type 0} (value : F → Number) (above : Bool) (costs : ℕ → Number) (rows : List (Row F)) (columns : List (Column F)) (duals : List Number) where
+  -- all steps as they are taken
+  abbrev pub steps_over : ℕ → List Bool
+  steps_over limit =
+      all_reduced_steps value limit costs rows duals 0 columns
+      ++ rows_steps value limit above (whole (pos 0)) rows duals
+      ++ columns_steps value limit above (reduced_costs value costs rows duals) (rows_sum value above (whole (pos 0)) rows duals) 0 columns
+
+  -- what they come to
+  abbrev pub sum_over : Number
+  sum_over = columns_sum value above (reduced_costs value costs rows duals) (rows_sum value above (whole (pos 0)) rows duals) 0 columns

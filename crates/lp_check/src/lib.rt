@@ -1,0 +1,11 @@
+//! The bound of a linear program's objective that dual values give.
+#![tactic(auto)]
+
+mod bound;
+mod columns;
+mod partial;
+mod rows;
+#[cfg(test)]
+mod tests;
+
+pub use bound::dual_bound;
