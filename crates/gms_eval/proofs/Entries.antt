@@ -1,5 +1,5 @@
 -- The labels of a reference's tuple, and that a walk over its stored tuples serves for it.
-use Rattle.std.proofs.Common.{◌≡◌, ℕ, ◌+◌, ◌-◌, ◌<◌, ◌≤◌, zero, suc, Bool, true, false, not, ◌&&◌, ◌||◌, List, [], ◌∷◌, ◌++◌, map, take, get_or, length, slice_range, slice_get, nat_le, nat_eq, pos, ◌==◌, Option, Some, None, option_map, Ok, Err, Box, IsOk, IfSome, is_some, if◌then◌else◌, refl, sym, ap, subst, ◌∙◌, eq-eqb, arith}
+use Rattle.std.proofs.Common.{◌≡◌, ℕ, ◌<◌, ◌≤◌, zero, suc, Bool, true, false, not, ◌&&◌, ◌||◌, List, [], ◌∷◌, ◌++◌, map, take, get_or, length, slice_range, nat_le, nat_eq, pos, ◌==◌, Option, Some, None, option_map, Ok, Err, Box, IsOk, IfSome, is_some, if◌then◌else◌, refl, sym, ap, subst, ◌∙◌, eq-eqb, arith}
 use Rattle.std.specs.List.{All, list_any, flat_map}
 use Rattle.std.proofs.lemmas.List.Folds.{list_any-append}
 use Rattle.std.proofs.lemmas.List.Elements.{All-head, All-tail}
@@ -7,7 +7,7 @@ use Rattle.std.specs.Ordering.{is_eq}
 use Rattle.std.specs.declared.cmp.Ordering.{Ordering}
 use Rattle.std.specs.declared.cmp.Ordering.TheVariants.{Less, Equal, Greater}
 use Rattle.std.proofs.lemmas.Bool.{both_ways, or_parts}
-use Rattle.std.proofs.lemmas.List.{get_or-map, length-map, take_at, length-take-le}
+use Rattle.std.proofs.lemmas.List.{get_or-map, length-map}
 use Rattle.gq_number.specs.Number.{Number, whole}
 use Rattle.gq_number.specs.Order.{number_cmp}
 use Rattle.gq_number.proofs.Compares.{number_cmp_decides}
@@ -21,7 +21,7 @@ use Rattle.gms_tuple.specs.TupleOrder.{same_tuple, begins_with}
 use Rattle.gms_tuple.specs.TupleSet.{has, those_with}
 use Rattle.gms_tuple.proofs.Ordered.{same_tuple-Decides, same_tuple_refl}
 use Rattle.gms_tuple.proofs.Members.{has-filter}
-use Rattle.gms_store.specs.State.{State, Content, undeclared, alias_of, set_of, parameter_of, variable_of, equation_of, model_with, symbol_of, given_of, value_of, value_in, is_given, same_number, differs_in}
+use Rattle.gms_store.specs.State.{State, Content, undeclared, alias_of, set_of, parameter_of, variable_of, equation_of, model_with, symbol_of, given_of, value_in, is_given, same_number, differs_in}
 use Rattle.gms_eval.specs.Answers.{in_order, is_so, truth}
 use Rattle.gms_eval.specs.Bindings.{Pairs, label_of, paired, controlled}
 use Rattle.gms_eval.specs.Domain.{elements}

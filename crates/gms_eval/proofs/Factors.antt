@@ -1,11 +1,10 @@
 -- What is known of a condition that is a number or a reference, and that a walk by a factor finds all elements.
-use Rattle.std.proofs.Common.{◌≡◌, ℕ, Bool, true, false, ◌&&◌, List, map, Option, Some, None, Ok, Err, Result, Vec, Box, IsOk, IfOk, is_ok, refl, sym, ap, subst, ◌∙◌}
+use Rattle.std.proofs.Common.{◌≡◌, ℕ, Bool, true, false, ◌&&◌, List, Option, Some, None, Ok, Err, Result, Vec, Box, IfOk, is_ok, refl, sym, ap, subst, ◌∙◌}
 use Rattle.std.specs.declared.alloc.Global.{Global}
 use Rattle.std.proofs.lemmas.Result.{IfOk-weaker}
 use Rattle.std.specs.declared.alloc.AllocError.{AllocError}
 use Rattle.gms_labels.specs.declared.place.Place.{Place}
 use Rattle.gq_number.specs.Number.{Number}
-use Rattle.gq_extended.specs.Extended.{Extended}
 use Rattle.std.specs.List.{All}
 use Rattle.gms_ast.specs.TreeView.{tree_of}
 use Rattle.gms_ast.specs.declared.expression.Suffix.{Suffix}

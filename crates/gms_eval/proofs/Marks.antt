@@ -1,5 +1,5 @@
 -- The marks and the answers of the parts of each kind of chain.
-use Rattle.std.proofs.Common.{◌≡◌, ℕ, Bool, List, map, drop, Option, None, Ok, Err, unwrap_or, option_map, refl, sym, ap, ◌∙◌, Some}
+use Rattle.std.proofs.Common.{◌≡◌, ℕ, Bool, Option, None, Err, unwrap_or, option_map, refl, ap, ◌∙◌, Some}
 use Rattle.gms_labels.specs.declared.place.Place.{Place}
 use Rattle.gq_number.specs.Number.{Number}
 use Rattle.gq_extended.specs.Extended.{Extended}

@@ -1,5 +1,5 @@
 -- The place of a tuple in a set: one of the set's, where the set has it, and else none.
-use Rattle.std.proofs.Common.{◌≡◌, ℕ, ◌<◌, Bool, true, false, not, cond, ltb, List, length, Option, Some, None, refl, ap, ltb-true, arith}
+use Rattle.std.proofs.Common.{◌≡◌, ℕ, ◌<◌, true, false, cond, ltb, List, length, Some, None, refl, ap, ltb-true, arith}
 use Rattle.std.specs.List.{position_or_len}
 use Rattle.std.proofs.lemmas.Bool.{both_ways}
 use Rattle.gms_tuple.specs.TupleOrder.{same_tuple}

@@ -1,5 +1,5 @@
 -- What is known of a condition from what is known of its factors, which are taken one after another.
-use Rattle.std.proofs.Common.{◌≡◌, ℕ, ◌+◌, ◌-◌, ◌<◌, ◌≤◌, Bool, true, false, not, List, [], ◌∷◌, ◌++◌, map, fold, take, drop, get_or, length, Option, Some, None, Ok, Err, Result, Vec, Box, IsOk, IsTrue, IfSome, is_ok, if◌then◌else◌, refl, sym, ap, subst, ◌∙◌, arith}
+use Rattle.std.proofs.Common.{◌≡◌, ℕ, ◌+◌, ◌-◌, ◌<◌, ◌≤◌, Bool, true, false, not, List, [], ◌∷◌, ◌++◌, map, fold, take, drop, get_or, length, Option, Some, None, Ok, Err, Vec, Box, IsOk, IfSome, is_ok, if◌then◌else◌, refl, sym, ap, subst, ◌∙◌, arith}
 use Rattle.std.proofs.lemmas.List.{take_more, take_all, take-append-drop, at_drop_more}
 use Rattle.std.proofs.lemmas.List.Sums.{fold_push, fold-append}
 use Rattle.std.specs.declared.alloc.Global.{Global}
@@ -7,7 +7,6 @@ use Rattle.gq_number.specs.Number.{Number, whole}
 use Rattle.gq_extended.specs.Extended.{Extended}
 use Rattle.gms_ast.specs.declared.expression.Expr.{Expr, And, Guard}
 use Rattle.gms_ast.specs.Trees as tree
-use Rattle.gms_ast.specs.TreeView.{tree_of}
 use Rattle.gms_store.specs.State.{State}
 use Rattle.gms_eval.specs.Answers.{Marked, joined, chain, all_step, each_holds, is_so, truth}
 use Rattle.gms_eval.specs.Bindings.{Pairs, controlled}

@@ -1,16 +1,16 @@
 -- The values of leaves, the labels of indices and the domains of controls, by what they are made of.
-use Rattle.std.proofs.Common.{◌≡◌, ℕ, true, false, List, [], map, Option, Some, None, Ok, Box, length, refl, sym, ap, subst, ◌∙◌}
+use Rattle.std.proofs.Common.{◌≡◌, ℕ, true, false, List, map, Option, Some, None, Ok, Box, length, refl, sym, ap, subst, ◌∙◌}
 use Rattle.std.specs.declared.alloc.Global.{Global}
 use Rattle.gms_labels.specs.declared.place.Place.{Place}
 use Rattle.gq_number.specs.Number.{Number}
-use Rattle.gq_extended.specs.Extended.{Extended, number, plus_infinity, na}
+use Rattle.gq_extended.specs.Extended.{number, plus_infinity, na}
 use Rattle.gms_ast.specs.declared.expression.LagOp.{LagOp}
 use Rattle.gms_ast.specs.declared.expression.FoldOp.{FoldOp}
 use Rattle.gms_ast.specs.declared.expression.Expr.{Expr, Number as NumberNode, PlusInf, Na, Yes, No, Ord, Card, Fold}
 use Rattle.gms_ast.specs.declared.expression.Expr.TheOpen.{Expr-F, Index-F}
 use Rattle.gms_ast.specs.declared.expression.Expr.TheFolds.{fold-roll-Expr, fold-roll-Index, fold_out-Control}
 use Rattle.gms_ast.specs.declared.expression.Expr.TheVariants.{rolls-Number, rolls-PlusInf, rolls-Na, rolls-Yes, rolls-No, rolls-Ord, rolls-Card}
-use Rattle.gms_ast.specs.declared.expression.Index.{Index, Label, Set}
+use Rattle.gms_ast.specs.declared.expression.Index.{Label, Set}
 use Rattle.gms_ast.specs.declared.expression.Index.TheVariants.{rolls-Label, rolls-Set}
 use Rattle.gms_ast.specs.declared.expression.Control.{Control as ControlNode, out-Control}
 use Rattle.gms_ast.specs.Trees as tree
@@ -21,13 +21,13 @@ use Rattle.gms_eval.specs.declared.stop.StopOrMemory.{StopOrMemory}
 use Rattle.gms_eval.specs.Answers.{counted, folded, truth}
 use Rattle.gms_eval.specs.Bindings.{Pairs, label_of, controlled}
 use Rattle.gms_eval.specs.Domain.{elements, sized, those_where}
-use Rattle.gms_eval.specs.Faults.{Answer, ◌and_then◌}
+use Rattle.gms_eval.specs.Faults.{◌and_then◌}
 use Rattle.gms_eval.specs.Gives.{Stops}
 use Rattle.gms_eval.specs.Holds.{holds}
 use Rattle.gms_eval.specs.References.{place_in_set, reached}
 use Rattle.gms_eval.specs.Value.{value, domain, sets_of}
 use Rattle.gms_eval.specs.Walks.{those_of, IsCounted, first_label, label_answer}
-use Rattle.gms_eval.proofs.Answering.{stops-same, stops-then, then-value}
+use Rattle.gms_eval.proofs.Answering.{stops-then, then-value}
 use Rattle.gms_eval.proofs.NodeValues.{of_expr, value-Fold}
 
 -- ---- controls

@@ -1,14 +1,13 @@
 -- The elements of the product of sets of one dimension.
-use Rattle.std.proofs.Common.{◌≡◌, ℕ, ◌+◌, ◌<◌, ◌≤◌, Bool, true, false, not, ◌&&◌, ◌||◌, List, [], ◌∷◌, map, drop, ◌++◌, zero, suc, length, get_or, nat_eq, nat_le, append-nil, append_assoc, if◌then◌else◌, refl, sym, ap, ◌∙◌, arith, le-leb, leb-true}
+use Rattle.std.proofs.Common.{◌≡◌, ℕ, ◌+◌, ◌<◌, ◌≤◌, Bool, true, false, ◌&&◌, ◌||◌, List, [], ◌∷◌, map, drop, ◌++◌, zero, suc, length, get_or, nat_eq, nat_le, append-nil, append_assoc, if◌then◌else◌, refl, sym, ap, ◌∙◌, arith}
 use Rattle.std.specs.List.{All, list_any}
-use Rattle.std.proofs.lemmas.Bool.{or_parts}
 use Rattle.std.proofs.lemmas.List.{drop_more, drop_all, length-map, length_push, map_push, get_or_append_left, get_or-append-add}
 use Rattle.std.proofs.lemmas.List.Elements.{All-map, All-weaker}
 use Rattle.gms_tuple.specs.TupleOrder.{same_tuple, IsOrdered}
 use Rattle.gms_tuple.specs.TupleSet.{has}
 use Rattle.gms_tuple.specs.Products.{product}
 use Rattle.gms_tuple.proofs.Ordered.{same_tuple-Decides, same_tuple_refl, ordered-nil}
-use Rattle.gms_store.specs.State.{State, Content, undeclared, alias_of, set_of, parameter_of, variable_of, equation_of, model_with, members_in, members_of, given_in, symbol_of}
+use Rattle.gms_store.specs.State.{State, Content, undeclared, alias_of, set_of, parameter_of, variable_of, equation_of, model_with, members_in, members_of, given_in}
 use Rattle.gms_eval.specs.Domain.{elements, labels_of}
 use Rattle.gms_eval.specs.Lag.{label_in}
 use Rattle.gms_eval.specs.Leading.{IsSimple, picked, spread_over}

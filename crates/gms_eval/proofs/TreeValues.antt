@@ -1,7 +1,6 @@
 -- The answers of the parts and of the indices of a node of the program.
-use Rattle.std.proofs.Common.{◌≡◌, ℕ, List, [], ◌∷◌, map, Option, Some, None, Ok, refl, sym, ap, ◌∙◌}
+use Rattle.std.proofs.Common.{◌≡◌, ℕ, List, [], ◌∷◌, map, Some, None, refl, ap, ◌∙◌}
 use Rattle.gq_number.specs.Number.{Number}
-use Rattle.gq_extended.specs.Extended.{Extended}
 use Rattle.gms_ast.specs.declared.expression.Index.{Index}
 use Rattle.gms_ast.specs.declared.expression.Expr.TheOpen.{Index-F}
 use Rattle.gms_ast.specs.declared.expression.Expr.TheFolds.{fold_out-Index}
@@ -10,7 +9,6 @@ use Rattle.gms_ast.specs.TreeView.{parts_of, indices_of, tree_step, index_step, 
 use Rattle.gms_store.specs.State.{State}
 use Rattle.gms_eval.specs.Answers.{unmarked}
 use Rattle.gms_eval.specs.Bindings.{Pairs}
-use Rattle.gms_eval.specs.Faults.{Answer}
 use Rattle.gms_eval.specs.Value.{value, values, labels}
 use Rattle.gms_eval.specs.Walks.{first_label, label_answer}
 

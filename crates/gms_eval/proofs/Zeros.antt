@@ -1,5 +1,5 @@
 -- Whether a number is 0, as the step of a table tests it and as a field does.
-use Rattle.std.proofs.Common.{◌≡◌, ℕ, zero, suc, Bool, true, false, ◌↔◌, IsTrue, ◌==◌, ℤ, pos, negsuc, nat_abs, refl, sym, ap, ◌∙◌, eqb-true, arith}
+use Rattle.std.proofs.Common.{◌≡◌, zero, suc, Bool, true, false, ◌↔◌, IsTrue, ◌==◌, ℤ, pos, negsuc, nat_abs, refl, ap, ◌∙◌, eqb-true, arith}
 use Rattle.gq_number.specs.Number.{Number, whole}
 use Rattle.gq_number.proofs.Quotients.{zero_from_numerator}
 use Rattle.gq_extended.specs.Extended.{is_zero}

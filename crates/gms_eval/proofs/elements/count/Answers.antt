@@ -1,5 +1,4 @@
-use Rattle.std.proofs.Common.{◌≡◌, ◌∙◌, ap, sym, refl, ℕ, ◌*◌, ◌≤◌, map, min, length, get_or, lit≤, arith}
-use Rattle.gms_tuple.specs.Products.{product}
+use Rattle.std.proofs.Common.{◌∙◌, ap, sym, refl, ℕ, ◌*◌, min, length, get_or, lit≤, arith}
 use Rattle.gms_eval.specs.Domain.{labels_of}
 use Rattle.gms_eval.proofs.Sizes.{counted-start, counted-more, counted-end, elements-few, length-labels}
 use Rattle.gms_eval.proofs.elements.count.Goals as goal

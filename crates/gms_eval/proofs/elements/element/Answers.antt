@@ -1,9 +1,9 @@
-use Rattle.std.proofs.Common.{◌≡◌, ◌∙◌, ap, sym, refl, ℕ, ◌+◌, ◌/◌, ◌%◌, ◌<◌, List, [], ◌∷◌, ◌++◌, map, length, drop, get_or, arith}
+use Rattle.std.proofs.Common.{◌≡◌, ◌∙◌, ap, sym, ℕ, ◌+◌, ◌/◌, ◌%◌, List, [], ◌∷◌, ◌++◌, map, length, drop, get_or, arith}
 use Rattle.std.proofs.lemmas.List.{length_push}
 use Rattle.gms_tuple.specs.Products.{product}
 use Rattle.gms_eval.specs.Domain.{labels_of}
 use Rattle.gms_eval.specs.Lag.{label_in}
-use Rattle.gms_eval.proofs.Sizes.{IsMade, IsTurn, turn, made-start, made-more, made-as, made-here, made-last, made-end, elements-few, few-elements, length-labels}
+use Rattle.gms_eval.proofs.Sizes.{turn, made-start, made-more, made-as, made-here, made-last, made-end, elements-few, few-elements, length-labels}
 use Rattle.gms_eval.proofs.elements.element.Goals as goal
 
 pub loop-set-init : goal.loop-set-init

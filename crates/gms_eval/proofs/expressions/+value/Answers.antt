@@ -1,4 +1,4 @@
-use Rattle.std.proofs.Common.{◌≡◌, ◌∙◌, ap, sym, refl, rules, ℕ, ◌+◌, ◌-◌, ◌*◌, ◌<◌, ◌++◌, [], ◌∷◌, map, drop, take, length, get_or, Option, Some, None, option_map, unwrap_or, Ok, Err, true, false, not, if◌then◌else◌, arith}
+use Rattle.std.proofs.Common.{◌≡◌, ◌∙◌, ap, sym, refl, rules, ◌+◌, ◌-◌, ◌*◌, ◌<◌, [], map, drop, length, Some, option_map, Ok, Err, not, if◌then◌else◌, arith}
 use Rattle.gq_extended.specs.Meaning.{extended}
 use Rattle.gq_extended.specs.Extended.{negated}
 use denote.Param.Weighed.{most}
@@ -6,16 +6,15 @@ use Rattle.gms_ast.specs.declared.expression.Expr.{size-Expr}
 use Rattle.gms_ast.specs.declared.expression.Index.{Set, size-Index}
 use Rattle.gms_ast.specs.TreeView.{tree_of, control_tree}
 use Rattle.gms_ast.specs.Trees.{plain, signed, placed, related, chosen}
-use Rattle.gms_eval.specs.Answers.{chain, sum_step, product_step, power_step, relation_step, all_step, one_step, in_order, each_holds, folded, fold_step, called, counted, is_so, truth}
+use Rattle.gms_eval.specs.Answers.{chain, sum_step, product_step, power_step, relation_step, all_step, one_step, in_order, each_holds, fold_step, called, counted, is_so, truth}
 use Rattle.gms_eval.specs.Bindings.{controlled}
-use Rattle.gms_eval.specs.Domain.{elements, those_where}
+use Rattle.gms_eval.specs.Domain.{elements}
 use Rattle.gms_eval.specs.Faults.{nothing, faulted, ◌and_then◌}
 use Rattle.gms_eval.specs.Holds.{holds}
 use Rattle.gms_eval.specs.References.{tuple_of, entry_of}
 use Rattle.gms_eval.specs.Steps.{signed_step}
-use Rattle.gms_eval.specs.Value.{value, domain, sets_of}
-use Rattle.gms_eval.specs.Walks.{those_of, IsCounted, label_answer}
-use Rattle.gms_eval.specs.declared.elements.Elements.TheVariants.{Every}
+use Rattle.gms_eval.specs.Value.{value, domain}
+use Rattle.gms_eval.specs.Walks.{those_of, label_answer}
 use Rattle.gms_eval.specs.declared.stop.StopKind.TheVariants.{EmptyExtreme}
 use Rattle.std.proofs.lemmas.List.{map_push}
 use Rattle.gms_eval.proofs.Answering.{stops-same, stops-then, stops-along, handed_on, gives-same, then-value, going_on, going_on-start, going_on-more, going_on-fault, going_on-end}

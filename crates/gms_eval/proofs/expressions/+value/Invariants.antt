@@ -1,8 +1,8 @@
-use Rattle.std.proofs.Common.{◌≡◌, ◌++◌, map, drop, take, length, Option, option_map, None, Ok, Err, true}
+use Rattle.std.proofs.Common.{◌≡◌, map, drop, take, length, option_map, None, Ok, Err, true}
 use Rattle.gq_extended.specs.Meaning.{extended}
 use Rattle.gms_ast.specs.TreeView.{tree_of}
 use Rattle.gms_ast.specs.Trees.{plain}
-use Rattle.gms_eval.specs.Answers.{chain, power_step, relation_step, all_step, one_step, in_order, each_holds, folded, fold_step}
+use Rattle.gms_eval.specs.Answers.{power_step, relation_step, all_step, one_step, in_order, folded, fold_step}
 use Rattle.gms_eval.specs.Bindings.{controlled}
 use Rattle.gms_eval.specs.Domain.{those_where}
 use Rattle.gms_eval.specs.Faults.{nothing, faulted, ◌and_then◌}

@@ -1,4 +1,4 @@
-use Rattle.std.proofs.Common.{◌≡◌, ◌∙◌, ap, sym, refl, ◌+◌, map, drop}
+use Rattle.std.proofs.Common.{◌∙◌, ap, sym, refl, ◌+◌, map, drop}
 use Rattle.gq_extended.specs.Meaning.{extended}
 use Rattle.gq_extended.specs.ExtendedOrder.{lesser}
 use Rattle.gms_eval.specs.Answers.{extreme}

@@ -1,4 +1,4 @@
-use Rattle.std.proofs.Common.{◌≡◌, ◌∙◌, ap, ℕ, ℤ, pos, nat_abs, SFits, to_z, of_z, rules, arith}
+use Rattle.std.proofs.Common.{◌≡◌, ◌∙◌, ap, ℤ, pos, nat_abs, SFits, to_z, of_z, rules, arith}
 use Rattle.std.proofs.lemmas.Int.{ints, to_z-of_z}
 use Rattle.std.specs.Int.{int_rem_euclid}
 use mir.Syntax.{w128}

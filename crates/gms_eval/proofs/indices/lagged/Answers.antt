@@ -1,4 +1,4 @@
-use Rattle.std.proofs.Common.{◌≡◌, ap, sym, ◌∙◌, pos, Some, None, length, to_z, of_z}
+use Rattle.std.proofs.Common.{ap, sym, ◌∙◌, pos, Some, None, length, to_z, of_z}
 use Rattle.std.proofs.lemmas.Int.{to_z-of_z}
 use mir.Syntax.{w128}
 use Rattle.gms_eval.specs.Walks.{moved_place}

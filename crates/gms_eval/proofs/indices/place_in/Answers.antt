@@ -1,4 +1,4 @@
-use Rattle.std.proofs.Common.{◌≡◌, ap, sym, ◌∙◌, Some, [], ◌∷◌, ◌++◌}
+use Rattle.std.proofs.Common.{◌≡◌, ap, sym, ◌∙◌, [], ◌∷◌, ◌++◌}
 use Rattle.gms_tuple.specs.TupleSet.{place_of}
 use Rattle.gms_eval.proofs.Places.{place-below, place-none}
 use Rattle.gms_eval.proofs.indices.place_in.Goals as goal

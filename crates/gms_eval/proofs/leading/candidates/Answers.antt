@@ -1,4 +1,4 @@
-use Rattle.std.proofs.Common.{◌≡◌, ◌∙◌, ap}
+use Rattle.std.proofs.Common.{◌∙◌, ap}
 use Rattle.gms_ast.specs.TreeView.{tree_of}
 use Rattle.gms_eval.specs.Bindings.{controlled}
 use Rattle.gms_eval.specs.Domain.{those_where}

@@ -1,4 +1,4 @@
-use Rattle.std.proofs.Common.{◌≡◌, ◌∙◌, ap, sym, refl, ◌+◌, [], ◌∷◌, ◌++◌, length, take, get_or, arith}
+use Rattle.std.proofs.Common.{◌∙◌, ap, refl, ◌+◌, [], ◌∷◌, ◌++◌, length, take, get_or, arith}
 use Rattle.std.proofs.lemmas.List.{take_more, take_all, length_push}
 use Rattle.gms_eval.specs.Bindings.{controlled}
 use Rattle.gms_eval.proofs.Entries.{indices-length}

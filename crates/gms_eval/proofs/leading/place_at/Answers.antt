@@ -1,4 +1,4 @@
-use Rattle.std.proofs.Common.{◌≡◌, ◌∙◌, sym}
+use Rattle.std.proofs.Common.{◌∙◌, sym}
 use Rattle.gms_eval.proofs.Entries.{place-picks}
 use Rattle.gms_eval.proofs.leading.place_at.Goals as goal
 

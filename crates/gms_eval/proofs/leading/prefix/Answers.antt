@@ -1,4 +1,4 @@
-use Rattle.std.proofs.Common.{◌≡◌, ◌∙◌, ap, sym, ◌+◌, ◌∷◌, [], ◌++◌, length, take, arith}
+use Rattle.std.proofs.Common.{◌∙◌, ap, sym, ◌+◌, ◌∷◌, [], ◌++◌, length, take, arith}
 use Rattle.std.proofs.lemmas.List.{take_more, length_push}
 use Rattle.gms_eval.proofs.Entries.{index-label, indices-length}
 use Rattle.gms_eval.proofs.leading.prefix.Goals as goal

@@ -1,4 +1,4 @@
-use Rattle.std.proofs.Common.{◌≡◌, ◌∙◌, ap, refl, min, length, arith}
+use Rattle.std.proofs.Common.{◌∙◌, ap, refl, min, length, arith}
 use Rattle.gms_eval.specs.Domain.{elements}
 use Rattle.gms_eval.proofs.Entries.{leads-by}
 use Rattle.gms_eval.proofs.leading.walk_by.Goals as goal

@@ -1,4 +1,4 @@
-use Rattle.std.proofs.Common.{◌≡◌, ◌∙◌, ap, sym, ℕ, ◌&&◌, List, slice_get, arith}
+use Rattle.std.proofs.Common.{◌∙◌, ap, sym, ◌&&◌, slice_get, arith}
 use Rattle.std.specs.List.{flat_map}
 use Rattle.gms_tuple.specs.TupleSet.{has}
 use Rattle.gms_store.specs.State.{given_of}

@@ -1,4 +1,4 @@
-use Rattle.std.proofs.Common.{◌≡◌, ◌∙◌, ap, sym, ℕ, ◌+◌, ◌&&◌, List, [], ◌∷◌, length, get_or, arith}
+use Rattle.std.proofs.Common.{◌∙◌, ap, sym, ℕ, ◌+◌, ◌&&◌, [], ◌∷◌, length, get_or, arith}
 use Rattle.std.proofs.lemmas.List.Elements.{All-get_or}
 use Rattle.gms_tuple.specs.TupleSet.{has}
 use Rattle.gms_store.specs.State.{members_of}

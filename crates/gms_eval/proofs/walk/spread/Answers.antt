@@ -1,4 +1,4 @@
-use Rattle.std.proofs.Common.{◌≡◌, ◌∙◌, ap, sym, subst, ℕ, ◌+◌, ◌++◌, ◌||◌, ◌&&◌, List, [], ◌∷◌, map, take, get_or, length, arith}
+use Rattle.std.proofs.Common.{◌≡◌, ◌∙◌, ap, sym, ℕ, ◌+◌, ◌++◌, ◌||◌, ◌&&◌, List, [], ◌∷◌, map, take, get_or, arith}
 use Rattle.std.proofs.lemmas.List.{map_more, take_all}
 use Rattle.gms_tuple.specs.TupleSet.{has}
 use Rattle.gms_eval.specs.Domain.{elements}
