@@ -44,6 +44,7 @@ bound_by_sign Greater first second = first
 bound_by_sign Equal first second = None
 bound_by_sign Less first second = second
 
+-- the bound that a factor uses, of two
 abbrev pub bound_used : Number → Option Number → Option Number → Option Number
 bound_used factor first second = bound_by_sign (number_cmp factor (whole (pos 0))) first second
 
