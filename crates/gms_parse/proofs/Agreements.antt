@@ -1,0 +1,182 @@
+-- The tokens of an expression leave the same names, labels and parentheses, and have the same faults, whether they are looked at as those
+-- of an expression or as those of a program.
+use Rattle.std.proofs.Common.{◌≡◌, ℕ, ◌+◌, ◌-◌, ◌<◌, ◌≤◌, Bool, true, false, not, ◌&&◌, ◌||◌, ◌==◌, cond, List, [], ◌∷◌, ◌++◌, length, Option as Maybe, Some, None, is_some, ltb, ltb-true, ltb-false, refl, sym, ap, ap₂, ◌∙◌, subst, inl, inr, ◌⊎◌, arith}
+use Rattle.gms_labels.specs.Labels.{place_of, entered, IsFullFor}
+use Rattle.gms_lex.specs.declared.token.Token.{Token}
+use Rattle.gms_lex.specs.TokenTexts.{token_text}
+use Rattle.gms_grammar.specs.declared.terminal.Terminal.{Terminal}
+use Rattle.gms_grammar.specs.declared.terminal.Terminal.TheVariants.{Name, Suffix, Function, OrdCard, FoldOp, Infinity, NotAvailable, YesNo, Not, And, Or, RelationWord, Number, Text, Power, Relation, Circular, Sign, Star, Slash, Equals, LeftParen, RightParen, Comma, Dot, Dollar, Using, Display, Abort, Option, Table, Label, TableLine}
+use Rattle.gms_grammar.specs.Terminals.{is, is_among}
+use Rattle.gms_parse_x.specs.ExpressionTrees.{unquoted}
+use Rattle.gms_parse_x.specs.declared.fault.SyntaxError.{SyntaxError}
+use Rattle.gms_parse_x.specs.declared.fault.SyntaxError.TheVariants as syntax
+use Rattle.gms_parse_x.specs.Outcomes as inner
+use Rattle.gms_parse_x.proofs.TokenKinds.{implies, also}
+use Rattle.gms_parse.specs.declared.fault.SourceError.{SourceError}
+use Rattle.gms_parse.specs.declared.fault.SourceFault.{SourceFault}
+use Rattle.gms_parse.specs.Faults.{error_of_syntax}
+use Rattle.gms_parse.specs.Tables.{labels_of_lines}
+use Rattle.gms_parse.specs.Walks.{Seen, Walk, kind_ahead, last_kind, is_index, is_name, LacksRoom, all_entered, range_start, list_labels, lines_with, new_labels, walk_after, walk_behind, IsFaulty, deep, out_of_range, many_names, many_labels, in_table, without_lines, AreSound}
+use Rattle.gms_parse.specs.Readings.{Optionless, Tableless}
+use Rattle.std.proofs.lemmas.Bool.{not-true, eqb-true}
+use Rattle.gms_grammar.proofs.Basics.{not_true}
+use Rattle.gms_parse.proofs.TokenKinds.{same_kind, begins}
+use Rattle.gms_parse.proofs.Walks.{room_for_none}
+use Rattle.gms_parse.proofs.Alphabet.{AllPass}
+use Rattle.gms_parse.proofs.Depths.{TextsAbove}
+
+-- the kinds of the tokens of expressions
+abbrev pub is_inner : Terminal → Bool
+is_inner = is_among
+    (Name ∷ Suffix ∷ Function ∷ OrdCard ∷ FoldOp ∷ Infinity ∷ NotAvailable ∷ YesNo ∷ Not ∷ And ∷ Or ∷ RelationWord ∷ Number ∷ Text ∷ Power ∷ Relation ∷ Circular ∷ Sign ∷ Star ∷ Slash ∷ Equals ∷ LeftParen ∷ RightParen ∷ Comma ∷ Dot ∷ Dollar ∷ [])
+
+-- two walks agree
+pub record Agrees (w : Walk) (x : inner.Walk) : Type 0 where
+  pub open_count : w.open_count ≡ x.open_count
+  pub names : w.names ≡ x.names
+  pub labels : w.labels ≡ x.labels
+  pub dotted : is_among (Dot ∷ Using ∷ []) (last_kind w.before) ≡ x.dotted
+  pub optionless : Optionless w
+  pub tableless : Tableless w
+
+-- ---- one token
+
+dot_or_using : (kind : Terminal) → is_inner kind ≡ true → is_among (Dot ∷ Using ∷ []) kind ≡ is Dot kind
+dot_or_using Name h = refl
+dot_or_using Dot h = refl
+dot_or_using Using h = cc
+dot_or_using _ h = refl
+
+inner_keyword : (w : Walk) (source : List ℕ) (t : Seen) (ahead : Terminal) → is_inner t.0 ≡ true → ((walk_after source w t ahead).keyword ≡ w.keyword) × ((walk_after source w t ahead).level ≡ w.level)
+inner_keyword w source t ahead h = let b = begins_no t.0 h in (ap (λ c. cond c t.0 w.keyword) b, ap (λ c. cond c w.open_count w.level) b)
+  where
+    begins_no : (kind : Terminal) → is_inner kind ≡ true → begins kind ≡ false
+    begins_no kind h = not-true (begins kind) (also is_inner (λ k. not (begins k)) refl kind h)
+
+-- a name is one for both
+same_name : (w : Walk) (x : inner.Walk) (kind : Terminal) → Agrees w x → is_name w kind ≡ inner.is_name x kind
+same_name w x kind a = ap (λ b. is_among (Name ∷ Suffix ∷ []) kind && not b) (ap₂ (λ b c. b || c) a.dotted a.optionless ∙ or_false x.dotted)
+  where
+    or_false : (b : Bool) → (b || false) ≡ b
+    or_false true = refl
+    or_false false = refl
+
+-- a text that stands deep enough is an index
+deep_index : (w : Walk) (kind : Terminal) → (kind ≡ Text → w.level < w.open_count) → is_index w kind ≡ is Text kind
+deep_index w Text h = let l = h refl in ap not (ap (λ b. is_among (Display ∷ Abort ∷ []) w.keyword && b) (differ w.open_count w.level l) ∙ and_false _)
+  where
+    differ : (m n : ℕ) → n < m → (m == n) ≡ false
+    differ m n l = not_true (m == n) (λ e. let k = eqb-true m n e in omega (arith, l, k))
+
+    and_false : (b : Bool) → (b && false) ≡ false
+    and_false true = refl
+    and_false false = refl
+deep_index w _ h = refl
+
+-- the labels that a token of an expression enters
+same_new : (source : List ℕ) (w : Walk) (t : Seen) (ahead : Terminal) → is_inner t.0 ≡ true → (t.0 ≡ Text → w.level < w.open_count) → new_labels source w t ahead ≡ cond (is Text t.0) (unquoted (token_text source t.1) ∷ []) []
+same_new source w t ahead h d =
+    let lines : List (List ℕ) = labels_of_lines source (lines_with source w.before t) in
+    let listed : List (List ℕ) = list_labels source (range_start w.before) ahead t.1 in
+    ap (λ b. cond b (unquoted (token_text source t.1) ∷ []) (cond (is Label t.0) listed (cond (is TableLine t.0 && not (is TableLine ahead)) lines []))) (deep_index w t.0 d) ∙ others t.0 h (unquoted (token_text source t.1) ∷ []) listed lines (not (is TableLine ahead))
+  where
+    others : (kind : Terminal) → is_inner kind ≡ true → (text : List (List ℕ)) (a b : List (List ℕ)) (c : Bool) → cond (is Text kind) text (cond (is Label kind) a (cond (is TableLine kind && c) b [])) ≡ cond (is Text kind) text []
+    others Label h text a b c = cc
+    others TableLine h text a b c = cc
+    others _ h text a b c = refl
+
+-- ---- labels that are full
+
+-- one text finds no room, or none does
+lone : (labels : List (List ℕ)) (text : List ℕ) (before : List (List ℕ)) (other : List ℕ) (behind : List (List ℕ)) → text ∷ [] ≡ before ++ other ∷ behind → IsFullFor (all_entered labels before) other → IsFullFor labels text
+lone labels text [] other behind e f = let same : other ≡ text = cc in subst (λ (x : List ℕ). IsFullFor labels x) same f
+lone labels text (x ∷ []) other behind e f = cc
+lone labels text (x ∷ (y ∷ before)) other behind e f = cc
+
+pub full_of : (labels : List (List ℕ)) (text : List ℕ) → LacksRoom labels (text ∷ []) → IsFullFor labels text
+full_of labels text l = lone labels text l.before l.text l.behind l.parts l.full
+
+pub lacks_of : (labels : List (List ℕ)) (text : List ℕ) → IsFullFor labels text → LacksRoom labels (text ∷ [])
+lacks_of labels text f = record { before = []; text = text; behind = []; parts = refl; full = f }
+
+entered_by : (b : Bool) (labels : List (List ℕ)) (text : List ℕ) → all_entered labels (cond b (text ∷ []) []) ≡ cond b (entered labels text) labels
+entered_by true labels text = refl
+entered_by false labels text = refl
+
+module _ (limit : ℕ) (source : List ℕ) where
+  same_labels : (w : Walk) (x : inner.Walk) (t : Seen) (ahead : Terminal) → is_inner t.0 ≡ true → (t.0 ≡ Text → w.level < w.open_count) → Agrees w x →
+      (walk_after source w t ahead).labels ≡ (inner.walk_after source x t).labels
+  same_labels w x t ahead h d a =
+      ap (all_entered w.labels) (same_new source w t ahead h d) ∙ entered_by (is Text t.0) w.labels (unquoted (token_text source t.1)) ∙ ap (λ ls. cond (is Text t.0) (entered ls (unquoted (token_text source t.1))) ls) a.labels
+
+  -- a fault for one is one for the other
+  pub fault_inside : (w : Walk) (x : inner.Walk) (t : Seen) (ahead : Terminal) → is_inner t.0 ≡ true → (t.0 ≡ Text → w.level < w.open_count) → Agrees w x → (fault : SourceFault) → IsFaulty limit source w t ahead fault →
+      (error : SyntaxError) × inner.IsFaulty limit source x t error
+  fault_inside w x t ahead h d a fault (deep e k) = (syntax.Depth, inl (e, (let o = a.open_count in omega (arith, k, o)), refl))
+  fault_inside w x t ahead h d a fault (out_of_range e k) = (syntax.Number, inr (inl (e, refl, k)))
+  fault_inside w x t ahead h d a fault (many_names n k) =
+      (syntax.TooManyLabels, inr (inr (inl (sym (same_name w x t.0 a) ∙ n, refl, subst (λ (ns : List (List ℕ)). IsFullFor ns (token_text source t.1)) a.names k))))
+  fault_inside w x t ahead h d a fault (many_labels n k) = go (is Text t.0) refl
+    where
+      text : List ℕ
+      text = unquoted (token_text source t.1)
+
+      new_are : new_labels source w t ahead ≡ cond (is Text t.0) (text ∷ []) []
+      new_are = same_new source w t ahead h d
+
+      go : (b : Bool) → is Text t.0 ≡ b → (error : SyntaxError) × inner.IsFaulty limit source x t error
+      go true e =
+          let lacks : LacksRoom w.labels (text ∷ []) = subst (λ (ls : List (List ℕ)). LacksRoom w.labels ls) (new_are ∙ ap (λ b. cond b (text ∷ []) []) e) k in
+          (syntax.TooManyLabels, inr (inr (inr (sym (same_kind Text t.0 e), refl, subst (λ (ls : List (List ℕ)). IsFullFor ls text) a.labels (full_of w.labels text lacks)))))
+      go false e = absurd (room_for_none w.labels (new_labels source w t ahead) (new_are ∙ ap (λ b. cond b (text ∷ []) []) e) k)
+  fault_inside w x t ahead h d a fault (in_table e k f) = let n : is_inner t.0 ≡ false = ap is_inner e in cc
+  fault_inside w x t ahead h d a fault (without_lines e k f) = let n : is Table w.keyword ≡ true = ap (is Table) k in let m = a.tableless in cc
+
+  pub fault_outside : (w : Walk) (x : inner.Walk) (t : Seen) (ahead : Terminal) → is_inner t.0 ≡ true → (t.0 ≡ Text → w.level < w.open_count) → Agrees w x → (error : SyntaxError) → inner.IsFaulty limit source x t error →
+      IsFaulty limit source w t ahead (record { error = error_of_syntax error; at = t.1.at })
+  fault_outside w x t ahead h d a error (inl (e, k, told)) =
+      subst (λ (y : SyntaxError). IsFaulty limit source w t ahead (record { error = error_of_syntax y; at = t.1.at })) (sym told) (deep e (let o = a.open_count in omega (arith, k, o)))
+  fault_outside w x t ahead h d a error (inr (inl (e, told, k))) =
+      subst (λ (y : SyntaxError). IsFaulty limit source w t ahead (record { error = error_of_syntax y; at = t.1.at })) (sym told) (out_of_range e k)
+  fault_outside w x t ahead h d a error (inr (inr (inl (n, told, k)))) =
+      subst (λ (y : SyntaxError). IsFaulty limit source w t ahead (record { error = error_of_syntax y; at = t.1.at })) (sym told)
+      (many_names (same_name w x t.0 a ∙ n) (subst (λ (ns : List (List ℕ)). IsFullFor ns (token_text source t.1)) (sym a.names) k))
+  fault_outside w x t ahead h d a error (inr (inr (inr (e, told, k)))) =
+      let text : List ℕ = unquoted (token_text source t.1) in
+      let there : is Text t.0 ≡ true = ap (is Text) e in
+      let new_are : new_labels source w t ahead ≡ text ∷ [] = same_new source w t ahead h d ∙ ap (λ b. cond b (text ∷ []) []) there in
+      subst (λ (y : SyntaxError). IsFaulty limit source w t ahead (record { error = error_of_syntax y; at = t.1.at })) (sym told)
+      (many_labels (ap (is TableLine) e) (subst (λ (ls : List (List ℕ)). LacksRoom w.labels ls) (sym new_are) (lacks_of w.labels text (subst (λ (ls : List (List ℕ)). IsFullFor ls text) (sym a.labels) k))))
+
+  -- a sound token leaves walks that agree
+  agrees_on : (w : Walk) (x : inner.Walk) (t : Seen) (ahead : Terminal) → is_inner t.0 ≡ true → (t.0 ≡ Text → w.level < w.open_count) → Agrees w x →
+      Agrees (walk_after source w t ahead) (inner.walk_after source x t)
+  agrees_on w x t ahead h d a =
+      let k = inner_keyword w source t ahead h in
+      record {
+        open_count = ap (λ n. inner.open_after n t.0) a.open_count;
+        names = ap₂ (λ b ns. cond b (entered ns (token_text source t.1)) ns) (same_name w x t.0 a) a.names;
+        labels = same_labels w x t ahead h d a;
+        dotted = dot_or_using t.0 h;
+        optionless = ap (is Option) k.0 ∙ a.optionless;
+        tableless = ap (is Table) k.0 ∙ a.tableless;
+      }
+
+  -- tokens that are sound for one are so for the other, and leave walks that agree
+  pub record Agreed (w : Walk) (x : inner.Walk) (ts : List Seen) (ahead : Terminal) : Type 0 where
+    pub sound : AreSound limit source w ts ahead
+    pub agrees : Agrees (walk_behind source w ts ahead) (inner.walk_behind source x ts)
+    pub keyword : (walk_behind source w ts ahead).keyword ≡ w.keyword
+    pub level : (walk_behind source w ts ahead).level ≡ w.level
+
+  pub agree : (w : Walk) (x : inner.Walk) (ts : List Seen) (ahead : Terminal) → AllPass is_inner ts → TextsAbove w.level w.open_count ts → Agrees w x → inner.AreSound limit source x ts → Agreed w x ts ahead
+  agree w x [] ahead h d a s = record { sound = tt; agrees = a; keyword = refl; level = refl }
+  agree w x (t ∷ ts) ahead h d a s =
+      let k = inner_keyword w source t (kind_ahead ts ahead) h.0 in
+      let on = agree (walk_after source w t (kind_ahead ts ahead)) (inner.walk_after source x t) ts ahead h.1 (subst (λ (l : ℕ). TextsAbove l (inner.open_after w.open_count t.0) ts) (sym k.1) d.1) (agrees_on w x t (kind_ahead ts ahead) h.0 d.0 a) s.1 in
+      record {
+        sound = (λ fault f. let g = fault_inside w x t (kind_ahead ts ahead) h.0 d.0 a fault f in s.0 g.0 g.1, on.sound);
+        agrees = on.agrees;
+        keyword = on.keyword ∙ k.0;
+        level = on.level ∙ k.1;
+      }

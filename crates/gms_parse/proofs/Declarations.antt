@@ -1,0 +1,122 @@
+-- Statements that declare names.
+use Rattle.std.proofs.Common.{◌≡◌, ℕ, ◌+◌, ◌<◌, ◌≤◌, Bool, true, false, not, List, [], ◌∷◌, ◌++◌, map, refl, sym, ap, ap₂, ◌∙◌, subst, arith}
+use Rattle.std.proofs.lemmas.Bool.{not-true}
+use Rattle.gq_number.specs.Number.{Number as Rational}
+use Rattle.gms_ast.specs.declared.declaration.Decl.{Decl}
+use Rattle.gms_ast.specs.declared.declaration.DeclKind.{DeclKind}
+use Rattle.gms_ast.specs.declared.declaration.DeclKind.TheVariants as decl_kind
+use Rattle.gms_ast.specs.declared.program.Act.{Act as ActNode}
+use Rattle.gms_ast.specs.StatementTrees.{declares}
+use Rattle.gms_ast.specs.StatementView.{declared_in}
+use Rattle.gms_lex.specs.declared.token.Token.{Token}
+use Rattle.gms_lex.specs.TokenTexts.{token_text}
+use Rattle.gms_grammar.specs.declared.terminal.Terminal.{Terminal}
+use Rattle.gms_grammar.specs.declared.terminal.Terminal.TheVariants.{Set, Parameter, Scalar, Variable, Equation, VariableType, Option, Table, Dot, Using, Name, Suffix}
+use Rattle.gms_grammar.specs.Grammar.{the, ◌·◌, opt, leaf, pair, none, some, node}
+use Rattle.gms_grammar.specs.LookAhead.{may_begin}
+use Rattle.gms_grammar.specs.Reading.{leads}
+use Rattle.gms_grammar.specs.Terminals.{is, is_among}
+use Rattle.gms_grammar.specs.GamsGrammar.{Nonterminal, SetItems, ParameterItems, ScalarItems, PlainItems, VariableStatement, productions, token, name, items}
+use Rattle.gms_grammar.specs.GamsLookAhead.{look_ahead}
+use Rattle.gms_parse_x.proofs.TokenKinds.{implies, also, same_test}
+use Rattle.gms_parse_x.specs.ExpressionTrees.{second_in}
+use Rattle.gms_parse.specs.declared.declaration.Form.{Form}
+use Rattle.gms_parse.specs.declared.declaration.Form.TheVariants as form
+use Rattle.gms_parse.specs.declared.fault.SourceFaultOrMemory.{SourceFaultOrMemory}
+use Rattle.gms_parse.specs.declared.reader.Reader.{Reader}
+use Rattle.gms_parse.specs.declared.reader.Tables.{Tables}
+use Rattle.gms_parse.specs.Declarations.{items_in, variable_kind, variable_act}
+use Rattle.gms_parse.specs.Walks.{Seen, Walk}
+use Rattle.gms_parse.specs.Readings.{Derivation, GamsPart, Gives, Refuses, Sense, IsSense, IsGot, Holds, Has, Starts, Stays, Ends, Tableless, IsNext, seen_from}
+use Rattle.gms_parse.specs.Meanings.{IsDeclared, AreDeclared, IsDeclaration, IsVariableType, IsAct, item_part, items_part, item_meaning, act_view}
+use Rattle.gms_parse.proofs.TokenKinds.{begins, is_quiet, leads_alike}
+use Rattle.gms_parse.proofs.Steps.{gives_both, gives_the, gives_none, gives_some, refuses_the, refuses_first, refuses_second}
+use Rattle.gms_parse.proofs.Nexts.{past, led_next, gives_exact, begun_has, begun_starts, begun_keyword, quiet_holds, earlier}
+use Rattle.gms_parse.proofs.Itemized.{AreItems, items_meant}
+
+-- the items of each form
+pub items_production : (form : Form) → productions (items_part form) ≡ items (item_part form) (items_part form)
+items_production form.Set = refl
+items_production form.Parameter = refl
+items_production form.Scalar = refl
+items_production form.Plain = refl
+
+pub items_heads : (form : Form) (ts : List Seen) → leads productions look_ahead (the (items_part form)) ts ≡ leads productions look_ahead name ts
+items_heads form.Set ts = leads_alike (the SetItems) name ts refl refl (same_test (may_begin look_ahead (the SetItems)) (is_among (Name ∷ Suffix ∷ [])) refl)
+items_heads form.Parameter ts = leads_alike (the ParameterItems) name ts refl refl (same_test (may_begin look_ahead (the ParameterItems)) (is_among (Name ∷ Suffix ∷ [])) refl)
+items_heads form.Scalar ts = leads_alike (the ScalarItems) name ts refl refl (same_test (may_begin look_ahead (the ScalarItems)) (is_among (Name ∷ Suffix ∷ [])) refl)
+items_heads form.Plain ts = leads_alike (the PlainItems) name ts refl refl (same_test (may_begin look_ahead (the PlainItems)) (is_among (Name ∷ Suffix ∷ [])) refl)
+
+pub declared_got : {F : Type 0} (value : F → Rational) (form : Form) {limit : ℕ} {reader : Reader} {at next : ℕ} {new : Tables} {w : Walk} (xs all : List (Decl F)) → all ≡ xs → IsGot limit (AreItems (IsDeclared value reader.source.now form)) (Stays reader new w) (the (items_part form)) reader at new w xs next →
+    IsGot limit (AreDeclared value reader.source.now form) (Stays reader new w) (the (items_part form)) reader at new w all next
+declared_got value form {reader = reader} xs all same got = record {
+  tree = got.tree;
+  behind = got.behind;
+  gives = got.gives;
+  leaves = got.leaves;
+  means = λ sense s. ap (map (declared_in value)) same ∙ items_meant (IsDeclared value reader.source.now form) (declared_in value) (item_meaning form reader.source.now sense.names sense.labels sense.value) sense (λ tree x h. h) got.tree xs (got.means sense s);
+  further = got.further;
+}
+
+-- ---- keywords of declarations
+
+abbrev pub is_declaring : Terminal → Bool
+is_declaring = is_among (Set ∷ Parameter ∷ Scalar ∷ Variable ∷ Equation ∷ [])
+
+module _ (keyword : Terminal) {reader : Reader} {at behind : ℕ} {t : Token} {old : Tables} {w : Walk} (declaring : is_declaring keyword ≡ true) (h : Holds reader old w) (n : IsNext (is keyword) reader at t behind) where
+  pub keyword_starts : Starts reader old (past reader w keyword t behind)
+  keyword_starts = begun_starts reader w keyword t behind (also is_declaring is_quiet refl keyword declaring) (also is_declaring begins refl keyword declaring)
+      (not-true _ (also is_declaring (λ k. not (is Option k)) refl keyword declaring)) (not-true _ (also is_declaring (λ k. not (is_among (Dot ∷ Using ∷ []) k)) refl keyword declaring)) h
+
+  pub keyword_tableless : Tableless (past reader w keyword t behind)
+  keyword_tableless = ap (is Table) (begun_keyword reader w keyword t behind (also is_declaring begins refl keyword declaring)) ∙ not-true _ (also is_declaring (λ k. not (is Table k)) refl keyword declaring)
+
+  keyword_gives : {limit : ℕ} → Gives limit reader.source.now (token keyword) w (seen_from reader at) (leaf (keyword, t)) (past reader w keyword t behind) (seen_from reader behind)
+  keyword_gives = gives_exact {kind = keyword} n (also is_declaring is_quiet refl keyword declaring)
+
+  pub declaration_refused : {limit : ℕ} {p : GamsPart} {e : SourceFaultOrMemory} → Refuses limit reader.source.now p (past reader w keyword t behind) (seen_from reader behind) e → Refuses limit reader.source.now (token keyword · p) w (seen_from reader at) e
+  declaration_refused r = refuses_second keyword_gives r
+
+  pub declaration_got : {F : Type 0} (value : F → Rational) (kind : DeclKind) (form : Form) {limit : ℕ} {new : Tables} {xs : List (Decl F)} {next : ℕ} (act : ActNode F) → act_view value act ≡ declares kind (map (declared_in value) xs) →
+      IsGot limit (AreDeclared value reader.source.now form) (Stays reader new (past reader w keyword t behind)) (the (items_part form)) reader behind new (past reader w keyword t behind) xs next →
+      IsGot limit (IsDeclaration value reader.source.now kind form) (Ends reader new) (token keyword · the (items_part form)) reader at new w act next
+  declaration_got value kind form act shown got = record {
+    tree = pair (leaf (keyword, t)) got.tree;
+    behind = got.behind;
+    gives = gives_both keyword_gives got.gives;
+    leaves = record { holds = got.leaves.has.holds; tableless = ap (is Table) got.leaves.keyword ∙ keyword_tableless };
+    means = λ sense s. shown ∙ ap (declares kind) (got.means sense s);
+    further = (let a = n.further in let b = got.further in omega arith);
+  }
+
+-- ---- variables
+
+pub type_got : {limit : ℕ} {reader : Reader} {at behind : ℕ} {t : Token} {tables : Tables} {w : Walk} (kind : DeclKind) → IsNext (is VariableType) reader at t behind → kind ≡ variable_kind (token_text reader.source.now t) → Holds reader tables w →
+    IsGot limit (IsVariableType reader.source.now) (Holds reader tables) (opt (token VariableType)) reader at tables w kind behind
+type_got {reader = reader} {behind = behind} {t = t} {w = w} kind n told h = record {
+  tree = some (leaf (VariableType, t));
+  behind = past reader w VariableType t behind;
+  gives = gives_some (led_next n) (gives_exact {kind = VariableType} n refl);
+  leaves = quiet_holds reader w VariableType t behind refl h;
+  means = λ sense s. told;
+  further = (let g = n.further in omega arith);
+}
+
+pub type_none : {limit : ℕ} {reader : Reader} {at : ℕ} {tables : Tables} {w : Walk} → leads productions look_ahead (token VariableType) (seen_from reader at) ≡ false → Holds reader tables w →
+    IsGot limit (IsVariableType reader.source.now) (Holds reader tables) (opt (token VariableType)) reader at tables w decl_kind.Free at
+type_none {w = w} unled h = record { tree = none; behind = w; gives = gives_none unled; leaves = h; means = λ sense s. refl; further = omega arith }
+
+pub variables_got : {F : Type 0} (value : F → Rational) {limit : ℕ} {reader : Reader} {at middle next : ℕ} {old new : Tables} {w : Walk} {kind : DeclKind} {act : ActNode F} →
+    (k : IsGot limit (IsVariableType reader.source.now) (Holds reader old) (opt (token VariableType)) reader at old w kind middle) → IsGot limit (IsDeclaration value reader.source.now kind form.Plain) (Ends reader new) (token Variable · the PlainItems) reader middle new k.behind act next →
+    IsGot limit (IsAct value reader.source.now variable_act) (Ends reader new) (the VariableStatement) reader at new w act next
+variables_got value {reader = reader} k got = record {
+  tree = node (pair k.tree got.tree);
+  behind = got.behind;
+  gives = gives_the VariableStatement (gives_both k.gives got.gives);
+  leaves = got.leaves;
+  means = λ sense s. got.means sense s ∙ ap (λ kind. declares kind (items_in (item_meaning form.Plain reader.source.now sense.names sense.labels sense.value) (second_in got.tree))) (k.means sense (earlier got.gives k.leaves got.leaves.holds s));
+  further = (let a = k.further in let b = got.further in omega arith);
+}
+
+pub variables_refused : {limit : ℕ} {source : List ℕ} {w v : Walk} {ts between : List Seen} {a : Derivation} {e : SourceFaultOrMemory} → Gives limit source (opt (token VariableType)) w ts a v between → Refuses limit source (token Variable · the PlainItems) v between e → Refuses limit source (the VariableStatement) w ts e
+variables_refused g r = refuses_the VariableStatement (refuses_second g r)

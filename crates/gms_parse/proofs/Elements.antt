@@ -1,0 +1,187 @@
+-- Elements of lists: positions with ranges, joined by dots.
+use Rattle.std.proofs.Common.{◌≡◌, ℕ, ◌+◌, ◌-◌, ◌<◌, ◌≤◌, Bool, true, false, not, ◌&&◌, ◌||◌, cond, List, [], ◌∷◌, ◌++◌, length, map, refl, sym, ap, ap₂, ◌∙◌, subst, inl, inr, ◌⊎◌, arith, append_assoc}
+use Rattle.std.proofs.lemmas.List.{append-nil}
+use Rattle.gq_number.specs.Number.{Number, neg_ℚ}
+use Rattle.gms_lex.specs.declared.token.Token.{Token}
+use Rattle.gms_grammar.specs.declared.terminal.Terminal.{Terminal}
+use Rattle.gms_grammar.specs.declared.terminal.Terminal.TheVariants.{Label, Star, Comma, Dot, LeftParen, RightParen}
+use Rattle.gms_grammar.specs.Grammar.{the, one, ◌·◌, ◌∣◌, opt, many, leaf, pair, left, right, none, some, more, node, yield}
+use Rattle.gms_grammar.specs.LookAhead.{may_begin}
+use Rattle.gms_grammar.specs.Reading.{read, stuck, leads, Reads, taken, refused, entered, entered_stuck, both, first_stuck, second_stuck, in_left_stuck, in_neither, takes_left}
+use Rattle.gms_grammar.specs.Terminals.{is}
+use Rattle.gms_grammar.specs.GamsGrammar.{Range, RangeList, ElementPart, Element, productions, token, bracketed}
+use Rattle.gms_grammar.specs.GamsLookAhead.{look_ahead}
+use Rattle.gms_parse_x.specs.ExpressionTrees.{second_in}
+use Rattle.gms_parse_x.proofs.TokenKinds.{implies, same_test}
+use Rattle.gms_parse.specs.declared.data.Part.{Part as Position}
+use Rattle.gms_parse.specs.declared.data.Element.{Element as ElementNode}
+use Rattle.gms_parse.specs.declared.fault.SourceFaultOrMemory.{SourceFaultOrMemory}
+use Rattle.gms_parse.specs.declared.reader.Reader.{Reader}
+use Rattle.gms_parse.specs.declared.reader.Tables.{Tables}
+use Rattle.gms_parse.specs.DataLists.{listed_in, each_in, joined, any_true, labels_in_range, is_bad_range, labels_in_part, has_bad_range}
+use Rattle.gms_parse.specs.Walks.{Seen, Walk, ends_statement}
+use Rattle.gms_parse.specs.Readings.{Derivation, GamsPart, Gives, Refuses, Sense, IsSense, IsGot, Has, Stays, Starless, Tableless, IsNext, IsLacking, IsOpened, IsUnopened, seen_from, kind_of}
+use Rattle.gms_parse.specs.Meanings.{IsAdded, IsPart}
+use Rattle.gms_parse.proofs.TokenKinds.{unled_next, led_first, leads_alike, same_kind}
+use Rattle.gms_parse.proofs.Steps.{Within, within_second, within_then, within_again, gives_both, gives_the, gives_left, gives_right, gives_no_more, refuses_the, refuses_first, refuses_second, refuses_left, refuses_right, refuses_again, by_cause, stuck_as, wrong_as}
+use Rattle.gms_parse.proofs.Nexts.{past, exact, opened, led_next, leads_next, gives_exact, gives_open, gives_bracketed, refuses_inside, refuses_unclosed, open_has, close_stays, closes_on, plain_stays, stays_then, earlier, got_inside, refuses_unopened}
+
+-- the labels of ranges, and whether one of them is none
+abbrev pub labels_of : List ℕ → Sense → List Derivation → List ℕ
+labels_of source sense ranges = joined (map (labels_in_range source sense.labels sense.value neg_ℚ) ranges)
+
+abbrev pub bad_of : List ℕ → Sense → List Derivation → Bool
+bad_of source sense ranges = any_true (map (is_bad_range source sense.labels sense.value neg_ℚ) ranges)
+
+abbrev pub first_ranges : Derivation → List Derivation
+first_ranges tree = listed_in (λ range. range) tree
+
+abbrev pub other_ranges : Derivation → List Derivation
+other_ranges tree = each_in (λ other. second_in other) tree
+
+-- so many ranges were added to a position
+pub record Gathering (limit : ℕ) (reader : Reader) (start : ℕ) (w : Walk) (new : Tables) (part : Position) (at : ℕ) : Type 0 where
+  pub context : Derivation → Derivation
+  pub behind : Walk
+  pub within : Within limit reader.source.now (the Range · many (token Comma · the Range)) w (seen_from reader start) (many (token Comma · the Range)) behind (seen_from reader at) context
+  pub stays : Stays reader new w behind
+  pub labels : (sense : Sense) → IsSense new sense → (b : Derivation) → labels_of reader.source.now sense (first_ranges (context b)) ≡ part.labels.items ++ labels_of reader.source.now sense (other_ranges b)
+  pub bad : (sense : Sense) → IsSense new sense → (b : Derivation) → bad_of reader.source.now sense (first_ranges (context b)) ≡ (part.bad_range || bad_of reader.source.now sense (other_ranges b))
+  pub further : start ≤ at
+
+or_assoc : (a b c : Bool) → (a || (b || c)) ≡ ((a || b) || c)
+or_assoc true b c = refl
+or_assoc false b c = refl
+
+module _ {limit : ℕ} {reader : Reader} {start : ℕ} {w : Walk} where
+  pub gathering_start : (was : Position) {new : Tables} {part : Position} {at : ℕ} → was.labels.items ≡ [] → was.bad_range ≡ false → IsGot limit (λ sense tree x. IsAdded reader.source.now sense tree was x) (Stays reader new w) (the Range) reader start new w part at → Gathering limit reader start w new part at
+  gathering_start was {part = part} none_yet sound_yet got = record {
+    context = λ b. pair got.tree b;
+    behind = got.behind;
+    within = within_second got.gives;
+    stays = got.leaves;
+    labels = λ sense s b. ap (λ u. u ++ labels_of reader.source.now sense (other_ranges b)) (sym ((got.means sense s).0 ∙ ap (λ u. u ++ labels_in_range reader.source.now sense.labels sense.value neg_ℚ got.tree) none_yet));
+    bad = λ sense s b. ap (λ c. c || bad_of reader.source.now sense (other_ranges b)) (sym ((got.means sense s).1 ∙ ap (λ c. c || is_bad_range reader.source.now sense.labels sense.value neg_ℚ got.tree) sound_yet));
+    further = got.further;
+  }
+
+  module _ {new : Tables} {part : Position} {at : ℕ} (l : Gathering limit reader start w new part at) {t : Token} {behind : ℕ} (n : IsNext (is Comma) reader at t behind) where
+    pub comma_stays : Stays reader new w (past reader l.behind Comma t behind)
+    comma_stays = stays_then l.stays (plain_stays reader l.behind Comma t behind refl l.stays.has)
+
+    pub gathering_on : {newer : Tables} {now : Position} {after : ℕ} → IsGot limit (λ sense tree x. IsAdded reader.source.now sense tree part x) (Stays reader newer (past reader l.behind Comma t behind)) (the Range) reader behind newer (past reader l.behind Comma t behind) now after →
+        Gathering limit reader start w newer now after
+    gathering_on {newer} {now} got =
+        let g = gives_both (gives_exact {kind = Comma} n refl) got.gives in
+        record {
+          context = λ b. l.context (more (pair (leaf (Comma, t)) got.tree) b);
+          behind = got.behind;
+          within = within_then l.within (within_again (leads_next (the Range) n) g);
+          stays = stays_then comma_stays got.leaves;
+          labels = λ sense s b.
+              l.labels sense (earlier g l.stays.has.holds got.leaves.has.holds s) (more (pair (leaf (Comma, t)) got.tree) b)
+              ∙ sym (append_assoc part.labels.items (labels_in_range reader.source.now sense.labels sense.value neg_ℚ got.tree) (labels_of reader.source.now sense (other_ranges b)))
+              ∙ ap (λ u. u ++ labels_of reader.source.now sense (other_ranges b)) (sym (got.means sense s).0);
+          bad = λ sense s b.
+              l.bad sense (earlier g l.stays.has.holds got.leaves.has.holds s) (more (pair (leaf (Comma, t)) got.tree) b)
+              ∙ or_assoc part.bad_range (is_bad_range reader.source.now sense.labels sense.value neg_ℚ got.tree) (bad_of reader.source.now sense (other_ranges b))
+              ∙ ap (λ c. c || bad_of reader.source.now sense (other_ranges b)) (sym (got.means sense s).1);
+          further = (let a = l.further in let f = got.further in let g = n.further in omega arith);
+        }
+
+    pub gathering_refuses : {e : SourceFaultOrMemory} → Refuses limit reader.source.now (the Range) (past reader l.behind Comma t behind) (seen_from reader behind) e → Refuses limit reader.source.now (the RangeList) w (seen_from reader start) e
+    gathering_refuses r = refuses_the RangeList (l.within.refuses _ (refuses_again (leads_next (the Range) n) (refuses_second (gives_exact {kind = Comma} n refl) r)))
+
+-- ---- positions
+
+or_none : (b : Bool) → (b || false) ≡ b
+or_none true = refl
+or_none false = refl
+
+-- no parenthesis leads into a range
+no_paren : (ts : List Seen) → leads productions look_ahead (token LeftParen) ts ≡ false → leads productions look_ahead (bracketed (the RangeList)) ts ≡ false
+no_paren ts h = unled_next (is LeftParen) (the RangeList · token RightParen) ts h
+
+-- a label leads into a range
+leads_range : (ts : List Seen) → leads productions look_ahead (the Range) ts ≡ leads productions look_ahead (token Label) ts
+leads_range ts = leads_alike (the Range) (token Label) ts refl refl (same_test (may_begin look_ahead (the Range)) (is Label) refl)
+
+range_label : {ts rest : List Seen} {tree : Derivation} → Reads productions look_ahead (productions Range) ts (read tree rest) → leads productions look_ahead (token Label) ts ≡ true
+range_label (both (taken h) s) = h
+
+range_read : {ts rest : List Seen} {tree : Derivation} → Reads productions look_ahead (the Range) ts (read tree rest) → leads productions look_ahead (token Label) ts ≡ true
+range_read (entered r) = range_label r
+
+range_reads : {limit : ℕ} {source : List ℕ} {w v : Walk} {ts rest : List Seen} {tree : Derivation} → Gives limit source (the Range) w ts tree v rest → leads productions look_ahead (the Range) ts ≡ true
+range_reads {ts = ts} g = leads_range ts ∙ range_read g.reads
+
+-- a range alone
+pub lone_got : {limit : ℕ} {reader : Reader} {at next : ℕ} {new : Tables} {w : Walk} (was : Position) (part : Position) → was.labels.items ≡ [] → was.bad_range ≡ false → IsGot limit (λ sense tree x. IsAdded reader.source.now sense tree was x) (Stays reader new w) (the Range) reader at new w part next →
+    IsGot limit (IsPart reader.source.now) (Stays reader new w) (the ElementPart) reader at new w part next
+lone_got {reader = reader} was part none_yet sound_yet got = record {
+  tree = node (left got.tree);
+  behind = got.behind;
+  gives = gives_the ElementPart (gives_left (range_reads got.gives) got.gives);
+  leaves = got.leaves;
+  means = λ sense s.
+      ((got.means sense s).0 ∙ ap (λ u. u ++ labels_in_range reader.source.now sense.labels sense.value neg_ℚ got.tree) none_yet ∙ sym (append-nil (labels_in_range reader.source.now sense.labels sense.value neg_ℚ got.tree)),
+      (got.means sense s).1 ∙ ap (λ c. c || is_bad_range reader.source.now sense.labels sense.value neg_ℚ got.tree) sound_yet ∙ sym (or_none (is_bad_range reader.source.now sense.labels sense.value neg_ℚ got.tree)));
+  further = got.further;
+}
+
+-- it is refused
+pub lone_refused : {limit : ℕ} {source : List ℕ} {w : Walk} {ts : List Seen} {e : SourceFaultOrMemory} → leads productions look_ahead (token LeftParen) ts ≡ false → Refuses limit source (the Range) w ts e → Refuses limit source (the ElementPart) w ts e
+lone_refused {ts = ts} unled r = refuses_the ElementPart (by_cause r (λ fault s. stuck_as s (stuck_range (no_paren ts unled) s.reads)) (λ fault s. wrong_as s (takes_left s.takes)))
+  where
+    stuck_in : {p : GamsPart} {us front rest : List Seen} → leads productions look_ahead p us ≡ false → Reads productions look_ahead (productions Range) us (stuck front rest) → Reads productions look_ahead (the Range) us (stuck front rest) → Reads productions look_ahead (the Range ∣ p) us (stuck front rest)
+    stuck_in {us = us} k (first_stuck (refused h)) r = in_neither (leads_range us ∙ h) k
+    stuck_in {us = us} k (second_stuck (taken h) s) r = in_left_stuck (leads_range us ∙ h) r
+
+    stuck_range : {p : GamsPart} {us front rest : List Seen} → leads productions look_ahead p us ≡ false → Reads productions look_ahead (the Range) us (stuck front rest) → Reads productions look_ahead (the Range ∣ p) us (stuck front rest)
+    stuck_range k (entered_stuck r) = stuck_in k r (entered_stuck r)
+
+-- ranges in parentheses
+module _ {reader : Reader} {at start : ℕ} {inner : Reader} {old : Tables} {w : Walk} (o : IsOpened reader at inner start) (h : Has reader old w) where
+  led_in : leads productions look_ahead (bracketed (the RangeList)) (seen_from reader at) ≡ true
+  led_in = leads_next (the RangeList · token RightParen) o.next
+
+  unled_range : leads productions look_ahead (the Range) (seen_from reader at) ≡ false
+  unled_range = leads_range (seen_from reader at) ∙ ap (leads productions look_ahead (token Label)) (exact {kind = LeftParen} o.next)
+
+  pub part_refused : {limit : ℕ} {e : SourceFaultOrMemory} → Refuses limit reader.source.now (the RangeList) (opened w o) (seen_from reader start) e → Refuses limit reader.source.now (the ElementPart) w (seen_from reader at) e
+  part_refused r = refuses_the ElementPart (refuses_right unled_range led_in (refuses_inside o h r))
+
+  module _ {limit : ℕ} {new : Tables} {part : Position} {next : ℕ} (l : Gathering limit inner start (opened w o) new part next) (unled : leads productions look_ahead (token Comma) (seen_from inner next) ≡ false) where
+    listed_got : IsGot limit (λ sense tree (x : Position). (x.labels.items ≡ labels_of inner.source.now sense (first_ranges tree)) × (x.bad_range ≡ bad_of inner.source.now sense (first_ranges tree))) (Stays inner new (opened w o)) (the Range · many (token Comma · the Range)) inner start new (opened w o) part next
+    listed_got = record {
+      tree = l.context none;
+      behind = l.behind;
+      gives = l.within.gives none _ _ (gives_no_more (unled_next (is Comma) (the Range) (seen_from inner next) unled));
+      leaves = l.stays;
+      means = λ sense s. (sym (l.labels sense s none ∙ append-nil part.labels.items), sym (l.bad sense s none ∙ or_none part.bad_range));
+      further = l.further;
+    }
+
+    outer_got : IsGot limit (λ sense tree (x : Position). (x.labels.items ≡ labels_of reader.source.now sense (first_ranges tree)) × (x.bad_range ≡ bad_of reader.source.now sense (first_ranges tree))) (Stays inner new (opened w o)) (the Range · many (token Comma · the Range)) reader start new (opened w o) part next
+    outer_got = got_inside (λ (r : Reader) sense tree (x : Position). (x.labels.items ≡ labels_of r.source.now sense (first_ranges tree)) × (x.bad_range ≡ bad_of r.source.now sense (first_ranges tree))) o listed_got
+
+    pub part_unclosed : {e : SourceFaultOrMemory} → IsLacking (is RightParen) reader next e → Refuses limit reader.source.now (the ElementPart) w (seen_from reader at) e
+    part_unclosed k = refuses_the ElementPart (refuses_right unled_range led_in (refuses_unclosed o h outer_got.leaves (gives_the RangeList outer_got.gives) k))
+
+    pub part_got : Tableless w → {t : Token} {behind : ℕ} → IsNext (is RightParen) reader next t behind → IsGot limit (IsPart reader.source.now) (Stays reader new w) (the ElementPart) reader at new w part behind
+    part_got other {t} {behind} n = record {
+      tree = node (right (pair (leaf (LeftParen, o.token)) (pair (node outer_got.tree) (leaf (RightParen, t)))));
+      behind = past reader outer_got.behind RightParen t behind;
+      gives = gives_the ElementPart (gives_right unled_range led_in (gives_bracketed o h outer_got.leaves (gives_the RangeList outer_got.gives) n (closes_on w.keyword (ends_statement (kind_of (seen_from reader behind))) other)));
+      leaves = close_stays o h outer_got.leaves t behind;
+      means = outer_got.means;
+      further = (let a = o.next.further in let b = outer_got.further in let c = n.further in omega arith);
+    }
+
+pub unopened_part : {limit : ℕ} {reader : Reader} {at : ℕ} {old : Tables} {w : Walk} {e : SourceFaultOrMemory} → Has reader old w → IsUnopened reader at e → leads productions look_ahead (token LeftParen) (seen_from reader at) ≡ true → Refuses limit reader.source.now (the ElementPart) w (seen_from reader at) e
+unopened_part {reader = reader} {at = at} h u led =
+    refuses_the ElementPart (refuses_right (no_range_led (seen_from reader at) led) (led_first (is LeftParen) (the RangeList · token RightParen) (seen_from reader at) led) (refuses_unopened (the RangeList) u h.holds))
+  where
+    no_range_led : (ts : List Seen) → leads productions look_ahead (token LeftParen) ts ≡ true → leads productions look_ahead (the Range) ts ≡ false
+    no_range_led [] k = cc
+    no_range_led (t ∷ ts) k = leads_range (t ∷ ts) ∙ ap (is Label) (sym (same_kind LeftParen t.0 k))

@@ -1,0 +1,175 @@
+-- Names that are entered, numbers, and signs.
+use Rattle.std.proofs.Common.{◌≡◌, ℕ, ◌+◌, ◌<◌, ◌≤◌, Bool, true, false, cond, not, ◌&&◌, ◌||◌, List, [], ◌∷◌, length, Some, refl, sym, ap, ap₂, ◌∙◌, subst, arith, inl, inr, ◌⊎◌, Err}
+use Rattle.std.specs.Str.{IsAscii}
+use Rattle.gq_number.specs.Number.{Number as Rational, neg_ℚ}
+use Rattle.gq_extended.specs.declared.extended.Ext.{Ext}
+use Rattle.gq_text.specs.Decimal.{MeansNumber}
+use Rattle.gq_text.specs.declared.fault.NumberFault.{NumberFault}
+use Rattle.gq_text.specs.declared.fault.NumberFault.TheVariants.{Shape, Limit}
+use Rattle.gq_text.specs.Literal.{FitsLiteral, Reads}
+use Rattle.gq_text.proofs.Splits.{one_number}
+use Rattle.gms_labels.specs.Labels.{place_of, entered, IsFullFor}
+use Rattle.gms_labels.specs.declared.place.Place.{Place}
+use Rattle.gms_lex.specs.declared.token.Token.{Token}
+use Rattle.gms_lex.specs.TokenTexts.{token_text}
+use Rattle.gms_grammar.specs.declared.terminal.Terminal.{Terminal}
+use Rattle.gms_grammar.specs.declared.terminal.Terminal.TheVariants as terminal
+use Rattle.gms_grammar.specs.declared.terminal.Terminal.TheVariants.{LeftParen, Name, Suffix, Number, Sign, Dot, Using, Option}
+use Rattle.gms_grammar.specs.Grammar.{one, opt, leaf, some, none}
+use Rattle.gms_grammar.specs.Reading.{leads}
+use Rattle.gms_grammar.specs.Terminals.{is, is_among}
+use Rattle.gms_grammar.specs.GamsGrammar.{name, token, productions}
+use Rattle.gms_grammar.specs.GamsLookAhead.{look_ahead}
+use Rattle.gms_grammar.proofs.Checks.{left_and}
+use Rattle.gms_parse_x.specs.ExpressionTrees.{or_0, is_minus}
+use Rattle.gms_parse_x.proofs.TokenKinds.{implies, also}
+use Rattle.gms_ast.specs.declared.word.Named.{Named}
+use Rattle.gms_parse.specs.declared.fault.SourceFault.{SourceFault}
+use Rattle.gms_parse.specs.declared.fault.SourceFaultOrMemory.{SourceFaultOrMemory}
+use Rattle.gms_parse.specs.declared.fault.SourceError.TheVariants.{TooManyLabels, Depth, NotInProfile, Expected, Number as OutOfRange}
+use Rattle.gms_parse.specs.declared.fault.SourceFaultOrMemory.TheVariants.{Fault}
+use Rattle.gms_parse.specs.declared.reader.Reader.{Reader}
+use Rattle.gms_parse.specs.declared.reader.Tables.{Tables}
+use Rattle.gms_grammar.proofs.Basics.{not_true}
+use Rattle.gms_parse.specs.Outcomes.{unexpected_error}
+use Rattle.gms_parse.specs.DataLists.{opposed}
+use Rattle.gms_parse.specs.Walks.{Seen, Walk, walk_after, new_labels, is_name, last_kind, IsFaulty, deep, out_of_range, many_names, many_labels, in_table, without_lines}
+use Rattle.gms_parse.specs.Readings.{Gives, Refuses, Sense, IsSense, IsGot, Has, Holds, Starts, Stays, IsNext, IsEntered, IsNotEntered, IsTooLarge, IsLacking, IsUnopened, seen_from, kind_of}
+use Rattle.gms_parse.specs.Meanings.{IsNamed, IsSign}
+use Rattle.gms_parse.proofs.TokenKinds.{begins, same_kind}
+use Rattle.gms_parse.proofs.Walks.{keyword_after, room_for_none}
+use Rattle.gms_parse.proofs.Steps.{gives_one, gives_none, gives_some, takes_next, refuses_token, refuses_memory}
+use Rattle.gms_parse.proofs.Nexts.{past, exact, led_next, refuses_lacking, gives_exact, plain_stays, stays_same}
+
+abbrev pub is_named : Terminal → Bool
+is_named = is_among (Name ∷ Suffix ∷ [])
+
+-- a name, where it is one
+name_there : (w : Walk) (kind : Terminal) → is_named kind ≡ true → is_among (Dot ∷ Using ∷ []) (last_kind w.before) ≡ false → is Option w.keyword ≡ false → is_name w kind ≡ true
+name_there w kind h d o = ap₂ (λ a b. a && not b) h (ap₂ (λ a b. a || b) d o)
+
+name_new : (source : List ℕ) (w : Walk) (kind : Terminal) (t : Token) (ahead : Terminal) → is_named kind ≡ true → new_labels source w (kind, t) ahead ≡ []
+name_new source w Name t ahead h = refl
+name_new source w Suffix t ahead h = refl
+name_new source w _ t ahead h = cc
+
+name_labels : (source : List ℕ) (w : Walk) (kind : Terminal) (t : Token) (ahead : Terminal) → is_named kind ≡ true → ((walk_after source w (kind, t) ahead).labels ≡ w.labels) × ((walk_after source w (kind, t) ahead).open_count ≡ w.open_count) × (begins kind ≡ false)
+name_labels source w Name t ahead h = (refl, refl, refl)
+name_labels source w Suffix t ahead h = (refl, refl, refl)
+name_labels source w _ t ahead h = cc
+
+named_there : {reader : Reader} {at behind : ℕ} {t : Token} {old : Tables} {w : Walk} (n : IsNext is_named reader at t behind) → Starts reader old w → is_name w n.kind ≡ true
+named_there {w = w} n s = name_there w n.kind n.passes s.undotted s.optionless
+
+name_sound : (limit : ℕ) {reader : Reader} {at behind : ℕ} {t : Token} {old : Tables} {w : Walk} (n : IsNext is_named reader at t behind) → Starts reader old w → (IsFullFor old.names (token_text reader.source.now t) → ⊥) → (fault : SourceFault) →
+    IsFaulty limit reader.source.now w (n.kind, t) (kind_of (seen_from reader behind)) fault → ⊥
+name_sound limit n s room fault (deep e d) = let k : is_named LeftParen ≡ true = ap is_named (sym e) ∙ n.passes in cc
+name_sound limit n s room fault (out_of_range e d) = let k : is_named Number ≡ true = ap is_named (sym e) ∙ n.passes in cc
+name_sound limit {reader} {t = t} n s room fault (many_names e d) = room (subst (λ (ns : List (List ℕ)). IsFullFor ns (token_text reader.source.now t)) s.has.holds.names d)
+name_sound limit {reader} {behind = behind} {t = t} {w = w} n s room fault (many_labels e d) = room_for_none w.labels _ (name_new reader.source.now w n.kind t (kind_of (seen_from reader behind)) n.passes) d
+name_sound limit n s room fault (in_table e d f) = let k : is_named terminal.TableLine ≡ true = ap is_named (sym e) ∙ n.passes in cc
+name_sound limit n s room fault (without_lines e d f) = let k : is_named terminal.RightParen ≡ true = ap is_named (sym e) ∙ n.passes in cc
+
+-- a name was entered, and has this number
+pub name_got : {limit : ℕ} {reader : Reader} {at behind : ℕ} {t : Token} {old : Tables} {w : Walk} (n : IsNext is_named reader at t behind) → Starts reader old w → (number : ℕ) (texts : List ℕ) → texts ≡ token_text reader.source.now t → (names : List (List ℕ)) → IsEntered old.names names texts number →
+    (new : Tables) → new.names ≡ names → new.labels ≡ old.labels → IsGot limit (IsNamed reader.source.now) (Stays reader new w) name reader at new w (record { at = t.at; name = number }) behind
+name_got {limit} {reader} {at} {behind} {t} {old} {w} n s number texts is names entered_there new same labels =
+    let text = token_text reader.source.now t in
+    let k = name_labels reader.source.now w n.kind t (kind_of (seen_from reader behind)) n.passes in
+    let b = keyword_after reader.source.now w (n.kind, t) (kind_of (seen_from reader behind)) k.2 in
+    let lower = s.has.level in
+    let opens = k.1 in
+    let level = b.1 in
+    let table : IsEntered old.names names text number = subst (λ (x : List ℕ). IsEntered old.names names x number) is entered_there in
+    record {
+      tree = leaf (n.kind, t);
+      behind = past reader w n.kind t behind;
+      gives = gives_one n.is n.passes (name_sound limit n s table.room) refl;
+      leaves = record {
+        has = record {
+          holds = record {
+            open_count = k.1 ∙ s.has.holds.open_count;
+            names = ap (λ c. cond c (entered w.names text) w.names) (named_there n s) ∙ ap (λ (ns : List (List ℕ)). entered ns text) s.has.holds.names ∙ sym table.table ∙ sym same;
+            labels = k.0 ∙ s.has.holds.labels ∙ sym labels;
+          };
+          level = omega (arith, lower, opens, level);
+        };
+        keyword = b.0;
+        level = b.1;
+      };
+      means = λ sense m. ap (λ v. record { at = t.at; name = v }) (sym (ap or_0 (m.names text number (ap (λ (ns : List (List ℕ)). place_of ns text) same ∙ table.place))));
+      further = (let g = n.further in omega arith);
+    }
+
+-- there is no room for a name
+pub name_refused : {limit : ℕ} {reader : Reader} {at behind : ℕ} {t : Token} {old : Tables} {w : Walk} (n : IsNext is_named reader at t behind) → Starts reader old w → {e : SourceFaultOrMemory} (texts : List ℕ) → texts ≡ token_text reader.source.now t → IsNotEntered old.names texts t.at e →
+    Refuses limit reader.source.now name w (seen_from reader at) e
+name_refused {reader = reader} {t = t} {old = old} n s texts is r = elim r.why [
+  inl m ↦ refuses_memory m |
+  inr f ↦ refuses_token (takes_next n.is n.passes) (many_names (named_there n s) (subst (λ (ns : List (List ℕ)). IsFullFor ns (token_text reader.source.now t)) (sym s.has.holds.names) (subst (λ (x : List ℕ). IsFullFor old.names x) is f.1))) f.0
+]
+
+-- ---- signs
+
+pub sign_got : {limit : ℕ} {reader : Reader} {at behind : ℕ} {t : Token} {tables : Tables} {w : Walk} (minus : Bool) → IsNext (is Sign) reader at t behind → minus ≡ is_minus t.kind → Has reader tables w →
+    IsGot limit IsSign (Stays reader tables w) (opt (token Sign)) reader at tables w minus behind
+sign_got {reader = reader} {behind = behind} {t = t} {w = w} minus n is h = record {
+  tree = some (leaf (Sign, t));
+  behind = past reader w Sign t behind;
+  gives = gives_some (led_next n) (gives_exact n refl);
+  leaves = plain_stays reader w Sign t behind refl h;
+  means = λ sense s v. ap (λ m. cond m (opposed neg_ℚ v) v) (sym is);
+  further = (let g = n.further in omega arith);
+}
+
+pub sign_none : {limit : ℕ} {reader : Reader} {at : ℕ} {tables : Tables} {w : Walk} → leads productions look_ahead (token Sign) (seen_from reader at) ≡ false → Has reader tables w → IsGot limit IsSign (Stays reader tables w) (opt (token Sign)) reader at tables w false at
+sign_none {w = w} unled h = record { tree = none; behind = w; gives = gives_none unled; leaves = stays_same h; means = λ sense s v. refl; further = omega arith }
+
+-- ---- numbers
+
+number_labels : (source : List ℕ) (w : Walk) (t : Token) (ahead : Terminal) → (walk_after source w (Number, t) ahead).labels ≡ w.labels
+number_labels source w t ahead = refl
+
+-- a number that is within its range has no fault
+number_sound : (limit : ℕ) (source : List ℕ) (w : Walk) (t : Token) (ahead : Terminal) (x : Rational) → MeansNumber (token_text source t) x → FitsLiteral limit x → (fault : SourceFault) → IsFaulty limit source w (Number, t) ahead fault → ⊥
+number_sound limit source w t ahead x means fits fault (deep e d) = cc
+number_sound limit source w t ahead x means fits fault (out_of_range e d) = d x means fits
+number_sound limit source w t ahead x means fits fault (many_names e d) = cc
+number_sound limit source w t ahead x means fits fault (many_labels e d) = room_for_none _ _ refl d
+number_sound limit source w t ahead x means fits fault (in_table e d f) = cc
+number_sound limit source w t ahead x means fits fault (without_lines e d f) = cc
+
+-- a number stands here, where it may stand
+pub number_gives : {limit : ℕ} {test : Terminal → Bool} {reader : Reader} {at behind : ℕ} {t : Token} {w : Walk} (x : Rational) → IsNext (is Number) reader at t behind → test Number ≡ true →
+    MeansNumber (token_text reader.source.now t) x → FitsLiteral limit x → Gives limit reader.source.now (one test) w (seen_from reader at) (leaf (Number, t)) (past reader w Number t behind) (seen_from reader behind)
+number_gives {limit = limit} {reader = reader} {behind = behind} {t = t} {w = w} x n h means fits = gives_one (exact n) h (number_sound limit reader.source.now w t (kind_of (seen_from reader behind)) x means fits) refl
+
+-- what a number leaves
+pub number_stays : {reader : Reader} (behind : ℕ) {t : Token} {tables : Tables} {w : Walk} → Has reader tables w → Stays reader tables w (past reader w Number t behind)
+number_stays behind h = record { has = record { holds = record { open_count = h.holds.open_count; names = h.holds.names; labels = h.holds.labels }; level = h.level }; keyword = refl; level = refl }
+
+-- a number is out of range
+pub number_refused : {limit : ℕ} {test : Terminal → Bool} {reader : Reader} {at behind : ℕ} {t : Token} {w : Walk} {e : SourceFaultOrMemory} → IsNext (is Number) reader at t behind → test Number ≡ true →
+    IsTooLarge limit reader.source.now t e → Refuses limit reader.source.now (one test) w (seen_from reader at) e
+number_refused n h o = refuses_token (takes_next (exact n) h) (out_of_range refl o.none_fits) o.is
+
+-- a number that was not read fits no literal
+pub none_fits : {F : Type 0} (limit : ℕ) (value : F → Rational) (text : List ℕ) (e : NumberFault) → Reads {F = F} limit value text (Err e) → (x : Rational) → MeansNumber text x → FitsLiteral limit x → ⊥
+none_fits limit value text Shape r x m f = r x m
+none_fits limit value text Limit r x m f = r.2 (subst (λ (y : Rational). FitsLiteral limit y) (one_number text x r.0 m r.1) f)
+
+-- no parenthesis, and one too many
+pub unopened_lacking : {reader : Reader} {at : ℕ} {e : SourceFaultOrMemory} → IsLacking (is LeftParen) reader at e → IsUnopened reader at e
+unopened_lacking l = record { refuses = λ limit tables w h. refuses_lacking l }
+
+pub unopened_deep : {reader : Reader} {at behind : ℕ} {t : Token} {e : SourceFaultOrMemory} → IsNext (is LeftParen) reader at t behind → 100 ≤ reader.unclosed → e ≡ Fault (record { error = Depth; at = t.at }) → IsUnopened reader at e
+unopened_deep n many is = record { refuses = λ limit tables w h. refuses_token (takes_next (exact n) refl) (deep refl (let o = h.open_count in omega (arith, o, many))) is }
+
+-- the error of a token that is unexpected, by its kind
+pub left_out_told : (ts : List Seen) {k : Terminal} → k ≡ kind_of ts → k ≡ terminal.NotInProfile → NotInProfile ≡ unexpected_error ts
+left_out_told [] e h = let f : terminal.End ≡ terminal.NotInProfile = sym e ∙ h in cc
+left_out_told (t ∷ ts) e h = sym (ap (λ b. cond b NotInProfile Expected) (ap (is terminal.NotInProfile) (sym e ∙ h)))
+
+pub unexpected_told : (ts : List Seen) {k : Terminal} → k ≡ kind_of ts → (k ≡ terminal.NotInProfile → ⊥) → Expected ≡ unexpected_error ts
+unexpected_told [] e h = refl
+unexpected_told (t ∷ ts) e h = sym (ap (λ b. cond b NotInProfile Expected) (not_true (is terminal.NotInProfile t.0) (λ p. h (e ∙ sym (same_kind terminal.NotInProfile t.0 p)))))

@@ -1,0 +1,166 @@
+-- Expressions and parts of them, as the crate that reads them says what it read.
+use Rattle.std.proofs.Common.{◌≡◌, ℕ, ◌+◌, ◌-◌, ◌<◌, ◌≤◌, Bool, true, false, not, ◌||◌, cond, List, [], ◌∷◌, ◌++◌, length, map, drop, refl, sym, ap, ap₂, ◌∙◌, subst, inl, inr, ◌⊎◌, arith}
+use Rattle.gq_number.specs.Number.{Number}
+use Rattle.gms_lex.specs.declared.token.Token.{Token}
+use Rattle.gms_grammar.specs.declared.terminal.Terminal.{Terminal}
+use Rattle.gms_grammar.specs.declared.terminal.Terminal.TheVariants.{NotInProfile}
+use Rattle.gms_grammar.specs.Grammar.{the, yield, IsTree, Stops}
+use Rattle.gms_grammar.specs.Terminals.{is}
+use Rattle.gms_grammar.specs.GamsGrammar.{Nonterminal, Expression, productions}
+use Rattle.std.proofs.lemmas.List.{length-drop, length-map, length-append}
+use Rattle.gms_parse_x.specs.declared.fault.SyntaxError.{SyntaxError}
+use Rattle.gms_parse_x.specs.declared.fault.SyntaxError.TheVariants as syntax_error
+use Rattle.gms_parse_x.specs.declared.fault.SyntaxFault.{SyntaxFault}
+use Rattle.gms_parse_x.specs.declared.fault.SyntaxFaultOrMemory.{SyntaxFaultOrMemory}
+use Rattle.gms_parse_x.specs.declared.fault.SyntaxFaultOrMemory.TheVariants as syntax
+use Rattle.gms_parse_x.specs.Outcomes as inner
+use Rattle.gms_parse_x.specs.Words.{terminal_of}
+use Rattle.gms_lex.specs.TokenTexts.{token_text}
+use Rattle.gms_parse_x.specs.Calls.{walk_from, IsRead, IsRefusal}
+use Rattle.gms_parse.specs.declared.fault.SourceError.{SourceError}
+use Rattle.gms_parse.specs.declared.fault.SourceError.TheVariants as source_error
+use Rattle.gms_parse.specs.declared.fault.SourceFaultOrMemory.TheVariants as source_fault
+use Rattle.gms_parse.specs.declared.fault.SourceFault.{SourceFault}
+use Rattle.gms_parse.specs.declared.reader.Reader.{Reader}
+use Rattle.gms_parse.specs.declared.reader.Tables.{Tables}
+use Rattle.gms_parse.specs.Faults.{error_of_syntax, fault_of_syntax}
+use Rattle.gms_parse.specs.Outcomes.{unexpected_error}
+use Rattle.gms_parse.specs.Walks.{Seen, Walk, walk_after, walk_behind, kind_ahead, IsFaulty}
+use Rattle.gms_parse.specs.Readings.{Derivation, Sense, IsSense, Starts, Stays, StaysOpen, Tableless, IsGot, IsStuck, IsWrong, Refuses, unexpected, seen_from, kind_of}
+use Rattle.gms_parse.proofs.Steps.{refuses_memory}
+use Rattle.gms_parse.proofs.Alphabet.{AllPass, pass_front, pass_rest, only, all_pass}
+use Rattle.gms_parse.proofs.Depths.{TextsAbove, depth_after, above_front, above_rest, is_deep, is_shallow, deep_closes}
+use Rattle.gms_parse.proofs.Agreements.{is_inner, Agrees, Agreed, agree, fault_outside}
+use Rattle.gms_parse.proofs.Fronts.{reads_of, stuck_of, takes_of}
+
+abbrev is_formula : Nonterminal → Bool
+is_formula n = is_deep n || is_shallow n
+
+formulas_inner : (n : Nonterminal) → (not (is_formula n) || only is_formula is_inner (productions n)) ≡ true
+formulas_inner Expression = refl
+formulas_inner _ = refl
+
+open_behind : (source : List ℕ) (w : Walk) (u : List Seen) (ahead : Terminal) → (walk_behind source w u ahead).open_count ≡ depth_after w.open_count u
+open_behind source w [] ahead = refl
+open_behind source w (t ∷ u) ahead = open_behind source (walk_after source w t (kind_ahead u ahead)) u ahead
+
+same_unexpected : (rest : List Seen) → error_of_syntax (inner.unexpected_error rest) ≡ unexpected_error rest
+same_unexpected [] = refl
+same_unexpected (t ∷ rest) = go (is NotInProfile t.0)
+  where
+    go : (b : Bool) → error_of_syntax (cond b syntax_error.NotInProfile syntax_error.Expected) ≡ cond b source_error.NotInProfile source_error.Expected
+    go true = refl
+    go false = refl
+
+-- the walk that the other crate begins with
+abbrev before : Reader → Tables → inner.Walk
+before reader old = walk_from reader.unclosed old.names old.labels
+
+begin : {reader : Reader} {old : Tables} {w : Walk} → Starts reader old w → Tableless w → Agrees w (before reader old)
+begin s other = record {
+  open_count = s.has.holds.open_count;
+  names = s.has.holds.names;
+  labels = s.has.holds.labels;
+  dotted = s.undotted;
+  optionless = s.optionless;
+  tableless = other;
+}
+
+module _ {reader : Reader} {old : Tables} {w : Walk} (n : Nonterminal) (formula : is_deep n ≡ true) (s : Starts reader old w) (other : Tableless w) where
+  -- the tokens of a tree are those of expressions
+  inner_tokens : (tree : Derivation) → IsTree productions (the n) tree → AllPass is_inner (yield tree)
+  inner_tokens tree k = all_pass is_formula is_inner formulas_inner (the n) tree k (ap (λ b. b || is_shallow n) formula)
+
+  above_tokens : (tree : Derivation) → IsTree productions (the n) tree → TextsAbove w.level w.open_count (yield tree)
+  above_tokens tree k = (deep_closes n formula tree k w.level w.open_count s.has.level).above
+
+  -- a part that was read
+  pub formula_got : {limit : ℕ} (at : ℕ) {T : Type 0} {Says : List (List ℕ) → List (List ℕ) → (List ℕ → Number) → Derivation → T → Type 0} {new : Tables} {next : ℕ} {x : T} → at < length reader.tokens.now →
+      IsRead limit reader.source.now n Says (walk_from reader.unclosed old.names old.labels) (walk_from reader.unclosed new.names new.labels) (seen_from reader at) (seen_from reader next) x →
+      (Means : Sense → Derivation → T → Type 0) → ((sense : Sense) (tree : Derivation) → IsTree productions (the n) tree → Says sense.names sense.labels sense.value tree x → Means sense tree x) → IsGot limit Means (StaysOpen reader new w) (the n) reader at new w x next
+  formula_got {limit} at {new = new} {next = next} within r Means says =
+      let p = r.is_part in
+      let g : Agreed limit reader.source.now w (before reader old) (yield r.tree) (kind_of (seen_from reader next)) = agree limit reader.source.now w (before reader old) (yield r.tree) (kind_of (seen_from reader next)) (inner_tokens r.tree p.is_tree) (above_tokens r.tree p.is_tree) (begin s other) p.are_sound in
+      let a = g.agrees in
+      let names : (walk_behind reader.source.now w (yield r.tree) (kind_of (seen_from reader next))).names ≡ new.names = a.names ∙ ap (λ (y : inner.Walk). y.names) (sym p.leaves) in
+      let labels : (walk_behind reader.source.now w (yield r.tree) (kind_of (seen_from reader next))).labels ≡ new.labels = a.labels ∙ ap (λ (y : inner.Walk). y.labels) (sym p.leaves) in
+      let opened : (walk_behind reader.source.now w (yield r.tree) (kind_of (seen_from reader next))).open_count ≡ reader.unclosed = a.open_count ∙ ap (λ (y : inner.Walk). y.open_count) (sym p.leaves) in
+      let lower = s.has.level in
+      let same = s.has.holds.open_count in
+      let level = g.level in
+      record {
+        tree = r.tree;
+        behind = walk_behind reader.source.now w (yield r.tree) (kind_of (seen_from reader next));
+        gives = record { reads = reads_of n (seen_from reader at) (seen_from reader next) r.tree p.is_tree p.stops; are_sound = g.sound; leaves = refl };
+        leaves = record {
+          stays = record {
+            has = record {
+              holds = record { open_count = opened; names = names; labels = labels };
+              level = omega (arith, lower, same, level, opened);
+            };
+            keyword = g.keyword;
+            level = g.level;
+          };
+          undotted = a.dotted ∙ ap (λ (y : inner.Walk). y.dotted) (sym p.leaves);
+        };
+        means = λ sense k. says sense r.tree p.is_tree (r.means sense.names sense.labels k.names k.labels sense.value k.value);
+        further = ahead_of reader at next (yield r.tree) within p.stops.parts;
+      }
+    where
+      ahead_of : (reader : Reader) (at next : ℕ) (front : List Seen) → at < length reader.tokens.now → seen_from reader at ≡ front ++ seen_from reader next → at ≤ next
+      ahead_of reader at next front within e =
+          let seen_token : Token → Seen = (λ t. (terminal_of t.kind (token_text reader.source.now t), t)) in
+          let l : length reader.tokens.now - at ≡ length front + (length reader.tokens.now - next) =
+              sym (length-drop at reader.tokens.now) ∙ sym (length-map (drop at reader.tokens.now) seen_token) ∙ ap length e ∙ length-append front (seen_from reader next) ∙ ap (λ m. length front + m) (length-map (drop next reader.tokens.now) seen_token ∙ length-drop next reader.tokens.now) in
+          omega (arith, l, within)
+
+  -- a part that was refused
+  pub formula_refused : {limit : ℕ} (at : ℕ) (e : SyntaxFaultOrMemory) → IsRefusal limit reader.source.now n (walk_from reader.unclosed old.names old.labels) (seen_from reader at) e → Refuses limit reader.source.now (the n) w (seen_from reader at) (fault_of_syntax e)
+  formula_refused at syntax.Memory r = refuses_memory refl
+  formula_refused {limit} at (syntax.Fault found) r = record { why = λ fault same. elim r.cause [ inl c ↦ inr (wrong fault same c) | inr c ↦ inl (stopped fault same c) ] }
+    where
+      ts : List Seen
+      ts = seen_from reader at
+
+      source : List ℕ
+      source = reader.source.now
+
+      whole : Derivation
+      whole = r.stops.begins.derives.tree
+
+      inner_front : AllPass is_inner r.front
+      inner_front = pass_front is_inner r.front r.stops.begins.further (subst (λ (u : List Seen). AllPass is_inner u) r.stops.begins.derives.yields (inner_tokens whole r.stops.begins.derives.is_tree))
+
+      above_all : TextsAbove w.level w.open_count r.front
+      above_all = above_front w.level w.open_count r.front r.stops.begins.further (subst (λ (u : List Seen). TextsAbove w.level w.open_count u) r.stops.begins.derives.yields (above_tokens whole r.stops.begins.derives.is_tree))
+
+      stopped : (fault : SourceFault) → fault_of_syntax (syntax.Fault found) ≡ source_fault.Fault fault → inner.IsUnexpected limit source n (before reader old) r.front r.rest found → IsStuck limit source (the n) w ts fault
+      stopped fault same c =
+          let is : fault ≡ record { error = error_of_syntax found.error; at = found.at } = cc in
+          record {
+            front = r.front;
+            rest = r.rest;
+            reads = stuck_of n ts r.front r.rest r.stops c.is_none;
+            are_sound = (agree limit source w (before reader old) r.front (kind_of r.rest) inner_front above_all (begin s other) c.are_sound).sound;
+            is = is ∙ ap₂ (λ (x : SourceError) y. record { error = x; at = y }) (ap error_of_syntax c.error ∙ same_unexpected r.rest) c.at;
+          }
+
+      wrong : (fault : SourceFault) → fault_of_syntax (syntax.Fault found) ≡ source_fault.Fault fault → inner.IsFirstFaulty limit source (before reader old) r.front found → IsWrong limit source (the n) w ts fault
+      wrong fault same c =
+          let is : fault ≡ record { error = error_of_syntax found.error; at = found.at } = cc in
+          let inner_all = subst (λ (u : List Seen). AllPass is_inner u) c.parts inner_front in
+          let above = subst (λ (u : List Seen). TextsAbove w.level w.open_count u) c.parts above_all in
+          let g : Agreed limit source w (before reader old) c.before c.token.0 = agree limit source w (before reader old) c.before c.token.0 (pass_front is_inner c.before (c.token ∷ c.behind) inner_all) (above_front w.level w.open_count c.before (c.token ∷ c.behind) above) (begin s other) c.are_sound in
+          let deep_here = above_rest w.level w.open_count c.before (c.token ∷ c.behind) above in
+          let level = g.level in
+          let count = open_behind source w c.before c.token.0 in
+          record {
+            before = c.before;
+            token = c.token;
+            behind = c.behind ++ r.rest;
+            takes = takes_of n ts r.front r.rest r.stops c.before c.token c.behind c.parts;
+            are_sound = g.sound;
+            is_faulty = subst (λ (x : SourceFault). IsFaulty limit source (walk_behind source w c.before c.token.0) c.token (kind_of (c.behind ++ r.rest)) x) (ap (λ y. record { error = error_of_syntax found.error; at = y }) (sym c.at) ∙ sym is)
+                (fault_outside limit source (walk_behind source w c.before c.token.0) (inner.walk_behind source (before reader old) c.before) c.token (kind_of (c.behind ++ r.rest)) (pass_rest is_inner c.before (c.token ∷ c.behind) inner_all).0
+                (λ text. let l = deep_here.0 text in omega (arith, l, level, count)) g.agrees found.error c.is_faulty);
+          }

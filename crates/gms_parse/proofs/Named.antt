@@ -1,0 +1,196 @@
+-- Statements that begin with a name: assignments and definitions.
+use Rattle.std.proofs.Common.{◌≡◌, ◌⊎◌, inl, inr, ℕ, ◌+◌, ◌<◌, ◌≤◌, Bool, true, false, List, [], ◌∷◌, ◌++◌, map, drop, Option as Maybe, Result, option_map, refl, sym, ap, ap₂, ◌∙◌, subst, append_assoc, arith}
+use Rattle.gq_number.specs.Number.{Number}
+use Rattle.gms_ast.specs.declared.expression.Expr.{Expr}
+use Rattle.gms_ast.specs.declared.program.Target.{Target as TargetNode}
+use Rattle.gms_ast.specs.declared.program.Act.{Act as ActNode}
+use Rattle.gms_ast.specs.StatementTrees.{Act, defines, Target as TargetTree}
+use Rattle.gms_ast.specs.StatementView.{shown_tree, shown_target}
+use Rattle.gms_lex.specs.declared.token.Token.{Token}
+use Rattle.gms_grammar.specs.declared.terminal.Terminal.{Terminal}
+use Rattle.gms_grammar.specs.declared.terminal.Terminal.TheVariants.{Equals, DotDot}
+use Rattle.gms_grammar.specs.Grammar.{one, the, ◌·◌, ◌∣◌, opt, leaf, pair, left, right, node, yield}
+use Rattle.gms_grammar.specs.Reading.{read, stuck, leads, Reads, taken, refused, both, first_stuck, second_stuck, in_left_stuck, in_neither, Takes, takes_left}
+use Rattle.gms_grammar.specs.Terminals.{is}
+use Rattle.gms_grammar.specs.GamsGrammar.{Expression, Condition, Target, NamedStatement, AfterHead, AfterTarget, Sides, productions, token}
+use Rattle.gms_grammar.specs.GamsLookAhead.{look_ahead}
+use Rattle.gms_grammar.proofs.Basics.{both_ways}
+use Rattle.gms_grammar.proofs.Sound.{sound}
+use Rattle.gms_parse_x.specs.ExpressionTrees.{second_in}
+use Rattle.gms_parse_x.proofs.Valued.{number_in, number_in_is}
+use Rattle.gms_parse.specs.declared.fault.SourceFault.{SourceFault}
+use Rattle.gms_parse.specs.declared.fault.SourceFaultOrMemory.{SourceFaultOrMemory}
+use Rattle.gms_parse.specs.declared.reader.Reader.{Reader}
+use Rattle.gms_parse.specs.declared.reader.Tables.{Tables}
+use Rattle.gms_parse.specs.Statements.{named_act, target_in, condition_in, assigned, sides_in}
+use Rattle.gms_parse.specs.Walks.{Seen, Walk, kind_ahead, walk_behind, AreSound, IsFaulty}
+use Rattle.gms_parse.specs.Readings.{Derivation, GamsPart, Gives, IsStuck, IsWrong, Refuses, Sense, IsSense, IsGot, Starts, Stays, StaysOpen, Tableless, IsNext, seen_from, kind_of}
+use Rattle.gms_parse.specs.Meanings.{IsTarget, IsCondition, IsAssigned, IsDefined, IsAct, is_plain_target}
+use Rattle.gms_parse.proofs.TokenKinds.{unled_next, led_first}
+use Rattle.gms_parse.proofs.Walks.{ahead_append, walk_append, sound_append}
+use Rattle.gms_parse.proofs.Steps.{Within, gives_both, gives_the, gives_left, gives_right, refuses_the, refuses_first, refuses_second, refuses_right, by_cause, stuck_as, wrong_as, wrong_parts}
+use Rattle.gms_parse.proofs.Nexts.{past, exact, gives_exact, leads_next, plain_starts, kind_stays, stays_then, earlier, optionless_on, tableless_on}
+use Rattle.gms_parse.proofs.Conditions.{open_starts}
+use Rattle.gms_parse.proofs.Heads.{Leading, target_stuck, target_taken, Headed, Aimed, target_goes}
+
+ahead_is : {rest : List Seen} (u us : List Seen) → rest ≡ u ++ us → kind_of rest ≡ kind_ahead u (kind_of us)
+ahead_is u us e = ap kind_of e ∙ ahead_append u us _
+
+module _ {limit : ℕ} {source : List ℕ} where
+  -- what is refused as a target is refused as a statement that begins with one
+  pub target_refused : {w : Walk} {ts : List Seen} {e : SourceFaultOrMemory} → Refuses limit source (the Target) w ts e → Refuses limit source (the NamedStatement) w ts e
+  target_refused r = by_cause r (λ fault s. stuck_as s (target_stuck s.reads)) (λ fault s. wrong_as s (target_taken s.takes))
+
+  module _ {p inner : GamsPart} {w v : Walk} {ts rest : List Seen} {tree : Derivation} {c : Derivation → Derivation} (g : Gives limit source (the Target) w ts tree v rest) (l : Leading p ts (yield tree) inner rest c) where
+    onward : (u us : List Seen) → rest ≡ u ++ us → AreSound limit source v u (kind_of us) → AreSound limit source w (yield tree ++ u) (kind_of us)
+    onward u us e h =
+        sound_append limit source w (yield tree) u (kind_of us) (subst (λ (k : Terminal). AreSound limit source w (yield tree) k) (ahead_is u us e) g.are_sound)
+        (subst (λ (x : Walk). AreSound limit source x u (kind_of us)) (g.leaves ∙ ap (walk_behind source w (yield tree)) (ahead_is u us e)) h)
+
+    walk_on : (u us : List Seen) → rest ≡ u ++ us → walk_behind source v u (kind_of us) ≡ walk_behind source w (yield tree ++ u) (kind_of us)
+    walk_on u us e =
+        ap (λ x. walk_behind source x u (kind_of us)) (g.leaves ∙ ap (walk_behind source w (yield tree)) (ahead_is u us e)) ∙ sym (walk_append source w (yield tree) u (kind_of us))
+
+    -- behind the tokens of a target another part is read
+    pub within_of : Within limit source p w ts inner v rest c
+    within_of = record {
+      gives = λ a x behind h.
+          let whole = gives_both g h in
+          record {
+            reads = l.reads a behind h.reads;
+            are_sound = subst (λ (u : List Seen). AreSound limit source w u (kind_of behind)) (sym (l.yields a)) whole.are_sound;
+            leaves = whole.leaves ∙ ap (λ u. walk_behind source w u (kind_of behind)) (sym (l.yields a));
+          };
+      refuses = λ e r. record { why = λ fault is. elim (r.why fault is) [ inl s ↦ inl (stuck_on fault s) | inr s ↦ inr (wrong_on fault s) ] };
+    }
+      where
+        stuck_on : (fault : SourceFault) → IsStuck limit source inner v rest fault → IsStuck limit source p w ts fault
+        stuck_on fault s = record {
+          front = yield tree ++ s.front;
+          rest = s.rest;
+          reads = l.sticks s.front s.rest s.reads;
+          are_sound = onward s.front s.rest (sound productions look_ahead s.reads) s.are_sound;
+          is = s.is;
+        }
+
+        wrong_on : (fault : SourceFault) → IsWrong limit source inner v rest fault → IsWrong limit source p w ts fault
+        wrong_on fault s = record {
+          before = yield tree ++ s.before;
+          token = s.token;
+          behind = s.behind;
+          takes = subst (λ x. Takes productions look_ahead p ts x s.behind) (sym (append_assoc (yield tree) s.before (s.token ∷ []))) (l.takes (s.before ++ s.token ∷ []) s.behind s.takes);
+          are_sound = onward s.before (s.token ∷ s.behind) (wrong_parts s) s.are_sound;
+          is_faulty = subst (λ (x : Walk). IsFaulty limit source x s.token (kind_of s.behind) fault) (walk_on s.before (s.token ∷ s.behind) (wrong_parts s)) s.is_faulty;
+        }
+
+-- ---- `=` or `..`
+
+led_pair : {test : Terminal → Bool} {q : GamsPart} {ts rest : List Seen} {tree : Derivation} → Reads productions look_ahead (one test · q) ts (read tree rest) → leads productions look_ahead (one test · q) ts ≡ true
+led_pair {test} {q} {ts} (both (taken h) r) = led_first test q ts h
+
+stuck_pair : {test : Terminal → Bool} {q r : GamsPart} {ts front rest : List Seen} → leads productions look_ahead r ts ≡ false → Reads productions look_ahead (one test · q) ts (stuck front rest) → Reads productions look_ahead (one test · q ∣ r) ts (stuck front rest)
+stuck_pair {test} {q} {ts = ts} k (first_stuck (refused h)) = in_neither (unled_next test q ts h) k
+stuck_pair {test} {q} {ts = ts} k (second_stuck (taken h) s) = in_left_stuck (led_first test q ts h) (second_stuck (taken h) s)
+
+refuses_equals : {limit : ℕ} {source : List ℕ} {test : Terminal → Bool} {q r : GamsPart} {w : Walk} {ts : List Seen} {e : SourceFaultOrMemory} → leads productions look_ahead r ts ≡ false → Refuses limit source (one test · q) w ts e → Refuses limit source (one test · q ∣ r) w ts e
+refuses_equals k r = by_cause r (λ fault s. stuck_as s (stuck_pair k s.reads)) (λ fault s. wrong_as s (takes_left s.takes))
+
+-- ---- statements
+
+-- the tables so far, and what texts of numbers mean
+abbrev so_far : Tables → Sense
+so_far tables = record { names = tables.names; labels = tables.labels; value = number_in }
+
+is_so_far : (tables : Tables) → IsSense tables (so_far tables)
+is_so_far tables = record { names = λ text n h. h; labels = λ text n h. h; value = number_in_is }
+
+module _ {F : Type 0} (value : F → Number) {limit : ℕ} {reader : Reader} {at middle : ℕ} {first : Tables} {w : Walk} {target : TargetNode F} (t : IsGot limit (IsTarget value reader.source.now) (StaysOpen reader first w) (the Target) reader at first w target middle) where
+  -- a target that is plain, or is none
+  plain_as : (b : Bool) → ((source : List ℕ) (s : Sense) → is_plain_target (target_in source s.names s.labels s.value t.tree) ≡ b) → is_plain_target (shown_target value target) ≡ b
+  plain_as b h = ap is_plain_target (t.means (so_far first) (is_so_far first)) ∙ h reader.source.now (so_far first)
+
+  pub condition_refused : {e : SourceFaultOrMemory} → Refuses limit reader.source.now (opt (the Condition)) t.behind (seen_from reader middle) e → Refuses limit reader.source.now (the NamedStatement) w (seen_from reader at) e
+  condition_refused {e} r = elim (target_goes t.gives.reads) [
+    inl h ↦ (within_of t.gives h.leading).refuses e (refuses_the AfterHead (refuses_first r)) |
+    inr a ↦ (within_of t.gives a.leading).refuses e (refuses_the AfterTarget (refuses_first r))
+  ]
+
+  module _ {further : ℕ} {second : Tables} {condition : Maybe (Expr F)} (c : IsGot limit (IsCondition value reader.source.now) (StaysOpen reader second t.behind) (opt (the Condition)) reader middle second t.behind condition further) where
+    -- an assignment
+    module _ {new : Tables} {act : ActNode F} {next : ℕ} (r : IsGot limit (IsAssigned value reader.source.now target condition) (Stays reader new c.behind) (token Equals · the Expression) reader further new c.behind act next) where
+      both_means : (sense : Sense) → IsSense new sense → assigned reader.source.now sense.names sense.labels sense.value (shown_target value target) (option_map (shown_tree value) condition) (second_in r.tree)
+          ≡ assigned reader.source.now sense.names sense.labels sense.value (target_in reader.source.now sense.names sense.labels sense.value t.tree) (condition_in reader.source.now sense.names sense.labels sense.value c.tree) (second_in r.tree)
+      both_means sense s =
+          let s2 = earlier r.gives c.leaves.stays.has.holds r.leaves.has.holds s in
+          let s1 = earlier c.gives t.leaves.stays.has.holds c.leaves.stays.has.holds s2 in
+          ap₂ (λ x y. assigned reader.source.now sense.names sense.labels sense.value x y (second_in r.tree)) (t.means sense s1) (c.means sense s2)
+
+      pub assigned_got : IsGot limit (IsAct value reader.source.now named_act) (Stays reader new w) (the NamedStatement) reader at new w act next
+      assigned_got = elim (target_goes t.gives.reads) [ inl h ↦ by_head h | inr a ↦ by_target a ]
+        where
+          by_head : Headed t.tree (seen_from reader at) (seen_from reader middle) → IsGot limit (IsAct value reader.source.now named_act) (Stays reader new w) (the NamedStatement) reader at new w act next
+          by_head h = record {
+            tree = h.wrap (node (pair c.tree (left r.tree)));
+            behind = r.behind;
+            gives = (within_of t.gives h.leading).gives _ _ _ (gives_the AfterHead (gives_both c.gives (gives_left (led_pair r.gives.reads) r.gives)));
+            leaves = stays_then t.leaves.stays (stays_then c.leaves.stays r.leaves);
+            means = λ sense s. r.means sense s ∙ both_means sense s ∙ sym (h.acts reader.source.now sense (node (pair c.tree (left r.tree))));
+            further = (let x = t.further in let y = c.further in let z = r.further in omega arith);
+          }
+
+          by_target : Aimed t.tree (seen_from reader at) (seen_from reader middle) → IsGot limit (IsAct value reader.source.now named_act) (Stays reader new w) (the NamedStatement) reader at new w act next
+          by_target a = record {
+            tree = a.wrap (node (pair c.tree r.tree));
+            behind = r.behind;
+            gives = (within_of t.gives a.leading).gives _ _ _ (gives_the AfterTarget (gives_both c.gives r.gives));
+            leaves = stays_then t.leaves.stays (stays_then c.leaves.stays r.leaves);
+            means = λ sense s. r.means sense s ∙ both_means sense s ∙ sym (a.acts reader.source.now sense (node (pair c.tree r.tree)));
+            further = (let x = t.further in let y = c.further in let z = r.further in omega arith);
+          }
+
+    -- it is refused, where no `..` stands behind a plain target
+    pub assigned_refused : {e : SourceFaultOrMemory} → (is_plain_target (shown_target value target) ≡ true → leads productions look_ahead (token DotDot) (seen_from reader further) ≡ false) → Refuses limit reader.source.now (token Equals · the Expression) c.behind (seen_from reader further) e →
+        Refuses limit reader.source.now (the NamedStatement) w (seen_from reader at) e
+    assigned_refused {e} unless r = elim (target_goes t.gives.reads) [
+      inl h ↦ (within_of t.gives h.leading).refuses e (refuses_the AfterHead (refuses_second c.gives (refuses_equals (unled_next (is DotDot) (the Sides) (seen_from reader further) (unless (plain_as true h.plain))) r))) |
+      inr a ↦ (within_of t.gives a.leading).refuses e (refuses_the AfterTarget (refuses_second c.gives r))
+    ]
+
+    -- a definition
+    module _ (plain : is_plain_target (shown_target value target) ≡ true) {dots : Token} {behind : ℕ} (n : IsNext (is DotDot) reader further dots behind) where
+      unled : leads productions look_ahead (token Equals · the Expression) (seen_from reader further) ≡ false
+      unled = ap (leads productions look_ahead (token Equals · the Expression)) (exact {kind = DotDot} n)
+
+      pub defined_refused : {e : SourceFaultOrMemory} → Refuses limit reader.source.now (the Sides) (past reader c.behind DotDot dots behind) (seen_from reader behind) e → Refuses limit reader.source.now (the NamedStatement) w (seen_from reader at) e
+      defined_refused {e} r = elim (target_goes t.gives.reads) [
+        inl h ↦ (within_of t.gives h.leading).refuses e (refuses_the AfterHead (refuses_second c.gives (refuses_right unled (leads_next (the Sides) n) (refuses_second (gives_exact {kind = DotDot} n refl) r)))) |
+        inr a ↦ absurd (both_ways _ plain (plain_as false a.other))
+      ]
+
+      pub defined_got : {new : Tables} {act : ActNode F} {next : ℕ} → IsGot limit (IsDefined value reader.source.now target condition) (Stays reader new (past reader c.behind DotDot dots behind)) (the Sides) reader behind new (past reader c.behind DotDot dots behind) act next →
+          IsGot limit (IsAct value reader.source.now named_act) (Stays reader new w) (the NamedStatement) reader at new w act next
+      defined_got {new} {act} {next} d = elim (target_goes t.gives.reads) [ inl h ↦ by_head h | inr a ↦ absurd (both_ways _ plain (plain_as false a.other)) ]
+        where
+          by_head : Headed t.tree (seen_from reader at) (seen_from reader middle) → IsGot limit (IsAct value reader.source.now named_act) (Stays reader new w) (the NamedStatement) reader at new w act next
+          by_head h =
+              let b = node (pair c.tree (right (pair (leaf (DotDot, dots)) d.tree))) in
+              record {
+                tree = h.wrap b;
+                behind = d.behind;
+                gives = (within_of t.gives h.leading).gives _ _ _ (gives_the AfterHead (gives_both c.gives (gives_right unled (leads_next (the Sides) n) (gives_both (gives_exact {kind = DotDot} n refl) d.gives))));
+                leaves = stays_then t.leaves.stays (stays_then c.leaves.stays (stays_then (kind_stays DotDot n refl c.leaves.stays.has) d.leaves));
+                means = λ sense s.
+                    let s3 = earlier d.gives (kind_stays DotDot n refl c.leaves.stays.has).has.holds d.leaves.has.holds s in
+                    let s1 = earlier c.gives t.leaves.stays.has.holds c.leaves.stays.has.holds s3 in
+                    d.means sense s
+                    ∙ ap₂ (λ (x : TargetTree Number) y. defines (record { at = x.at; name = x.name }) x.indices y (sides_in reader.source.now sense.names sense.labels sense.value d.tree)) (t.means sense s1) (c.means sense s3)
+                    ∙ sym (h.acts reader.source.now sense b);
+                further = (let x = t.further in let y = c.further in let z = n.further in let u = d.further in omega arith);
+              }
+
+-- behind `..` the left side may begin
+pub dots_starts : {reader : Reader} {at behind : ℕ} {dots : Token} {old new : Tables} {w v : Walk} → Starts reader old w → StaysOpen reader new w v → IsNext (is DotDot) reader at dots behind → Starts reader new (past reader v DotDot dots behind)
+dots_starts {reader} {behind = behind} {dots = dots} {v = v} s o n = plain_starts reader v DotDot dots behind refl refl o.stays.has (optionless_on o.stays.keyword s.optionless)
+
+pub dots_tableless : {reader : Reader} {at behind : ℕ} {dots : Token} {new : Tables} {w v : Walk} → StaysOpen reader new w v → Tableless w → IsNext (is DotDot) reader at dots behind → Tableless (past reader v DotDot dots behind)
+dots_tableless o h n = tableless_on (kind_stays DotDot n refl o.stays.has).keyword (tableless_on o.stays.keyword h)

@@ -1,0 +1,355 @@
+-- Labels of lists, and ranges of them.
+use Rattle.std.proofs.Common.{◌≡◌, ℕ, zero, suc, get_or, ◌+◌, ◌-◌, ◌<◌, ◌≤◌, Bool, true, false, not, ◌&&◌, ◌||◌, cond, List, [], ◌∷◌, ◌++◌, length, map, take, Option as Maybe, Some, None, refl, sym, ap, ap₂, ◌∙◌, subst, inl, inr, ◌⊎◌, arith, append_assoc}
+use Rattle.std.specs.Str.{IsAscii}
+use Rattle.std.proofs.lemmas.Str.{IsAscii-take, IsAscii-drop}
+use Rattle.std.proofs.Math.Seq.{take-suc}
+use Rattle.gq_number.specs.Number.{Number, neg_ℚ}
+use Rattle.gms_labels.specs.Labels.{place_of, entered, IsFullFor}
+use Rattle.gms_labels.proofs.Places.{place_of-entered_kept}
+use Rattle.gms_tokens.specs.Bytes.{is_quote}
+use Rattle.gms_tokens.specs.declared.kind.Kind.{Kind}
+use Rattle.gms_tokens.specs.declared.kind.Kind.TheVariants as token_kind
+use Rattle.gms_lex.specs.declared.token.Token.{Token}
+use Rattle.gms_lex.specs.TokenTexts.{token_text, unquoted, IsSpelled}
+use Rattle.gms_set.specs.Ranges.{is_range, members, IsRangeError}
+use Rattle.gms_set.specs.declared.fault.SetFault.{SetFault}
+use Rattle.gms_set.specs.declared.fault.SetFaultOrMemory.{SetFaultOrMemory}
+use Rattle.gms_set.specs.declared.fault.SetFaultOrMemory.TheVariants as set_fault
+use Rattle.gms_grammar.specs.declared.terminal.Terminal.{Terminal}
+use Rattle.gms_grammar.specs.declared.terminal.Terminal.TheVariants as terminal
+use Rattle.gms_grammar.specs.declared.terminal.Terminal.TheVariants.{Label, Star}
+use Rattle.gms_grammar.specs.Grammar.{the, ◌·◌, opt, leaf, pair, none, some, node}
+use Rattle.gms_grammar.specs.Reading.{leads}
+use Rattle.gms_grammar.specs.Terminals.{is}
+use Rattle.gms_grammar.specs.GamsGrammar.{Range, productions, token}
+use Rattle.gms_grammar.specs.GamsLookAhead.{look_ahead}
+use Rattle.gms_parse_x.specs.ExpressionTrees.{or_0}
+use Rattle.gms_parse.specs.declared.data.Part.{Part as Position}
+use Rattle.gms_parse.specs.declared.fault.SourceFault.{SourceFault}
+use Rattle.gms_parse.specs.declared.fault.SourceFaultOrMemory.{SourceFaultOrMemory}
+use Rattle.gms_parse.specs.declared.fault.SourceFaultOrMemory.TheVariants.{Fault, Memory}
+use Rattle.gms_parse.specs.declared.fault.SourceError.TheVariants.{TooManyLabels}
+use Rattle.gms_parse.specs.declared.reader.Reader.{Reader}
+use Rattle.gms_parse.specs.declared.reader.Tables.{Tables}
+use Rattle.gms_parse.specs.DataLists.{range_labels}
+use Rattle.gms_parse.specs.Walks.{Seen, Walk, last_kind, range_start, range_texts, list_labels, new_labels, all_entered, LacksRoom, walk_after, IsFaulty, deep, out_of_range, many_names, many_labels, in_table, without_lines}
+use Rattle.gms_parse.specs.Readings.{Derivation, Gives, Refuses, Sense, IsSense, IsGot, Has, Holds, Starless, Stays, IsNext, IsLacking, IsEntered, IsNotEntered, seen_from, kind_of}
+use Rattle.gms_parse.specs.Meanings.{IsLabelToken, IsEnteredRange, IsNotEnteredRange, IsAdded, AreThere, text_of_label}
+use Rattle.gms_parse.proofs.TokenKinds.{leads_by_kind}
+use Rattle.gms_parse.proofs.Steps.{gives_one, gives_both, gives_the, gives_none, gives_some, takes_next, refuses_the, refuses_first, refuses_second, refuses_some, refuses_token, refuses_memory}
+use Rattle.gms_parse.proofs.Nexts.{past, exact, led_next, leads_next, gives_exact, refuses_lacking, plain_stays, stays_then}
+use Rattle.gms_parse.proofs.TokenKinds.{unled_next}
+use Rattle.gms_parse.proofs.Walks.{room_for_none}
+
+-- ---- spelling
+
+pub unquoted_ascii : (text : List ℕ) → IsAscii text → IsAscii (unquoted text)
+unquoted_ascii [] h = h
+unquoted_ascii (b ∷ text) h = go (is_quote b)
+  where
+    go : (c : Bool) → IsAscii (cond c (take (length text - 1) text) (b ∷ text))
+    go true = IsAscii-take text (length text - 1) (IsAscii-drop (b ∷ text) 1 h)
+    go false = h
+
+label_spelled_as : (k : Kind) (text : List ℕ) → k ≡ token_kind.Label → IsSpelled k text → IsAscii text × (length (unquoted text) ≤ 63)
+label_spelled_as k text e s = subst (λ (x : Kind). IsSpelled x text) e s
+
+pub label_spelled : {source : List ℕ} {t : Token} → IsLabelToken source t → IsAscii (unquoted (token_text source t)) × (length (unquoted (token_text source t)) ≤ 63)
+label_spelled {source} {t} l = let s = label_spelled_as t.kind (token_text source t) l.is l.placed.spelled in (unquoted_ascii (token_text source t) s.0, s.1)
+
+-- ---- texts that are entered
+
+all_append : (labels texts : List (List ℕ)) (text : List ℕ) → all_entered labels (texts ++ text ∷ []) ≡ entered (all_entered labels texts) text
+all_append labels [] text = refl
+all_append labels (x ∷ texts) text = all_append (entered labels x) texts text
+
+-- one more text finds no room, or one before it does not
+pub data Lacking (labels texts : List (List ℕ)) (text : List ℕ) : Type 0 where
+  earlier_one : LacksRoom labels texts → Lacking labels texts text
+  this_one : IsFullFor (all_entered labels texts) text → Lacking labels texts text
+
+lacking_more : (labels texts : List (List ℕ)) (text : List ℕ) (before : List (List ℕ)) (other : List ℕ) (behind : List (List ℕ)) → texts ++ text ∷ [] ≡ before ++ other ∷ behind → IsFullFor (all_entered labels before) other → Lacking labels texts text
+lacking_more labels [] text [] other behind e f = let same : other ≡ text = cc in this_one (subst (λ (x : List ℕ). IsFullFor labels x) same f)
+lacking_more labels [] text (x ∷ []) other behind e f = cc
+lacking_more labels [] text (x ∷ (y ∷ before)) other behind e f = cc
+lacking_more labels (y ∷ texts) text [] other behind e f =
+    let same : other ≡ y = cc in
+    earlier_one (record { before = []; text = y; behind = texts; parts = refl; full = subst (λ (x : List ℕ). IsFullFor labels x) same f })
+lacking_more labels (y ∷ texts) text (x ∷ before) other behind e f =
+    let same : x ≡ y = cc in
+    let less : texts ++ text ∷ [] ≡ before ++ other ∷ behind = cc in
+    go (lacking_more (entered labels y) texts text before other behind less (subst (λ (z : List ℕ). IsFullFor (all_entered (entered labels z) before) other) same f))
+  where
+    go : Lacking (entered labels y) texts text → Lacking labels (y ∷ texts) text
+    go (earlier_one l) = earlier_one (record { before = y ∷ l.before; text = l.text; behind = l.behind; parts = ap (λ u. y ∷ u) l.parts; full = l.full })
+    go (this_one g) = this_one g
+
+pub lacking_of : (labels texts : List (List ℕ)) (text : List ℕ) → LacksRoom labels (texts ++ text ∷ []) → Lacking labels texts text
+lacking_of labels texts text l = lacking_more labels texts text l.before l.text l.behind l.parts l.full
+
+-- so many texts were entered, and have these numbers
+pub record Entering (old now : List (List ℕ)) (texts : List (List ℕ)) (was numbers : List ℕ) : Type 0 where
+  pub table : now ≡ all_entered old texts
+  pub room : LacksRoom old texts → ⊥
+  pub numbers_are : numbers ≡ was ++ map (λ text. or_0 (place_of now text)) texts
+  pub are_there : AreThere now texts
+
+no_nil : (u : List (List ℕ)) (x : List ℕ) (v : List (List ℕ)) → [] ≡ u ++ (x ∷ v) → ⊥
+no_nil [] x v e = cc
+no_nil (y ∷ u) x v e = cc
+
+append_none : (xs : List ℕ) → xs ≡ xs ++ []
+append_none [] = refl
+append_none (x ∷ xs) = ap (λ u. x ∷ u) (append_none xs)
+
+pub entering_start : (old : List (List ℕ)) (was : List ℕ) → Entering old old [] was was
+entering_start old was = record { table = refl; room = λ l. no_nil l.before l.text l.behind l.parts; numbers_are = append_none was; are_there = tt }
+
+kept_all : (text : List ℕ) (labels texts : List (List ℕ)) → AreThere labels texts → AreThere (entered labels text) texts × (map (λ t. or_0 (place_of labels t)) texts ≡ map (λ t. or_0 (place_of (entered labels text) t)) texts)
+kept_all text labels [] h = (tt, refl)
+kept_all text labels (t ∷ texts) h =
+    let k = place_of-entered_kept labels text t h.0.0 h.0.1 in
+    let r = kept_all text labels texts h.1 in
+    (((h.0.0, k), r.0), ap₂ (λ a b. or_0 a ∷ b) (h.0.1 ∙ sym k) r.1)
+
+there_push : (labels texts : List (List ℕ)) (text : List ℕ) → AreThere labels texts → (n : ℕ) × (place_of labels text ≡ Some n) → AreThere labels (texts ++ text ∷ [])
+there_push labels [] x h k = (k, tt)
+there_push labels (y ∷ texts) x h k = (h.0, there_push labels texts x h.1 k)
+
+map_push : {A B : Type 0} (f : A → B) (xs : List A) (x : A) → map f (xs ++ x ∷ []) ≡ map f xs ++ f x ∷ []
+map_push f [] x = refl
+map_push f (y ∷ xs) x = ap (λ u. f y ∷ u) (map_push f xs x)
+
+pub entering_on : (old now : List (List ℕ)) (texts : List (List ℕ)) (was numbers : List ℕ) → Entering old now texts was numbers → (new : List (List ℕ)) (text : List ℕ) (n : ℕ) → IsEntered now new text n → (more : List ℕ) → more ≡ numbers ++ n ∷ [] → Entering old new (texts ++ text ∷ []) was more
+entering_on old now texts was numbers e new text n f more is_more =
+    let k = kept_all text now texts e.are_there in
+    let there : AreThere new texts = subst (λ (z : List (List ℕ)). AreThere z texts) (sym f.table) k.0 in
+    let same : map (λ t. or_0 (place_of now t)) texts ≡ map (λ t. or_0 (place_of new t)) texts = k.1 ∙ ap (λ (z : List (List ℕ)). map (λ t. or_0 (place_of z t)) texts) (sym f.table) in
+    record {
+      table = f.table ∙ ap (λ z. entered z text) e.table ∙ sym (all_append old texts text);
+      room = λ l. lacks (lacking_of old texts text l);
+      numbers_are = is_more ∙ ap₂ (λ a b. a ++ b ∷ []) e.numbers_are (sym (ap or_0 f.place)) ∙ append_assoc was (map (λ t. or_0 (place_of now t)) texts) (or_0 (place_of new text) ∷ []) ∙ ap (λ u. was ++ (u ++ or_0 (place_of new text) ∷ [])) same ∙ ap (λ u. was ++ u) (sym (map_push (λ t. or_0 (place_of new t)) texts text));
+      are_there = there_push new texts text there (n, f.place);
+    }
+  where
+    lacks : Lacking old texts text → ⊥
+    lacks (earlier_one l) = e.room l
+    lacks (this_one g) = f.room (subst (λ (z : List (List ℕ)). IsFullFor z text) (sym e.table) g)
+
+lacks_append : (old texts : List (List ℕ)) (text : List ℕ) (more : List (List ℕ)) → IsFullFor (all_entered old texts) text → LacksRoom old (texts ++ text ∷ more)
+lacks_append old texts text more f = record { before = texts; text = text; behind = more; parts = refl; full = f }
+
+-- a text finds no room behind others
+pub entering_full : (old now : List (List ℕ)) (texts : List (List ℕ)) (was numbers : List ℕ) → Entering old now texts was numbers → (text : List ℕ) (more : List (List ℕ)) → IsFullFor now text → LacksRoom old (texts ++ text ∷ more)
+entering_full old now texts was numbers e text more f = lacks_append old texts text more (subst (λ (z : List (List ℕ)). IsFullFor z text) e.table f)
+
+-- ---- tokens
+
+-- no range begins before
+no_range : (before : List Seen) → is Star (last_kind before) ≡ false → range_start before ≡ None
+no_range [] h = refl
+no_range (star ∷ []) h = refl
+no_range (star ∷ (first ∷ others)) h = ap (λ b. cond (b && is Label first.0) (Some first.1) None) h
+
+-- a label that is no end of a range enters itself, or none where a range goes on
+label_new : (source : List ℕ) (w : Walk) (t : Token) (ahead : Terminal) → Starless w → new_labels source w (Label, t) ahead ≡ cond (is Star ahead) [] (unquoted (token_text source t) ∷ [])
+label_new source w t ahead h = ap (λ o. list_labels source o ahead t) (no_range w.before h)
+
+-- what a label leaves, where it enters these
+label_stays : {reader : Reader} (w : Walk) (t : Token) (behind : ℕ) {old new : Tables} (texts : List (List ℕ)) → new_labels reader.source.now w (Label, t) (kind_of (seen_from reader behind)) ≡ texts → Has reader old w → new.names ≡ old.names → new.labels ≡ all_entered old.labels texts →
+    Stays reader new w (past reader w Label t behind)
+label_stays w t behind texts is h names labels = record {
+  has = record {
+    holds = record { open_count = h.holds.open_count; names = h.holds.names ∙ sym names; labels = ap (all_entered w.labels) is ∙ ap (λ (ls : List (List ℕ)). all_entered ls texts) h.holds.labels ∙ sym labels };
+    level = h.level;
+  };
+  keyword = refl;
+  level = refl;
+}
+
+label_sound : (limit : ℕ) (source : List ℕ) (w : Walk) (t : Token) (ahead : Terminal) → (LacksRoom w.labels (new_labels source w (Label, t) ahead) → ⊥) → (fault : SourceFault) → IsFaulty limit source w (Label, t) ahead fault → ⊥
+label_sound limit source w t ahead room fault (deep e d) = cc
+label_sound limit source w t ahead room fault (out_of_range e d) = cc
+label_sound limit source w t ahead room fault (many_names e d) = cc
+label_sound limit source w t ahead room fault (many_labels e d) = room d
+label_sound limit source w t ahead room fault (in_table e d f) = cc
+label_sound limit source w t ahead room fault (without_lines e d f) = cc
+
+-- a label that enters these
+label_gives : {limit : ℕ} {reader : Reader} {at behind : ℕ} {t : Token} {w : Walk} {old : Tables} (texts : List (List ℕ)) → IsNext (is Label) reader at t behind → new_labels reader.source.now w (Label, t) (kind_of (seen_from reader behind)) ≡ texts → Holds reader old w → (LacksRoom old.labels texts → ⊥) →
+    Gives limit reader.source.now (token Label) w (seen_from reader at) (leaf (Label, t)) (past reader w Label t behind) (seen_from reader behind)
+label_gives {limit} {reader} {behind = behind} {t = t} {w = w} texts n is h room =
+    gives_one (exact {kind = Label} n) refl (label_sound limit reader.source.now w t (kind_of (seen_from reader behind)) (λ l. room (subst (λ (ls : List (List ℕ)). LacksRoom ls texts) h.labels (subst (λ (x : List (List ℕ)). LacksRoom w.labels x) is l)))) refl
+
+label_refuses : {limit : ℕ} {reader : Reader} {at behind : ℕ} {t : Token} {w : Walk} {old : Tables} (texts : List (List ℕ)) {e : SourceFaultOrMemory} → IsNext (is Label) reader at t behind → new_labels reader.source.now w (Label, t) (kind_of (seen_from reader behind)) ≡ texts → Holds reader old w → LacksRoom old.labels texts →
+    e ≡ Fault (record { error = TooManyLabels; at = t.at }) → Refuses limit reader.source.now (token Label) w (seen_from reader at) e
+label_refuses {w = w} texts n is h lacks e =
+    refuses_token (takes_next (exact {kind = Label} n) refl) (many_labels refl (subst (λ (x : List (List ℕ)). LacksRoom w.labels x) (sym is) (subst (λ (ls : List (List ℕ)). LacksRoom ls texts) (sym h.labels) lacks))) e
+
+single_room : (labels : List (List ℕ)) (text : List ℕ) → (IsFullFor labels text → ⊥) → LacksRoom labels (text ∷ []) → ⊥
+single_room labels text room l = go (lacking_of labels [] text l)
+  where
+    go : Lacking labels [] text → ⊥
+    go (earlier_one k) = no_nil k.before k.text k.behind k.parts
+    go (this_one f) = room f
+
+starless_ahead : (ts : List Seen) → leads productions look_ahead (token Star) ts ≡ false → is Star (kind_of ts) ≡ false
+starless_ahead ts h = sym (leads_by_kind (token Star) ts refl) ∙ h
+
+-- ---- a label, or a range
+
+module _ {reader : Reader} {at : ℕ} {old : Tables} {w : Walk} {first : Token} {next : ℕ} (h : Has reader old w) (clean : Starless w) (n : IsNext (is Label) reader at first next) where
+  -- the label that stands alone
+  alone_new : leads productions look_ahead (token Star) (seen_from reader next) ≡ false → new_labels reader.source.now w (Label, first) (kind_of (seen_from reader next)) ≡ text_of_label reader.source.now first ∷ []
+  alone_new unled = label_new reader.source.now w first (kind_of (seen_from reader next)) clean ∙ ap (λ b. cond b [] (text_of_label reader.source.now first ∷ [])) (starless_ahead (seen_from reader next) unled)
+
+  pub label_got : {limit : ℕ} (was now : Position) (new : Tables) (number : ℕ) (labels : List (List ℕ)) → leads productions look_ahead (token Star) (seen_from reader next) ≡ false → (text : List ℕ) → text ≡ text_of_label reader.source.now first → IsEntered old.labels labels text number → new.names ≡ old.names → new.labels ≡ labels →
+      now.labels.items ≡ was.labels.items ++ number ∷ [] → now.bad_range ≡ was.bad_range → IsGot limit (λ sense tree x. IsAdded reader.source.now sense tree was x) (Stays reader new w) (the Range) reader at new w now next
+  label_got was now new number labels unled text spelled given names same items bad = let e = subst (λ (x : List ℕ). IsEntered old.labels labels x number) spelled given in record {
+    tree = node (pair (leaf (Label, first)) none);
+    behind = past reader w Label first next;
+    gives = gives_the Range (gives_both (label_gives (text_of_label reader.source.now first ∷ []) n (alone_new unled) h.holds (single_room old.labels (text_of_label reader.source.now first) e.room)) (gives_none (unled_next (is Star) (token Label) (seen_from reader next) unled)));
+    leaves = label_stays w first next (text_of_label reader.source.now first ∷ []) (alone_new unled) h names (same ∙ e.table);
+    means = λ sense m. (items ∙ ap (λ k. was.labels.items ++ k ∷ []) (sym (ap or_0 (m.labels (text_of_label reader.source.now first) number (ap (λ (z : List (List ℕ)). place_of z (text_of_label reader.source.now first)) same ∙ e.place)))), bad ∙ or_none was.bad_range);
+    further = (let g = n.further in omega arith);
+  }
+    where
+      or_none : (b : Bool) → b ≡ (b || false)
+      or_none true = refl
+      or_none false = refl
+
+  pub label_not_entered : {limit : ℕ} {e : SourceFaultOrMemory} → leads productions look_ahead (token Star) (seen_from reader next) ≡ false → (text : List ℕ) → text ≡ text_of_label reader.source.now first → IsNotEntered old.labels text first.at e → Refuses limit reader.source.now (the Range) w (seen_from reader at) e
+  label_not_entered unled text spelled r = elim r.why [
+    inl m ↦ refuses_memory m |
+    inr f ↦ refuses_the Range (refuses_first (label_refuses (text_of_label reader.source.now first ∷ []) n (alone_new unled) h.holds (lacks_append old.labels [] (text_of_label reader.source.now first) [] (subst (λ (x : List ℕ). IsFullFor old.labels x) spelled f.1)) f.0))
+  ]
+
+  module _ {star : Token} {middle : ℕ} (m : IsNext (is Star) reader next star middle) where
+    -- the label that begins a range enters none
+    begun_new : new_labels reader.source.now w (Label, first) (kind_of (seen_from reader next)) ≡ []
+    begun_new = label_new reader.source.now w first (kind_of (seen_from reader next)) clean ∙ ap (λ b. cond b [] (text_of_label reader.source.now first ∷ [])) (ap (λ (ts : List Seen). is Star (kind_of ts)) (exact {kind = Star} m))
+
+    begun_stays : Stays reader old w (past reader w Label first next)
+    begun_stays = label_stays w first next [] begun_new h refl refl
+
+    star_stays : Stays reader old w (past reader (past reader w Label first next) Star star middle)
+    star_stays = stays_then begun_stays (plain_stays reader (past reader w Label first next) Star star middle refl begun_stays.has)
+
+    begun_gives : {limit : ℕ} → Gives limit reader.source.now (token Label) w (seen_from reader at) (leaf (Label, first)) (past reader w Label first next) (seen_from reader next)
+    begun_gives = label_gives [] n begun_new h.holds (λ l. no_nil l.before l.text l.behind l.parts)
+
+    -- what the label behind the `*` enters
+    last_new : (last : Token) (ahead : Terminal) → new_labels reader.source.now (past reader (past reader w Label first next) Star star middle) (Label, last) ahead ≡ range_texts reader.source.now (text_of_label reader.source.now first) (text_of_label reader.source.now last)
+    last_new last ahead = refl
+
+    pub range_unfinished : {limit : ℕ} {e : SourceFaultOrMemory} → IsLacking (is Label) reader middle e → Refuses limit reader.source.now (the Range) w (seen_from reader at) e
+    range_unfinished l = refuses_the Range (refuses_second begun_gives (refuses_some (leads_next (token Label) m) (refuses_second (gives_exact {kind = Star} m refl) (refuses_lacking l))))
+
+    module _ {last : Token} {behind : ℕ} (k : IsNext (is Label) reader middle last behind) where
+      pub range_got : {limit : ℕ} (was now : Position) (new : Tables) → IsEnteredRange reader.source.now old new was now first last → new.names ≡ old.names → IsGot limit (λ sense tree x. IsAdded reader.source.now sense tree was x) (Stays reader new w) (the Range) reader at new w now behind
+      range_got was now new e names = record {
+        tree = node (pair (leaf (Label, first)) (some (pair (leaf (Star, star)) (leaf (Label, last)))));
+        behind = past reader (past reader (past reader w Label first next) Star star middle) Label last behind;
+        gives = gives_the Range (gives_both begun_gives (gives_some (leads_next (token Label) m) (gives_both (gives_exact {kind = Star} m refl) (label_gives texts k refl star_stays.has.holds e.room))));
+        leaves = stays_then star_stays (label_stays (past reader (past reader w Label first next) Star star middle) last behind texts refl star_stays.has names e.table);
+        means = λ sense s. (e.labels ∙ ap (λ u. was.labels.items ++ u) (places sense s), e.bad_range);
+        further = (let a = n.further in let b = m.further in let c = k.further in omega arith);
+      }
+        where
+          from : List ℕ
+          from = text_of_label reader.source.now first
+
+          to : List ℕ
+          to = text_of_label reader.source.now last
+
+          texts : List (List ℕ)
+          texts = range_texts reader.source.now from to
+
+          in_order : (sense : Sense) → IsSense new sense → (us : List (List ℕ)) → AreThere new.labels us → map (λ text. or_0 (place_of new.labels text)) us ≡ map (λ text. or_0 (place_of sense.labels text)) us
+          in_order sense s [] h = refl
+          in_order sense s (u ∷ us) h = ap₂ (λ a b. or_0 a ∷ b) (h.0.1 ∙ sym (s.labels u h.0.0 h.0.1)) (in_order sense s us h.1)
+
+          by_range : (labels : List (List ℕ)) (b : Bool) → map (λ text. or_0 (place_of labels text)) (cond b (members from to) []) ≡ cond b (map (λ text. or_0 (place_of labels text)) (members from to)) []
+          by_range labels true = refl
+          by_range labels false = refl
+
+          places : (sense : Sense) → IsSense new sense → map (λ text. or_0 (place_of new.labels text)) (range_texts reader.source.now from to) ≡ range_labels reader.source.now sense.labels sense.value neg_ℚ from to
+          places sense s = in_order sense s (range_texts reader.source.now from to) e.are_there ∙ by_range sense.labels (is_range from to)
+
+      pub range_refused : {limit : ℕ} {e : SourceFaultOrMemory} → IsNotEnteredRange reader.source.now old first last e → Refuses limit reader.source.now (the Range) w (seen_from reader at) e
+      range_refused r = elim r.why [
+        inl f ↦ refuses_memory f |
+        inr f ↦ refuses_the Range (refuses_second begun_gives (refuses_some (leads_next (token Label) m) (refuses_second (gives_exact {kind = Star} m refl) (label_refuses (range_texts reader.source.now (text_of_label reader.source.now first) (text_of_label reader.source.now last)) k refl star_stays.has.holds f.1 f.0))))
+      ]
+
+-- ---- members, one after another
+
+parted_at : {T : Type 0} (xs : List T) (i : ℕ) (d : T) → i < length xs → (rest : List T) × (xs ≡ take i xs ++ get_or xs i d ∷ rest)
+parted_at [] i d h = absurd (omega (arith, h))
+parted_at (x ∷ xs) zero d h = (xs, refl)
+parted_at (x ∷ xs) (suc i) d h = let r = parted_at xs i d (omega (arith, h)) in (r.0, ap (λ u. x ∷ u) r.1)
+
+pub entering_next : (old now all : List (List ℕ)) (i : ℕ) (was numbers : List ℕ) → Entering old now (take i all) was numbers → i < length all → (text : List ℕ) → text ≡ get_or all i [] → (new : List (List ℕ)) (n : ℕ) → IsEntered now new text n → (more : List ℕ) → more ≡ numbers ++ n ∷ [] → Entering old new (take (i + 1) all) was more
+entering_next old now all i was numbers e within text is new n f more is_more =
+    let next : take (i + 1) all ≡ take i all ++ text ∷ [] = (ap (λ k. take k all) (let k : i + 1 ≡ suc i = omega arith in k) ∙ take-suc all i [] within ∙ ap (λ t. take i all ++ t ∷ []) (sym is)) in
+    subst (λ (z : List (List ℕ)). Entering old new z was more) (sym next) (entering_on old now (take i all) was numbers e new text n f more is_more)
+
+-- the texts of a range, where it is one
+pub texts_are : (source from to a b : List ℕ) (all : List (List ℕ)) → from ≡ a → to ≡ b → is_range from to ≡ true → all ≡ members from to → range_texts source a b ≡ all
+texts_are source from to a b all e f r m = ap₂ (λ x y. range_texts source x y) (sym e) (sym f) ∙ ap (λ c. cond c (members from to) []) r ∙ sym m
+
+pub texts_none : (source from to a b : List ℕ) → from ≡ a → to ≡ b → is_range from to ≡ false → range_texts source a b ≡ []
+texts_none source from to a b e f r = ap₂ (λ x y. range_texts source x y) (sym e) (sym f) ∙ ap (λ c. cond c (members from to) []) r
+
+take_all : {T : Type 0} (xs : List T) (i : ℕ) → length xs ≤ i → take i xs ≡ xs
+take_all [] zero h = refl
+take_all [] (suc i) h = refl
+take_all (x ∷ xs) zero h = absurd (omega (arith, h))
+take_all (x ∷ xs) (suc i) h = ap (λ u. x ∷ u) (take_all xs i (omega (arith, h)))
+
+-- all members were entered
+pub members_entered : (source : List ℕ) (old new : Tables) (was now : Position) (first last : Token) (all : List (List ℕ)) (i : ℕ) → Entering old.labels new.labels (take i all) was.labels.items now.labels.items → length all ≤ i → range_texts source (text_of_label source first) (text_of_label source last) ≡ all →
+    now.bad_range ≡ was.bad_range → is_range (text_of_label source first) (text_of_label source last) ≡ true → IsEnteredRange source old new was now first last
+members_entered source old new was now first last all i e done texts bad range =
+    let whole : Entering old.labels new.labels (range_texts source (text_of_label source first) (text_of_label source last)) was.labels.items now.labels.items = subst (λ (z : List (List ℕ)). Entering old.labels new.labels z was.labels.items now.labels.items) (take_all all i done ∙ sym texts) e in
+    record {
+      table = whole.table;
+      room = whole.room;
+      labels = whole.numbers_are;
+      are_there = whole.are_there;
+      bad_range = bad ∙ or_none was.bad_range ∙ ap (λ b. was.bad_range || not b) (sym range);
+    }
+  where
+    or_none : (b : Bool) → b ≡ (b || false)
+    or_none true = refl
+    or_none false = refl
+
+-- it is no range
+pub no_members : (source : List ℕ) (tables : Tables) (was now : Position) (first last : Token) → is_range (text_of_label source first) (text_of_label source last) ≡ false → now.labels.items ≡ was.labels.items → now.bad_range ≡ true → IsEnteredRange source tables tables was now first last
+no_members source tables was now first last lacking items bad =
+    let texts : range_texts source (text_of_label source first) (text_of_label source last) ≡ [] = ap (λ c. cond c (members (text_of_label source first) (text_of_label source last)) []) lacking in
+    record {
+      table = ap (all_entered tables.labels) (sym texts);
+      room = room_for_none tables.labels (range_texts source (text_of_label source first) (text_of_label source last)) texts;
+      labels = items ∙ append_none was.labels.items ∙ ap (λ us. was.labels.items ++ map (λ text. or_0 (place_of tables.labels text)) us) (sym texts);
+      are_there = subst (λ (us : List (List ℕ)). AreThere tables.labels us) (sym texts) tt;
+      bad_range = bad ∙ sym (ap (λ b. was.bad_range || not b) lacking ∙ or_yes was.bad_range);
+    }
+  where
+    or_yes : (b : Bool) → (b || true) ≡ true
+    or_yes true = refl
+    or_yes false = refl
+
+-- a member finds no room
+pub member_refused : (source : List ℕ) (old : Tables) (first last : Token) (now all : List (List ℕ)) (i : ℕ) (was numbers : List ℕ) → Entering old.labels now (take i all) was numbers → i < length all → range_texts source (text_of_label source first) (text_of_label source last) ≡ all → (text : List ℕ) → text ≡ get_or all i [] →
+    (e : SourceFaultOrMemory) → IsNotEntered now text last.at e → IsNotEnteredRange source old first last e
+member_refused source old first last now all i was numbers g within texts text is e r = record { why = elim r.why [ inl m ↦ inl m | inr f ↦ inr (f.0, lacks f.1) ] }
+  where
+    lacks : IsFullFor now text → LacksRoom old.labels (range_texts source (text_of_label source first) (text_of_label source last))
+    lacks f =
+        let p = parted_at all i [] within in
+        subst (λ (z : List (List ℕ)). LacksRoom old.labels z) (sym (texts ∙ p.1 ∙ ap (λ t. take i all ++ t ∷ p.0) (sym is))) (entering_full old.labels now (take i all) was numbers g text p.0 f)
+
+-- the error of a range says that it is none
+pub range_error : (range : Bool) (e : SetFaultOrMemory) (fault : SetFault) → IsRangeError range e → e ≡ set_fault.Fault fault → range ≡ false
+range_error range e fault r is_fault = (subst (λ (x : SetFaultOrMemory). IsRangeError range x) is_fault r).0

@@ -1,0 +1,170 @@
+-- Whole sources: what was read of the tokens is the program, or its first fault.
+use Rattle.std.proofs.Common.{◌≡◌, ◌⊎◌, inl, inr, ℕ, ◌≤◌, ◌<◌, List, [], ◌∷◌, ◌++◌, length, Vec, refl, sym, ap, ◌∙◌, subst, append_assoc}
+use Rattle.std.specs.declared.alloc.Global.{Global}
+use Rattle.gq_number.specs.Number.{Number, neg_ℚ}
+use Rattle.gms_ast.specs.declared.program.Stmt.{Stmt}
+use Rattle.gms_ast.specs.StatementView.{statements_view}
+use Rattle.gms_lex.specs.declared.token.Token.{Token}
+use Rattle.gms_lex.specs.declared.fault.LexFaultOrMemory.{LexFaultOrMemory}
+use Rattle.gms_lex.specs.declared.fault.LexFaultOrMemory.TheVariants as lexed
+use Rattle.gms_lex.specs.Tokens.{IsTokens, most_bytes}
+use Rattle.gms_lex.specs.Tokens.{IsRefusal as IsLexicalRefusal}
+use Rattle.gms_grammar.specs.declared.terminal.Terminal.{Terminal}
+use Rattle.gms_grammar.specs.declared.terminal.Terminal.TheVariants.{End}
+use Rattle.gms_grammar.specs.Grammar.{the, yield, Derives, Begins, Stops}
+use Rattle.gms_grammar.specs.Grammar.{IsUnexpected as IsUnexpectedNext}
+use Rattle.gms_grammar.specs.GamsGrammar.{Program, productions}
+use Rattle.gms_grammar.specs.GamsLookAhead.{look_ahead}
+use Rattle.gms_grammar.proofs.Basics.{behind_same}
+use Rattle.gms_grammar.proofs.Sound.{sound}
+use Rattle.gms_grammar.proofs.Language.{gams_read_stops, gams_stuck_stops, gams_stuck_none, gams_takes, gams_stops}
+use Rattle.gms_parse_x.specs.ExpressionTrees.{no_token, first_place}
+use Rattle.gms_parse_x.specs.Outcomes.{seen, next_place}
+use Rattle.gms_parse.specs.declared.fault.SourceFault.{SourceFault}
+use Rattle.gms_parse.specs.declared.fault.SourceFaultOrMemory.{SourceFaultOrMemory}
+use Rattle.gms_parse.specs.declared.fault.SourceFaultOrMemory.TheVariants.{Fault, Memory}
+use Rattle.gms_parse.specs.declared.reader.Reader.{Reader}
+use Rattle.gms_parse.specs.declared.reader.Tables.{Tables}
+use Rattle.gms_parse.specs.Faults.{fault_of_lexical}
+use Rattle.gms_parse.specs.Outcomes.{unexpected_error, IsProgramOf, IsNoProgram, IsUnexpected, IsRefusal}
+use Rattle.gms_parse.specs.Walks.{Seen, Walk, start, kind_ahead, walk_behind, IsFaulty, AreSound}
+use Rattle.gms_parse.specs.Readings.{IsStuck, IsWrong, Sense, IsSense, Holds, IsOver, IsWhole, RefusesWhole, IsReady, seen_from, kind_of, unexpected}
+use Rattle.gms_parse.specs.Meanings.{IsTabled, AreStatements}
+use Rattle.gms_parse.proofs.Walks.{ahead_append}
+use Rattle.gms_parse.proofs.EndTokens.{HasEnd, has_end, begins_other, end_behind, end_alone}
+use Rattle.gms_parse.proofs.Named.{so_far, is_so_far}
+
+-- ---- fronts
+
+-- Of two fronts of one list either the first goes on with the second, or the second is longer.
+data Compared {T : Type 0} (u front : List T) : Type 0 where
+  begins : (more : List T) → front ≡ u ++ more → Compared u front
+  passes : (x : T) (more : List T) → u ≡ front ++ (x ∷ more) → Compared u front
+
+compare : {T : Type 0} (u v front rest : List T) → u ++ v ≡ front ++ rest → Compared u front
+compare [] v front rest e = begins front refl
+compare (x ∷ u) v [] rest e = passes x u refl
+compare (x ∷ u) v (y ∷ front) rest e = go (compare u v front rest cc)
+  where
+    same : x ≡ y
+    same = cc
+
+    go : Compared u front → Compared (x ∷ u) (y ∷ front)
+    go (begins more h) = begins more cc
+    go (passes z more h) = passes z more cc
+
+-- what begins a program is no longer than the front at which tokens cease to begin it
+front_begins : (ts front rest u v : List Seen) → Stops productions (the Program) ts front rest → ts ≡ u ++ v → Begins productions (the Program) u → (more : List Seen) × (front ≡ u ++ more)
+front_begins ts front rest u v s e b = go (compare u v front rest (sym e ∙ s.parts))
+  where
+    longer : (x : Seen) (more : List Seen) → u ≡ front ++ (x ∷ more) → (rest : List Seen) → IsUnexpectedNext productions (the Program) front rest → x ∷ (more ++ v) ≡ rest → ⊥
+    longer x more h [] ends k = cc
+    longer x more h (y ∷ rest) ends k =
+        let same : x ≡ y = cc in
+        let some : Begins productions (the Program) (front ++ (x ∷ [])) = record {
+          further = more ++ b.further;
+          derives = record {
+            tree = b.derives.tree;
+            is_tree = b.derives.is_tree;
+            yields = b.derives.yields ∙ ap (λ w. w ++ b.further) h ∙ append_assoc front (x ∷ more) b.further ∙ sym (append_assoc front (x ∷ []) (more ++ b.further));
+          };
+        } in
+        ends (subst (λ (z : Seen). Begins productions (the Program) (front ++ (z ∷ []))) same some)
+
+    go : Compared u front → (more : List Seen) × (front ≡ u ++ more)
+    go (begins more h) = (more, h)
+    go (passes x more h) = absurd (longer x more h rest s.ends (behind_same front (x ∷ (more ++ v)) rest (sym (append_assoc front (x ∷ more) v) ∙ ap (λ w. w ++ v) (sym h) ∙ sym e ∙ s.parts)))
+
+-- ---- no program
+
+module _ {limit : ℕ} {source : List ℕ} {ts : List Seen} (ended : HasEnd ts) where
+  -- some token stands behind those that begin a program
+  place_behind : (front rest : List Seen) → Stops productions (the Program) ts front rest → next_place source rest ≡ first_place rest
+  place_behind front [] s = absurd (end_behind ended front (begins_other front s.begins) s.parts)
+  place_behind front (x ∷ rest) s = refl
+
+  unexpected_behind : {fault : SourceFault} (front rest : List Seen) → Stops productions (the Program) ts front rest → (kind_of rest ≡ End → Derives productions (the Program) front → ⊥) → AreSound limit source start front (kind_of rest) → fault ≡ unexpected source rest → IsUnexpected limit source front rest fault
+  unexpected_behind front rest s none_such h e = record {
+    is_none = none_such;
+    are_sound = h;
+    error = ap (λ (x : SourceFault). x.error) e;
+    at = ap (λ (x : SourceFault). x.at) e ∙ place_behind front rest s;
+  }
+
+  stuck_none : {fault : SourceFault} → IsStuck limit source (the Program) start ts fault → IsNoProgram limit source ts fault
+  stuck_none s =
+      let stop = gams_stuck_stops no_token Program ts s.front s.rest s.reads in
+      record {
+        front = s.front;
+        rest = s.rest;
+        stops = stop;
+        cause = inr (unexpected_behind s.front s.rest stop (λ e d. gams_stuck_none no_token Program ts s.front s.rest s.reads d) s.are_sound s.is);
+      }
+
+  over_none : {fault : SourceFault} → IsOver limit source ts fault → IsNoProgram limit source ts fault
+  over_none o =
+      let stop = gams_read_stops no_token Program ts o.rest o.tree o.gives.reads in
+      record {
+        front = yield o.tree;
+        rest = o.rest;
+        stops = stop;
+        cause = inr (unexpected_behind (yield o.tree) o.rest stop (λ e d. o.other e) o.gives.are_sound o.is);
+      }
+
+  wrong_none : {fault : SourceFault} → IsWrong limit source (the Program) start ts fault → IsNoProgram limit source ts fault
+  wrong_none {fault} s =
+      let over = gams_takes no_token Program ts (s.before ++ s.token ∷ []) s.behind s.takes in
+      let stop = gams_stops no_token Program ts in
+      let more = front_begins ts stop.0 stop.1.0 (s.before ++ s.token ∷ []) s.behind stop.1.1 over.0 over.1 in
+      let behind : s.behind ≡ more.0 ++ stop.1.0 = behind_same (s.before ++ s.token ∷ []) s.behind (more.0 ++ stop.1.0) (sym over.0 ∙ stop.1.1.parts ∙ ap (λ w. w ++ stop.1.0) more.1 ∙ append_assoc (s.before ++ s.token ∷ []) more.0 stop.1.0) in
+      record {
+        front = stop.0;
+        rest = stop.1.0;
+        stops = stop.1.1;
+        cause = inl (record {
+          before = s.before;
+          token = s.token;
+          behind = more.0;
+          parts = more.1 ∙ append_assoc s.before (s.token ∷ []) more.0;
+          are_sound = s.are_sound;
+          is_faulty = subst (λ (k : Terminal). IsFaulty limit source (walk_behind source start s.before s.token.0) s.token k fault) (ap kind_of behind ∙ ahead_append more.0 stop.1.0 End) s.is_faulty;
+        });
+      }
+
+-- what is refused is no program
+pub refusal_of : {limit : ℕ} (reader : Reader) (e : SourceFaultOrMemory) → IsReady reader → length reader.source.now ≤ most_bytes → RefusesWhole limit reader e → IsRefusal limit reader.source.now e
+refusal_of reader Memory ready short r = tt
+refusal_of reader (Fault fault) ready short r =
+    let ended = has_end reader.source.now reader.tokens.now ready.tokens in
+    inr (inr (record {
+      short = short;
+      tokens = reader.tokens.now;
+      are_tokens = ready.tokens;
+      refused = elim (r.why fault refl) [ inl c ↦ elim c [ inl s ↦ stuck_none ended s | inr s ↦ wrong_none ended s ] | inr o ↦ over_none ended o ];
+    }))
+
+-- what is refused of the bytes
+pub lexical_refusal : {limit : ℕ} (source : List ℕ) (e : LexFaultOrMemory) → length source ≤ most_bytes → IsLexicalRefusal source e → IsRefusal limit source (fault_of_lexical e)
+lexical_refusal source lexed.Memory short r = tt
+lexical_refusal source (lexed.Fault fault) short r = inr (inl (record { short = short; lexical = fault; is_first = r; error = refl; at = refl }))
+
+-- ---- a program
+
+pub program_of : {F : Type 0} (value : F → Number) {limit : ℕ} {reader : Reader} {new : Tables} {statements : Vec (Stmt F) Global} → IsReady reader → IsWhole limit (IsTabled value reader.source.now limit (AreStatements value reader.source.now)) reader new statements →
+    IsProgramOf limit reader.source.now (seen reader.source.now reader.tokens.now) new.names new.labels (statements_view value statements.items)
+program_of value {limit} {reader} {new} {statements} ready whole =
+    let got = whole.got in
+    let read = sound productions look_ahead got.gives.reads in
+    let ended = has_end reader.source.now reader.tokens.now ready.tokens in
+    let behind = got.gives.leaves ∙ ap (walk_behind reader.source.now start (yield got.tree)) whole.at_end in
+    record {
+      tree = got.tree;
+      end = ended.end;
+      tokens_are = read.1 ∙ ap (λ w. yield got.tree ++ w) (end_alone ended got.tree (seen_from reader whole.next) read.0 read.1 whole.at_end);
+      is_tree = read.0;
+      are_sound = subst (λ (k : Terminal). AreSound limit reader.source.now start (yield got.tree) k) whole.at_end got.gives.are_sound;
+      names_are = sym got.leaves.names ∙ ap (λ (w : Walk). w.names) behind;
+      labels_are = sym got.leaves.labels ∙ ap (λ (w : Walk). w.labels) behind;
+      tables = (got.means (so_far new) (is_so_far new)).have;
+      statements_are = λ v h items right. (got.means (record { names = new.names; labels = new.labels; value = v }) (record { names = λ text n k. k; labels = λ text n k. k; value = h })).means items right;
+    }

@@ -1,0 +1,48 @@
+-- What statements show.
+use Rattle.std.proofs.Common.{◌≡◌, List, Option as Maybe, Vec, map, option_map, refl, sym, ap, ◌∙◌}
+use Rattle.std.specs.declared.alloc.Global.{Global}
+use Rattle.gq_number.specs.Number.{Number}
+use Rattle.gms_labels.specs.declared.place.Place.{Place}
+use Rattle.gms_ast.specs.declared.word.Named.{Named}
+use Rattle.gms_ast.specs.declared.expression.Expr.{Expr}
+use Rattle.gms_ast.specs.declared.expression.Index.{Index}
+use Rattle.gms_ast.specs.declared.expression.Control.{Control}
+use Rattle.gms_ast.specs.declared.declaration.Decl.{Decl}
+use Rattle.gms_ast.specs.declared.declaration.DeclKind.{DeclKind}
+use Rattle.gms_ast.specs.declared.program.Side.{Side}
+use Rattle.gms_ast.specs.declared.program.Right.{Right}
+use Rattle.gms_ast.specs.declared.program.Right.TheVariants as right
+use Rattle.gms_ast.specs.declared.program.Target.{Target as TargetNode}
+use Rattle.gms_ast.specs.declared.program.Act.{Act as ActNode}
+use Rattle.gms_ast.specs.declared.program.Act.TheVariants.{Declare, Assign, Define, Loop, rolls-Declare, rolls-Assign, rolls-Define, rolls-Loop}
+use Rattle.gms_ast.specs.declared.program.Act.TheOpen.{Act-F, Stmt-F}
+use Rattle.gms_ast.specs.declared.program.Act.TheFolds.{fold-roll-Act, fold-roll-Stmt}
+use Rattle.gms_ast.specs.declared.program.Stmt.{Stmt}
+use Rattle.gms_ast.specs.TreeView.{control_tree}
+use Rattle.gms_ast.specs.Numbers.{control_in_numbers}
+use Rattle.gms_ast.specs.StatementTrees.{Act, declares, assigns, defines, loops, Statements, statement}
+use Rattle.gms_ast.specs.StatementView.{declared_in, shown_tree, shown_indices, shown_target, shown_right, in_order, act_step, statement_step, statement_view}
+use Rattle.gms_parse.specs.Meanings.{act_view}
+
+module _ {F : Type 0} (value : F → Number) where
+  pub view-Declare : (kind : DeclKind) (items : List (Decl F)) → act_view value (Declare kind items) ≡ declares kind (map (declared_in value) items)
+  view-Declare kind items = ap (act_view value) (sym (rolls-Declare kind items)) ∙ fold-roll-Act F (Act Number) (Statements Number → Statements Number) (act_step value) (statement_step value) (Act-F.Declare kind items)
+
+  pub view-Assign : (target : TargetNode F) (condition : Maybe (Expr F)) (right_at : Place) (right_side : Right F) → act_view value (Assign target condition right_at right_side) ≡ assigns (shown_target value target) (option_map (shown_tree value) condition) right_at (shown_right value right_side)
+  view-Assign target condition right_at right_side = ap (act_view value) (sym (rolls-Assign target condition right_at right_side)) ∙ fold-roll-Act F (Act Number) (Statements Number → Statements Number) (act_step value) (statement_step value) (Act-F.Assign target condition right_at right_side)
+
+  pub view-Define : (equation : Named) (indices : List (Index F)) (condition : Maybe (Expr F)) (left_at : Place) (left_side : Expr F) (side : Side) (right_at : Place) (right_side : Expr F) →
+      act_view value (Define equation indices condition left_at left_side side right_at right_side) ≡ defines equation (shown_indices value indices) (option_map (shown_tree value) condition) (record { left_at = left_at; left = shown_tree value left_side; side = side; right_at = right_at; right = shown_tree value right_side })
+  view-Define equation indices condition left_at left_side side right_at right_side =
+      ap (act_view value) (sym (rolls-Define equation indices condition left_at left_side side right_at right_side)) ∙ fold-roll-Act F (Act Number) (Statements Number → Statements Number) (act_step value) (statement_step value) (Act-F.Define equation indices condition left_at left_side side right_at right_side)
+
+  pub assign_shown : (target : TargetNode F) (condition : Maybe (Expr F)) (at place : Place) (e : Expr F) → at ≡ place → act_view value (Assign target condition at (right.Value e)) ≡ assigns (shown_target value target) (option_map (shown_tree value) condition) place (shown_tree value e)
+  assign_shown target condition at place e same = view-Assign target condition at (right.Value e) ∙ ap (λ (p : Place). assigns (shown_target value target) (option_map (shown_tree value) condition) p (shown_tree value e)) same
+
+  pub define_shown : (equation : Named) (indices : List (Index F)) (condition : Maybe (Expr F)) (left_at left_place : Place) (left_side : Expr F) (side told : Side) (right_at right_place : Place) (right_side : Expr F) → left_at ≡ left_place → side ≡ told → right_at ≡ right_place →
+      act_view value (Define equation indices condition left_at left_side side right_at right_side) ≡ defines equation (shown_indices value indices) (option_map (shown_tree value) condition) (record { left_at = left_place; left = shown_tree value left_side; side = told; right_at = right_place; right = shown_tree value right_side })
+  define_shown equation indices condition left_at left_place left_side side told right_at right_place right_side l s r =
+      view-Define equation indices condition left_at left_side side right_at right_side
+      ∙ ap (λ (p : Place). defines equation (shown_indices value indices) (option_map (shown_tree value) condition) (record { left_at = p; left = shown_tree value left_side; side = side; right_at = right_at; right = shown_tree value right_side })) l
+      ∙ ap (λ (k : Side). defines equation (shown_indices value indices) (option_map (shown_tree value) condition) (record { left_at = left_place; left = shown_tree value left_side; side = k; right_at = right_at; right = shown_tree value right_side })) s
+      ∙ ap (λ (p : Place). defines equation (shown_indices value indices) (option_map (shown_tree value) condition) (record { left_at = left_place; left = shown_tree value left_side; side = told; right_at = p; right = shown_tree value right_side })) r

@@ -1,0 +1,26 @@
+use Rattle.gms_parse_x.proofs.Signs.{handed_on}
+use Rattle.std.proofs.Common.{◌≡◌, ◌∙◌, sym, ap, ap₂, refl}
+use Rattle.gms_ast.specs.declared.word.Word.{Word}
+use Rattle.gms_parse_x.specs.ExpressionTrees.{unquoted}
+use Rattle.gms_parse.proofs.Steps.{refuses_memory}
+use Rattle.gms_parse.proofs.Acts.{text_got, symbol_got, symbol_unnamed, symbol_refused}
+use Rattle.gms_parse.proofs.reader.Reader.shown.Goals as goal
+
+pub returns-in_err-text : goal.returns-in_err-text
+returns-in_err-text c limit walk s k l = handed_on _ _ c.from_residual.result _ c.from_residual.ensures.1 (refuses_memory c.in_err-text.ensures)
+
+pub returns-in-Some : goal.returns-in-Some
+returns-in-Some c limit walk s k l = text_got c.in-Some.ensures (k, l) s.has c.in_ok-text.text (c.in_ok-text.ensures ∙ ap (λ bytes. record { at = c.in-Some.token.at; text = bytes }) (c.between_marks.ensures ∙ ap unquoted c.text.ensures))
+
+pub returns-in_err-named : goal.returns-in_err-named
+returns-in_err-named c limit walk s k l = handed_on _ _ c.from_residual-in_err-named.result _ c.from_residual-in_err-named.ensures.1 (symbol_unnamed c.in_default.ensures (c.in_err-named.ensures limit walk s))
+
+pub returns-in_err-suffix : goal.returns-in_err-suffix
+returns-in_err-suffix c limit walk s k l =
+    let n = c.in_ok-named.ensures limit walk s in
+    handed_on _ _ c.from_residual-in_err-suffix.result _ c.from_residual-in_err-suffix.ensures.1 (symbol_refused c.in_default.ensures n.gives (c.in_err-suffix.ensures limit _ n.behind n.leaves.has))
+
+pub returns : goal.returns
+returns c limit walk s k l =
+    let n = c.in_ok-named.ensures limit walk s in
+    symbol_got c.in_default.ensures n (c.in_ok-suffix.ensures limit _ n.behind n.leaves.has)

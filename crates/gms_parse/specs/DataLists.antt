@@ -1,0 +1,127 @@
+-- The data that the derivations of lists mean: elements with their labels, ranges as their members, and values (GAMS User's Guide,
+-- "Sets", "Data Entry: Parameters, Scalars and Tables").
+use Rattle.std.specs.Prelude.{ℕ, Bool, false, not, ◌||◌, if◌then◌else◌, List, [], ◌∷◌, ◌++◌, map, Option, Some, None}
+use Rattle.gms_labels.specs.Labels.{place_of}
+use Rattle.gms_lex.specs.declared.token.Token.{Token}
+use Rattle.gms_lex.specs.TokenTexts.{token_text, unquoted}
+use Rattle.gms_grammar.specs.declared.terminal.Terminal.{Terminal}
+use Rattle.gms_grammar.specs.declared.terminal.Terminal.TheVariants as terminal
+use Rattle.gms_grammar.specs.Grammar.{Tree, left, right, some, more}
+use Rattle.gms_grammar.specs.Terminals.{is}
+use Rattle.gms_set.specs.Ranges.{is_range, members}
+use Rattle.gq_extended.specs.declared.extended.Ext.{Ext}
+use Rattle.gq_extended.specs.declared.extended.Ext.TheVariants.{Number, PlusInf, MinusInf, Na}
+use Rattle.gms_ast.specs.declared.declaration.Item.{Item}
+use Rattle.gms_parse_x.specs.ExpressionTrees.{or_0, token_of, terminal_in, first_in, second_in, inside, is_minus, place_in}
+
+-- what the parts of a repetition mean, in order
+abbrev pub each_in : {A T : Type 0} → (Tree T → A) → Tree T → List A
+each_in meaning (more tree others) = meaning tree ∷ each_in meaning others
+each_in meaning _ = []
+
+-- what the parts of a list with separators mean, in order
+abbrev pub listed_in : {A T : Type 0} → (Tree T → A) → Tree T → List A
+listed_in meaning tree = meaning (first_in tree) ∷ each_in (λ other. meaning (second_in other)) (second_in tree)
+
+-- what an optional part means, or what stands for it where it is left out
+abbrev pub optional_in : {A T : Type 0} → A → (Tree T → A) → Tree T → A
+optional_in absent meaning (some tree) = meaning tree
+optional_in absent meaning _ = absent
+
+-- what stands between two marks
+abbrev pub between : {T : Type 0} → Tree T → Tree T
+between tree = first_in (second_in tree)
+
+-- all lists one after another
+abbrev pub joined : {A : Type 0} → List (List A) → List A
+joined [] = []
+joined (xs ∷ others) = xs ++ joined others
+
+-- some test passes
+abbrev pub any_true : List Bool → Bool
+any_true [] = false
+any_true (b ∷ others) = b || any_true others
+
+-- a value with the other sign
+abbrev pub opposed : {N : Type 0} → (N → N) → Ext N → Ext N
+opposed opposite (Number n) = Number (opposite n)
+opposed opposite PlusInf = MinusInf
+opposed opposite MinusInf = PlusInf
+opposed opposite Na = Na
+
+-- a value with the sign that stands before it, where there is one
+abbrev pub signed_value : {N : Type 0} → (N → N) → Tree (Terminal × Token) → Ext N → Ext N
+signed_value opposite (some sign) value = if is_minus (token_of sign).kind then opposed opposite value else value
+signed_value opposite _ value = value
+
+-- In a source with these names and labels, where texts of numbers have these values, and numbers these opposites.
+module _ {N : Type 0} (source : List ℕ) (labels : List (List ℕ)) (value : List ℕ → N) (opposite : N → N) where
+  -- the label that a token is
+  abbrev pub label_text : Tree (Terminal × Token) → List ℕ
+  label_text tree = unquoted (token_text source (token_of tree))
+
+  -- the number of a label
+  abbrev pub number_of_label : List ℕ → ℕ
+  number_of_label text = or_0 (place_of labels text)
+
+  -- the numbers of the members of a range, and none where it is no range
+  abbrev pub range_labels : List ℕ → List ℕ → List ℕ
+  range_labels from to = if is_range from to then map number_of_label (members from to) else []
+
+  -- the labels of a range: the one label, or those from the first to the last
+  abbrev pub labels_in_range : Tree (Terminal × Token) → List ℕ
+  labels_in_range tree =
+      optional_in (number_of_label (label_text (first_in (inside tree))) ∷ []) (λ last. range_labels (label_text (first_in (inside tree))) (label_text (second_in last))) (second_in (inside tree))
+
+  -- a range is none
+  abbrev pub is_bad_range : Tree (Terminal × Token) → Bool
+  is_bad_range tree = optional_in false (λ last. not (is_range (label_text (first_in (inside tree))) (label_text (second_in last)))) (second_in (inside tree))
+
+  -- the ranges of a position of an element: one, or those in parentheses
+  abbrev pub ranges_in_part : Tree (Terminal × Token) → List (Tree (Terminal × Token))
+  ranges_in_part (left range) = range ∷ []
+  ranges_in_part (right list) = listed_in (λ range. range) (inside (between list))
+  ranges_in_part _ = []
+
+  -- the labels at a position of an element
+  abbrev pub labels_in_part : Tree (Terminal × Token) → List ℕ
+  labels_in_part tree = joined (map labels_in_range (ranges_in_part (inside tree)))
+
+  -- a position of an element has a range that is none
+  abbrev pub has_bad_range : Tree (Terminal × Token) → Bool
+  has_bad_range tree = any_true (map is_bad_range (ranges_in_part (inside tree)))
+
+  -- a value: NA, or a number or an infinity, perhaps with a sign
+  abbrev pub value_of_token : Tree (Terminal × Token) → Ext N
+  value_of_token tree = if is terminal.Infinity (terminal_in tree) then PlusInf else Number (value (token_text source (token_of tree)))
+
+  abbrev pub value_in : Tree (Terminal × Token) → Ext N
+  value_in (left tree) = Na
+  value_in (right tree) = signed_value opposite (first_in tree) (value_of_token (second_in tree))
+  value_in _ = Na
+
+  -- the item of data that an element is, with a value or without
+  abbrev pub item_of : Tree (Terminal × Token) → Option (Ext N) → Item N
+  item_of element value =
+      record {
+        at = place_in element;
+        parts = listed_in labels_in_part (inside element);
+        value = value;
+        bad_range = any_true (listed_in has_bad_range (inside element));
+      }
+
+  -- the item that an entry of a parameter is: an element, perhaps `=`, and a value
+  abbrev pub entry_of : Tree (Terminal × Token) → Item N
+  entry_of tree = item_of (first_in (inside tree)) (Some (value_in (inside (second_in (second_in (inside tree))))))
+
+  -- the items of a set's list
+  abbrev pub elements_in : Tree (Terminal × Token) → List (Item N)
+  elements_in list = listed_in (λ element. item_of element None) (inside list)
+
+  -- the items of a parameter's list
+  abbrev pub entries_in : Tree (Terminal × Token) → List (Item N)
+  entries_in list = listed_in entry_of (inside list)
+
+  -- the item of a scalar: its value, without positions
+  abbrev pub scalar_in : Tree (Terminal × Token) → List (Item N)
+  scalar_in tree = record { at = place_in tree; parts = []; value = Some (value_in (inside tree)); bad_range = false } ∷ []

@@ -1,0 +1,168 @@
+-- What the derivations of declarations mean: names of a kind, each with its domain and its data; and models with their equations
+-- (GAMS User's Guide, "Sets", "Data Entry", "Variables", "Equations", "Model and Solve Statements").
+use Rattle.std.specs.Prelude.{ℕ, Bool, true, false, if◌then◌else◌, List, [], ◌∷◌, Option, Some, None, codes}
+use Rattle.gms_lex.specs.declared.token.Token.{Token}
+use Rattle.gms_grammar.specs.declared.terminal.Terminal.{Terminal}
+use Rattle.gms_grammar.specs.Grammar.{Tree, pair, left, right, some, node, yield}
+use Rattle.gms_ast.specs.declared.word.Named.{Named}
+use Rattle.gms_ast.specs.declared.declaration.DeclKind.{DeclKind}
+use Rattle.gms_ast.specs.declared.declaration.DeclKind.TheVariants as kind
+use Rattle.gms_ast.specs.declared.declaration.Decl.{Decl}
+use Rattle.gms_ast.specs.declared.declaration.Item.{Item}
+use Rattle.gms_ast.specs.declared.declaration.ModelDecl.{ModelDecl}
+use Rattle.gms_lex.specs.TokenTexts.{token_text}
+use Rattle.gms_parse_x.specs.ExpressionTrees.{is_word, token_of, first_in, second_in, inside, name_in}
+use Rattle.gms_ast.specs.StatementTrees.{Act, declares, declares_models}
+use Rattle.gms_parse.specs.DataLists.{listed_in, optional_in, between, elements_in, entries_in, scalar_in}
+
+-- The items of a declaration, which its grammar nests: behind an item there may be a comma and further items, or a line end and
+-- perhaps further items.
+abbrev mutual
+  pub items_in : {A T : Type 0} → (Tree T → A) → Tree T → List A
+  items_in meaning (node tree) = item_and_others meaning tree
+  items_in meaning _ = []
+
+  item_and_others : {A T : Type 0} → (Tree T → A) → Tree T → List A
+  item_and_others meaning (pair item others) = meaning item ∷ further_items meaning others
+  item_and_others meaning _ = []
+
+  pub further_items : {A T : Type 0} → (Tree T → A) → Tree T → List A
+  further_items meaning (some tree) = behind_mark meaning tree
+  further_items meaning _ = []
+
+  behind_mark : {A T : Type 0} → (Tree T → A) → Tree T → List A
+  behind_mark meaning (left tree) = behind_comma meaning tree
+  behind_mark meaning (right tree) = behind_line_end meaning tree
+  behind_mark meaning _ = []
+
+  behind_comma : {A T : Type 0} → (Tree T → A) → Tree T → List A
+  behind_comma meaning (pair comma tree) = items_in meaning tree
+  behind_comma meaning _ = []
+
+  behind_line_end : {A T : Type 0} → (Tree T → A) → Tree T → List A
+  behind_line_end meaning (pair line_end tree) = perhaps_items meaning tree
+  behind_line_end meaning _ = []
+
+  perhaps_items : {A T : Type 0} → (Tree T → A) → Tree T → List A
+  perhaps_items meaning (some tree) = items_in meaning tree
+  perhaps_items meaning _ = []
+
+-- what `variable` declares behind a type
+abbrev pub variable_kind : List ℕ → DeclKind
+variable_kind word =
+    if is_word word (codes "free") then kind.Free else (if is_word word (codes "positive") then kind.Positive else (if is_word word (codes "negative") then kind.Negative else kind.Discrete))
+
+-- In a source with these names and labels, where texts of numbers have these values.
+module _ {N : Type 0} (source : List ℕ) (names labels : List (List ℕ)) (value : List ℕ → N) where
+  -- a name with its place
+  abbrev pub named_in : Tree (Terminal × Token) → Named
+  named_in tree = record { at = (token_of tree).at; name = name_in source names labels value tree }
+
+  -- a position of a domain: `*`, or a set
+  abbrev pub position_in : Tree (Terminal × Token) → Option Named
+  position_in (right name) = Some (named_in name)
+  position_in _ = None
+
+  -- a domain in parentheses
+  abbrev pub domain_in : Tree (Terminal × Token) → List (Option Named)
+  domain_in tree = listed_in (λ position. position_in (inside position)) (inside (between (inside tree)))
+
+  -- the domain that stands behind a name, or one without positions
+  abbrev pub optional_domain : Tree (Terminal × Token) → List (Option Named)
+  optional_domain tree = optional_in [] domain_in tree
+
+  -- a variable or an equation that is declared: its name and its domain
+  abbrev pub plain_in : Tree (Terminal × Token) → Decl N
+  plain_in item =
+      record {
+        named = named_in (first_in (inside item));
+        domain = optional_domain (second_in (inside item));
+        items = [];
+      }
+
+  -- a model has all equations
+  abbrev pub has_all : Tree (Terminal × Token) → Bool
+  has_all (left all) = true
+  has_all _ = false
+
+  -- the equations that are named
+  abbrev pub equations_in : Tree (Terminal × Token) → List Named
+  equations_in (right list) = listed_in named_in list
+  equations_in _ = []
+
+  -- a model that is declared: its name, and its equations between slashes
+  abbrev pub model_in : Tree (Terminal × Token) → ModelDecl
+  model_in item =
+      record {
+        named = named_in (first_in (inside item));
+        all = optional_in false (λ list. has_all (inside (between list))) (second_in (inside item));
+        equations = optional_in [] (λ list. equations_in (inside (between list))) (second_in (inside item));
+      }
+
+  -- the statement of variables, perhaps with a type before the keyword
+  abbrev pub variable_act : Tree (Terminal × Token) → Act N
+  variable_act statement =
+      declares (optional_in kind.Free (λ word. variable_kind (token_text source (token_of word))) (first_in (inside statement))) (items_in plain_in (second_in (second_in (inside statement))))
+
+  -- the statement of equations
+  abbrev pub equation_act : Tree (Terminal × Token) → Act N
+  equation_act statement = declares kind.Equation (items_in plain_in (second_in (inside statement)))
+
+  -- the statement of models
+  abbrev pub model_act : Tree (Terminal × Token) → Act N
+  model_act statement = declares_models (items_in model_in (second_in (inside statement)))
+
+-- The same where numbers have these opposites, and the lines of a table give these items.
+module _ {N : Type 0} (source : List ℕ) (names labels : List (List ℕ)) (value : List ℕ → N) (opposite : N → N) (table_items : List (Terminal × Token) → List (Item N)) where
+  -- what stands behind the name of a set or a parameter: its domain, and its data between slashes, which mean these items
+  abbrev pub data_in : (Tree (Terminal × Token) → List (Item N)) → Tree (Terminal × Token) → Decl N
+  data_in meaning item =
+      record {
+        named = named_in source names labels value (first_in (inside item));
+        domain = optional_domain source names labels value (between (inside item));
+        items = optional_in [] (λ list. meaning (between list)) (second_in (second_in (inside item)));
+      }
+
+  -- a set that is declared
+  abbrev pub set_in : Tree (Terminal × Token) → Decl N
+  set_in item = data_in (elements_in source labels value opposite) item
+
+  -- a parameter that is declared
+  abbrev pub parameter_in : Tree (Terminal × Token) → Decl N
+  parameter_in item = data_in (entries_in source labels value opposite) item
+
+  -- a scalar that is declared: its name, and its value between slashes
+  abbrev pub scalar_item_in : Tree (Terminal × Token) → Decl N
+  scalar_item_in item =
+      record {
+        named = named_in source names labels value (first_in (inside item));
+        domain = [];
+        items = optional_in [] (λ list. scalar_in source labels value opposite (between list)) (second_in (inside item));
+      }
+
+  -- the statement of sets
+  abbrev pub set_act : Tree (Terminal × Token) → Act N
+  set_act statement = declares kind.Set (items_in set_in (second_in (inside statement)))
+
+  -- the statement of parameters
+  abbrev pub parameter_act : Tree (Terminal × Token) → Act N
+  parameter_act statement = declares kind.Parameter (items_in parameter_in (second_in (inside statement)))
+
+  -- the statement of scalars
+  abbrev pub scalar_act : Tree (Terminal × Token) → Act N
+  scalar_act statement = declares kind.Scalar (items_in scalar_item_in (second_in (inside statement)))
+
+  -- the items that the lines of a table give, where it has any
+  abbrev pub items_of_lines : List (Terminal × Token) → List (Item N)
+  items_of_lines [] = []
+  items_of_lines (line ∷ lines) = table_items (line ∷ lines)
+
+  -- the statement of a table: its name, its domain, and the items that its lines give
+  abbrev pub table_act : Tree (Terminal × Token) → Act N
+  table_act statement =
+      let behind = second_in (inside statement) in
+      declares kind.Table (record {
+        named = named_in source names labels value (first_in behind);
+        domain = domain_in source names labels value (between behind);
+        items = items_of_lines (yield (second_in (second_in behind)));
+      } ∷ [])

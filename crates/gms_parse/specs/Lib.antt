@@ -1,0 +1,11 @@
+pub mod Faults
+pub mod DataLists
+pub mod Declarations
+pub mod Statements
+pub mod Programs
+pub mod Tables
+pub mod Walks
+pub mod Outcomes
+pub mod Readings
+pub mod Meanings
+pub mod TableReadings

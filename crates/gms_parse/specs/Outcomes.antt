@@ -1,0 +1,126 @@
+-- What parsing a source answers: its program, or its first fault (GAMS User's Guide, "GAMS Programs", and "GAMS Output", compilation
+-- errors).
+use Rattle.std.specs.Prelude.{◌≡◌, ◌≢◌, ◌⊎◌, ℕ, ◌<◌, ◌≤◌, if◌then◌else◌, List, [], ◌∷◌, ◌++◌, length, All}
+use Rattle.gms_lex.specs.declared.token.Token.{Token}
+use Rattle.gms_lex.specs.declared.fault.LexFault.{LexFault}
+use Rattle.gms_lex.specs.Tokens.{IsTokens, most_bytes}
+use Rattle.gms_lex.specs.Tokens.{IsFault as IsLexicalFault}
+use Rattle.gq_number.specs.Number.{Number, neg_ℚ}
+use Rattle.gms_grammar.specs.declared.terminal.Terminal.{Terminal}
+use Rattle.gms_grammar.specs.declared.terminal.Terminal.TheVariants as terminal
+use Rattle.gms_grammar.specs.Grammar.{the, Tree, yield, IsTree, Derives, Stops}
+use Rattle.gms_grammar.specs.Terminals.{is}
+use Rattle.gms_grammar.specs.GamsGrammar.{Program, productions}
+use Rattle.gms_ast.specs.declared.declaration.Item.{Item}
+use Rattle.gms_ast.specs.declared.program.Program.{Program as ProgramNode}
+use Rattle.gms_parse_x.specs.ExpressionTrees.{first_place}
+use Rattle.gms_parse_x.specs.Outcomes.{seen}
+use Rattle.gms_parse_x.specs.Valuations.{IsValuation}
+use Rattle.gms_parse.specs.declared.fault.SourceError.{SourceError}
+use Rattle.gms_parse.specs.declared.fault.SourceError.TheVariants.{TooLong, Expected, NotInProfile}
+use Rattle.gms_parse.specs.declared.fault.SourceFault.{SourceFault}
+use Rattle.gms_parse.specs.declared.fault.SourceFaultOrMemory.{SourceFaultOrMemory}
+use Rattle.gms_parse.specs.declared.fault.SourceFaultOrMemory.TheVariants.{Memory, Fault}
+use Rattle.gms_parse.specs.Faults.{error_of_lexical}
+use Rattle.gms_ast.specs.StatementTrees.{Statements}
+use Rattle.gms_ast.specs.StatementView.{statements_view}
+use Rattle.gms_parse.specs.Programs.{statements_of}
+use Rattle.gms_parse.specs.Tables.{AreTableItems}
+use Rattle.gms_parse.specs.Walks.{Seen, start, kind_ahead, walk_behind, IsFaulty, AreSound}
+
+-- the error of a token that is unexpected: of a word that the language leaves out this is said
+abbrev pub unexpected_error : List Seen → SourceError
+unexpected_error [] = Expected
+unexpected_error (token ∷ tokens) = if is terminal.NotInProfile token.0 then NotInProfile else Expected
+
+-- These are all the lines of a table among the tokens: lines one after another, with none before and none behind them.
+pub record IsTableOf (tokens lines : List Seen) : Type 0 where
+  pub before : List Seen
+  pub behind : List Seen
+  pub parts : tokens ≡ before ++ lines ++ behind
+  pub are_lines : All (λ token. token.0 ≡ terminal.TableLine) lines
+  pub some : lines ≢ []
+  pub none_before : (others : List Seen) (token : Seen) → before ≡ others ++ token ∷ [] → token.0 ≢ terminal.TableLine
+  pub none_behind : kind_ahead behind terminal.End ≢ terminal.TableLine
+
+module _ (limit : ℕ) (source : List ℕ) where
+  -- each table among the tokens has items
+  abbrev pub HaveItems : List (List ℕ) → List Seen → Type 0
+  HaveItems labels tokens = (lines : List Seen) → IsTableOf tokens lines → (items : List (Item Number)) × AreTableItems limit source labels lines items
+
+  -- these are the items of each table among the tokens, by its lines
+  abbrev pub AreAllItems : List (List ℕ) → List Seen → (List Seen → List (Item Number)) → Type 0
+  AreAllItems labels tokens table_items = (lines : List Seen) → IsTableOf tokens lines → AreTableItems limit source labels lines (table_items lines)
+
+  -- The program of the tokens, which is the only one: they are a program up to the end, and none has a fault. Its names and labels
+  -- are those that the tokens leave, each table has its items, and the statements are those that the derivation means, in which each
+  -- text of a number means its number, and each table gives its items.
+  pub record IsProgramOf (tokens : List Seen) (names labels : List (List ℕ)) (statements : Statements Number) : Type 0 where
+    pub tree : Tree Seen
+    pub end : Token
+    pub tokens_are : tokens ≡ yield tree ++ (terminal.End, end) ∷ []
+    pub is_tree : IsTree productions (the Program) tree
+    pub are_sound : AreSound limit source start (yield tree) terminal.End
+    pub names_are : names ≡ (walk_behind source start (yield tree) terminal.End).names
+    pub labels_are : labels ≡ (walk_behind source start (yield tree) terminal.End).labels
+    pub tables : HaveItems labels (yield tree)
+    pub statements_are : (value : List ℕ → Number) → IsValuation value → (table_items : List Seen → List (Item Number)) → AreAllItems labels (yield tree) table_items →
+        statements ≡ statements_of source names labels value neg_ℚ table_items tree
+
+  -- The first faulty one of the tokens that begin a program, where one of kind `ahead` stands behind these.
+  pub record IsFirstFaulty (front : List Seen) (ahead : Terminal) (fault : SourceFault) : Type 0 where
+    pub before : List Seen
+    pub token : Seen
+    pub behind : List Seen
+    pub parts : front ≡ before ++ token ∷ behind
+    pub are_sound : AreSound limit source start before token.0
+    pub is_faulty : IsFaulty limit source (walk_behind source start before token.0) token (kind_ahead behind ahead) fault
+
+  -- The token behind those that begin a program is unexpected, and none of them is faulty; at the end of the source more has to come.
+  pub record IsUnexpected (front rest : List Seen) (fault : SourceFault) : Type 0 where
+    pub is_none : kind_ahead rest terminal.End ≡ terminal.End → Derives productions (the Program) front → ⊥
+    pub are_sound : AreSound limit source start front (kind_ahead rest terminal.End)
+    pub error : fault.error ≡ unexpected_error rest
+    pub at : fault.at ≡ first_place rest
+
+  -- The tokens are no program, or a faulty one: this is the first fault.
+  pub record IsNoProgram (tokens : List Seen) (fault : SourceFault) : Type 0 where
+    pub front : List Seen
+    pub rest : List Seen
+    pub stops : Stops productions (the Program) tokens front rest
+    pub cause : IsFirstFaulty front (kind_ahead rest terminal.End) fault ⊎ IsUnexpected front rest fault
+
+  -- A source of too many bytes has a fault at its start, and no other.
+  abbrev pub IsTooLong : SourceFault → Type 0
+  IsTooLong fault = (most_bytes < length source) × (fault ≡ record { error = TooLong; at = record { line = 1; column = 1 } })
+
+  -- Else a lexical fault comes before all others.
+  pub record IsLexical (fault : SourceFault) : Type 0 where
+    pub short : length source ≤ most_bytes
+    pub lexical : LexFault
+    pub is_first : IsLexicalFault source lexical
+    pub error : fault.error ≡ error_of_lexical lexical.error
+    pub at : fault.at ≡ lexical.at
+
+  -- Else the fault is the first of the tokens.
+  pub record IsSyntactic (fault : SourceFault) : Type 0 where
+    pub short : length source ≤ most_bytes
+    pub tokens : List Token
+    pub are_tokens : IsTokens source tokens
+    pub refused : IsNoProgram (seen source tokens) fault
+
+  -- the fault of the source
+  abbrev pub IsFault : SourceFault → Type 0
+  IsFault fault = IsTooLong fault ⊎ (IsLexical fault ⊎ IsSyntactic fault)
+
+  -- an answer in place of a program: the fault of the source, or want of memory
+  abbrev pub IsRefusal : SourceFaultOrMemory → Type 0
+  IsRefusal (Fault fault) = IsFault fault
+  IsRefusal Memory = Unit {0}
+
+  -- The program of the source.
+  pub record IsProgram {F : Type 0} (value_of : F → Number) (program : ProgramNode F) : Type 0 where
+    pub short : length source ≤ most_bytes
+    pub tokens : List Token
+    pub are_tokens : IsTokens source tokens
+    pub is : IsProgramOf (seen source tokens) program.names program.labels (statements_view value_of program.statements.items)

@@ -1,0 +1,148 @@
+-- The statements that the derivation of a program means (GAMS User's Guide, "GAMS Programs", "Programming Flow Control Features").
+use Rattle.std.specs.Prelude.{ℕ, List, []}
+use Rattle.gms_lex.specs.declared.token.Token.{Token}
+use Rattle.gms_grammar.specs.declared.terminal.Terminal.{Terminal}
+use Rattle.gms_grammar.specs.Grammar.{Tree, pair, left, right, some, more, node}
+use Rattle.gms_ast.specs.declared.declaration.Item.{Item}
+use Rattle.gms_parse_x.specs.ExpressionTrees.{place_in, control}
+use Rattle.gms_ast.specs.StatementTrees.{Act, loops, displays, Statements, no_statement, statement, followed_by}
+use Rattle.gms_parse.specs.Declarations.{variable_act, equation_act, model_act, set_act, parameter_act, scalar_act, table_act}
+use Rattle.gms_parse.specs.Statements.{named_act, assignment_act, alias_act, display_act, option_act, solve_act, abort_act}
+
+-- In a source with these names and labels, where texts of numbers have these values. What is no tree of its part means nothing that
+-- matters.
+module _ {N : Type 0} (source : List ℕ) (names labels : List (List ℕ)) (value : List ℕ → N) where
+  abbrev mutual
+    -- a loop: its control, and the statements of its body
+    pub loop_act : Tree (Terminal × Token) → Act N
+    loop_act (node tree) = loop_in tree
+    loop_act _ = displays []
+
+    loop_in : Tree (Terminal × Token) → Act N
+    loop_in (pair word tree) = bracketed_loop tree
+    loop_in _ = displays []
+
+    bracketed_loop : Tree (Terminal × Token) → Act N
+    bracketed_loop (pair opening tree) = closed_loop tree
+    bracketed_loop _ = displays []
+
+    closed_loop : Tree (Terminal × Token) → Act N
+    closed_loop (pair tree closing) = controlled tree
+    closed_loop _ = displays []
+
+    pub controlled : Tree (Terminal × Token) → Act N
+    controlled (pair sets tree) = loop_over sets tree
+    controlled _ = displays []
+
+    loop_over : Tree (Terminal × Token) → Tree (Terminal × Token) → Act N
+    loop_over sets (pair comma tree) = loops (control source names labels value sets) (loop_body tree)
+    loop_over sets _ = displays []
+
+    -- the statements of a loop's body
+    pub loop_body : Tree (Terminal × Token) → Statements N
+    loop_body (node tree) = first_and_others tree
+    loop_body _ = no_statement
+
+    first_and_others : Tree (Terminal × Token) → Statements N
+    first_and_others (pair first others) = statement (place_in first) (inner_act first) (behind_semicolon others)
+    first_and_others _ = no_statement
+
+    pub behind_semicolon : Tree (Terminal × Token) → Statements N
+    behind_semicolon (some tree) = after_semicolon tree
+    behind_semicolon _ = no_statement
+
+    after_semicolon : Tree (Terminal × Token) → Statements N
+    after_semicolon (pair semicolon tree) = perhaps_more tree
+    after_semicolon _ = no_statement
+
+    perhaps_more : Tree (Terminal × Token) → Statements N
+    perhaps_more (some tree) = loop_body tree
+    perhaps_more _ = no_statement
+
+    -- a statement in a loop: an assignment, a display, options, a solve, an abort, or a loop
+    pub inner_act : Tree (Terminal × Token) → Act N
+    inner_act (node tree) = assignment_or_other tree
+    inner_act _ = displays []
+
+    assignment_or_other : Tree (Terminal × Token) → Act N
+    assignment_or_other (left tree) = assignment_act source names labels value tree
+    assignment_or_other (right tree) = display_or_other tree
+    assignment_or_other _ = displays []
+
+    pub display_or_other : Tree (Terminal × Token) → Act N
+    display_or_other (left tree) = display_act source names labels value tree
+    display_or_other (right tree) = option_or_other tree
+    display_or_other _ = displays []
+
+    option_or_other : Tree (Terminal × Token) → Act N
+    option_or_other (left tree) = option_act source names labels value tree
+    option_or_other (right tree) = solve_or_other tree
+    option_or_other _ = displays []
+
+    solve_or_other : Tree (Terminal × Token) → Act N
+    solve_or_other (left tree) = solve_act source names labels value tree
+    solve_or_other (right tree) = abort_or_loop tree
+    solve_or_other _ = displays []
+
+    abort_or_loop : Tree (Terminal × Token) → Act N
+    abort_or_loop (left tree) = abort_act source names labels value tree
+    abort_or_loop (right tree) = loop_act tree
+    abort_or_loop _ = displays []
+
+-- The same where numbers have these opposites, and the lines of a table give these items.
+module _ {N : Type 0} (source : List ℕ) (names labels : List (List ℕ)) (value : List ℕ → N) (opposite : N → N) (table_items : List (Terminal × Token) → List (Item N)) where
+  -- one of two acts, as the derivation goes
+  abbrev pub either : (Tree (Terminal × Token) → Act N) → (Tree (Terminal × Token) → Act N) → Tree (Terminal × Token) → Act N
+  either one other (left tree) = one tree
+  either one other (right tree) = other tree
+  either one other _ = displays []
+
+  -- a statement that begins with a keyword
+  abbrev pub keyword_act : Tree (Terminal × Token) → Act N
+  keyword_act (node tree) =
+      either (set_act source names labels value opposite table_items) (
+      either (parameter_act source names labels value opposite table_items) (
+      either (scalar_act source names labels value opposite table_items) (
+      either (table_act source names labels value opposite table_items) (
+      either (variable_act source names labels value) (
+      either (equation_act source names labels value) (
+      either (model_act source names labels value) (
+      either (alias_act source names labels value) (display_or_other source names labels value)))))))) tree
+  keyword_act _ = displays []
+
+  -- statements that begin with keywords, one after another
+  abbrev pub keyword_statements : Tree (Terminal × Token) → Statements N
+  keyword_statements (more first others) = statement (place_in first) (keyword_act first) (keyword_statements others)
+  keyword_statements _ = no_statement
+
+  -- a statement that begins with a name, where there is one, before others
+  abbrev pub named_first : Tree (Terminal × Token) → Statements N → Statements N
+  named_first (some tree) others = statement (place_in tree) (named_act source names labels value tree) others
+  named_first _ others = others
+
+  -- what stands between two semicolons
+  abbrev pub segment_in : Tree (Terminal × Token) → Statements N
+  segment_in (pair named others) = named_first named (keyword_statements others)
+  segment_in _ = no_statement
+
+  abbrev pub segment : Tree (Terminal × Token) → Statements N
+  segment (node tree) = segment_in tree
+  segment _ = no_statement
+
+  -- a semicolon, and what stands behind it
+  abbrev pub segment_behind : Tree (Terminal × Token) → Statements N
+  segment_behind (pair semicolon tree) = segment tree
+  segment_behind _ = no_statement
+
+  abbrev pub segments : Tree (Terminal × Token) → Statements N
+  segments (more first others) = followed_by (segment_behind first) (segments others)
+  segments _ = no_statement
+
+  -- the statements of a program
+  abbrev pub statements_in : Tree (Terminal × Token) → Statements N
+  statements_in (pair first others) = followed_by (segment first) (segments others)
+  statements_in _ = no_statement
+
+  abbrev pub statements_of : Tree (Terminal × Token) → Statements N
+  statements_of (node tree) = statements_in tree
+  statements_of _ = no_statement

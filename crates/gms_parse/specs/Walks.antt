@@ -1,0 +1,157 @@
+-- What the tokens of a program leave as they are read in order: names and labels are numbered where they first stand. And which
+-- tokens that the grammar expects have a fault (GAMS User's Guide, "Language Items", "Sets"; the limits are this project's own).
+use Rattle.std.specs.Prelude.{◌≡◌, ℕ, ◌≤◌, Bool, true, false, not, ◌&&◌, ◌||◌, ◌==◌, if◌then◌else◌, List, [], ◌∷◌, ◌++◌, reverse, take_while, Option, Some, None, fold, ⊤}
+use Rattle.gms_labels.specs.declared.place.Place.{Place}
+use Rattle.gms_labels.specs.Labels.{entered, IsFullFor}
+use Rattle.gms_lex.specs.declared.token.Token.{Token}
+use Rattle.gms_lex.specs.TokenTexts.{token_text, unquoted}
+use Rattle.gq_number.specs.Number.{Number}
+use Rattle.gq_text.specs.Literal.{FitsLiteral}
+use Rattle.gq_text.specs.Decimal.{MeansNumber}
+use Rattle.gms_grammar.specs.declared.terminal.Terminal.{Terminal}
+use Rattle.gms_grammar.specs.declared.terminal.Terminal.TheVariants as terminal
+use Rattle.gms_grammar.specs.Terminals.{is, is_among}
+use Rattle.gms_set.specs.Ranges.{is_range, members}
+use Rattle.gms_parse_x.specs.ExpressionTrees.{unquoted as between_marks}
+use Rattle.gms_parse_x.specs.Outcomes.{open_after}
+use Rattle.gms_parse.specs.declared.fault.SourceError.TheVariants.{Depth, Number as OutOfRange, TooManyLabels, NoHeading}
+use Rattle.gms_parse.specs.declared.fault.SourceFault.{SourceFault}
+use Rattle.gms_parse.specs.Tables.{labels_of_lines, IsLineFault}
+
+-- tokens as the grammar sees them
+abbrev pub Seen : Type 0
+Seen = Terminal × Token
+
+-- What the tokens so far have left.
+pub record Walk : Type 0 where
+  -- how many parentheses are open
+  pub open_count : ℕ
+  -- the names and the labels, numbered by their places
+  pub names : List (List ℕ)
+  pub labels : List (List ℕ)
+  -- the tokens, the last one first
+  pub before : List Seen
+  -- the keyword or the semicolon behind which the statement stands, and how many parentheses were open there
+  pub keyword : Terminal
+  pub level : ℕ
+
+-- before the first token
+abbrev pub start : Walk
+start = record { open_count = 0; names = []; labels = []; before = []; keyword = terminal.Semicolon; level = 0 }
+
+-- the kind of the last token
+abbrev pub last_kind : List Seen → Terminal
+last_kind [] = terminal.Semicolon
+last_kind (token ∷ tokens) = token.0
+
+-- the kind of the first of the tokens, or of what stands behind them
+abbrev pub kind_ahead : List Seen → Terminal → Terminal
+kind_ahead [] ahead = ahead
+kind_ahead (token ∷ tokens) ahead = token.0
+
+-- a keyword, with which a statement begins
+abbrev pub is_keyword : Terminal → Bool
+is_keyword kind =
+    is_among (terminal.Abort ∷ terminal.Alias ∷ terminal.Display ∷ terminal.Equation ∷ terminal.Loop ∷ terminal.Model ∷ terminal.Option ∷ terminal.Parameter ∷ terminal.Scalar ∷ terminal.Set ∷ terminal.Solve ∷ terminal.Table ∷ terminal.Variable ∷ terminal.VariableType ∷ []) kind
+
+-- A name: no suffix behind a dot, no word of an option, and not the word behind `using`.
+abbrev pub is_name : Walk → Terminal → Bool
+is_name walk kind =
+    is_among (terminal.Name ∷ terminal.Suffix ∷ []) kind && not (is_among (terminal.Dot ∷ terminal.Using ∷ []) (last_kind walk.before) || is terminal.Option walk.keyword)
+
+-- a text that is an index: none that a display or an abort shows, which stands in no parentheses of its statement
+abbrev pub is_index : Walk → Terminal → Bool
+is_index walk kind =
+    is terminal.Text kind && not (is_among (terminal.Display ∷ terminal.Abort ∷ []) walk.keyword && walk.open_count == walk.level)
+
+-- the label at which the range begins that the tokens so far end in: a label and a `*`
+abbrev pub range_start : List Seen → Option Token
+range_start [] = None
+range_start (star ∷ []) = None
+range_start (star ∷ (first ∷ others)) = if is terminal.Star star.0 && is terminal.Label first.0 then Some first.1 else None
+
+-- where the name of a table stands: behind its keyword
+abbrev pub table_name : List Seen → Place
+table_name [] = record { line = 0; column = 0 }
+table_name (name ∷ []) = record { line = 0; column = 0 }
+table_name (name ∷ (word ∷ others)) = if is terminal.Table word.0 then name.1.at else table_name (word ∷ others)
+
+-- a statement may end before a token of this kind
+abbrev pub ends_statement : Terminal → Bool
+ends_statement kind = is_among (terminal.Semicolon ∷ terminal.End ∷ []) kind || is_keyword kind
+
+-- the labels after these were entered, one after another
+abbrev pub all_entered : List (List ℕ) → List (List ℕ) → List (List ℕ)
+all_entered labels texts = fold entered labels texts
+
+-- one of these texts finds no room, as they are entered one after another
+pub record LacksRoom (labels texts : List (List ℕ)) : Type 0 where
+  pub before : List (List ℕ)
+  pub text : List ℕ
+  pub behind : List (List ℕ)
+  pub parts : texts ≡ before ++ text ∷ behind
+  pub full : IsFullFor (all_entered labels before) text
+
+-- In a source.
+module _ (source : List ℕ) where
+  -- the labels between two labels of a range; none where it is no range
+  abbrev pub range_texts : List ℕ → List ℕ → List (List ℕ)
+  range_texts from to = if is_range from to then members from to else []
+
+  -- the labels that a label of a list enters: behind the `*` of a range its members, before a `*` none, else itself
+  abbrev pub list_labels : Option Token → Terminal → Token → List (List ℕ)
+  list_labels (Some first) ahead token = range_texts (unquoted (token_text source first)) (unquoted (token_text source token))
+  list_labels None ahead token = if is terminal.Star ahead then [] else unquoted (token_text source token) ∷ []
+
+  -- the lines of a table that end with this one
+  abbrev pub lines_with : List Seen → Seen → List Seen
+  lines_with before line = reverse (line ∷ take_while (λ token. is terminal.TableLine token.0) before)
+
+  -- the labels that a token enters, where one of kind `ahead` stands behind it: the last line of a table enters those of the table
+  abbrev pub new_labels : Walk → Seen → Terminal → List (List ℕ)
+  new_labels walk token ahead =
+      if is_index walk token.0 then between_marks (token_text source token.1) ∷ [] else (if is terminal.Label token.0 then list_labels (range_start walk.before) ahead token.1 else (if is terminal.TableLine token.0 && not (is terminal.TableLine ahead) then labels_of_lines source (lines_with walk.before token) else []))
+
+  -- what a token leaves, where one of kind `ahead` stands behind it
+  abbrev pub walk_after : Walk → Seen → Terminal → Walk
+  walk_after walk token ahead =
+      let begins = is_keyword token.0 || is terminal.Semicolon token.0 in
+      record {
+        open_count = open_after walk.open_count token.0;
+        names = if is_name walk token.0 then entered walk.names (token_text source token.1) else walk.names;
+        labels = all_entered walk.labels (new_labels walk token ahead);
+        before = token ∷ walk.before;
+        keyword = if begins then token.0 else walk.keyword;
+        level = if begins then walk.open_count else walk.level;
+      }
+
+  -- what tokens leave
+  abbrev pub walk_behind : Walk → List Seen → Terminal → Walk
+  walk_behind walk [] ahead = walk
+  walk_behind walk (token ∷ tokens) ahead = walk_behind (walk_after walk token (kind_ahead tokens ahead)) tokens ahead
+
+module _ (limit : ℕ) (source : List ℕ) where
+  -- a number is out of range
+  abbrev pub IsOutOfRange : Token → Type 0
+  IsOutOfRange token = (x : Number) → MeansNumber (token_text source token) x → FitsLiteral limit x → ⊥
+
+  -- Behind the tokens so far a token that the grammar expects has a fault, where one of kind `ahead` stands behind it: it opens a
+  -- parenthesis where 100 are open; it is a number out of range; it is a new name where 65,536 are there, or enters a new label where
+  -- as many are there; it is the last line of a table that has a fault; or it ends the head of a table without lines.
+  pub data IsFaulty (walk : Walk) (token : Seen) (ahead : Terminal) : SourceFault → Type 0 where
+    deep : token.0 ≡ terminal.LeftParen → 100 ≤ walk.open_count → IsFaulty walk token ahead (record { error = Depth; at = token.1.at })
+    out_of_range : token.0 ≡ terminal.Number → IsOutOfRange token.1 → IsFaulty walk token ahead (record { error = OutOfRange; at = token.1.at })
+    many_names : is_name walk token.0 ≡ true → IsFullFor walk.names (token_text source token.1) →
+        IsFaulty walk token ahead (record { error = TooManyLabels; at = token.1.at })
+    many_labels : is terminal.TableLine token.0 ≡ false → LacksRoom walk.labels (new_labels source walk token ahead) →
+        IsFaulty walk token ahead (record { error = TooManyLabels; at = token.1.at })
+    in_table : {fault : SourceFault} → token.0 ≡ terminal.TableLine → is terminal.TableLine ahead ≡ false →
+        IsLineFault limit source (table_name walk.before) walk.labels (lines_with source walk.before token) fault → IsFaulty walk token ahead fault
+    without_lines : token.0 ≡ terminal.RightParen → walk.keyword ≡ terminal.Table → ends_statement ahead ≡ true →
+        IsFaulty walk token ahead (record { error = NoHeading; at = table_name walk.before })
+
+  -- none of the tokens has a fault, where one of kind `ahead` stands behind them
+  abbrev pub AreSound : Walk → List Seen → Terminal → Type 0
+  AreSound walk [] ahead = ⊤
+  AreSound walk (token ∷ tokens) ahead =
+      ((fault : SourceFault) → IsFaulty walk token (kind_ahead tokens ahead) fault → ⊥) × AreSound (walk_after source walk token (kind_ahead tokens ahead)) tokens ahead

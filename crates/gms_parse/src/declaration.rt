@@ -1,0 +1,238 @@
+//! Declarations: items with their domains and their data.
+ghost use Rattle.std.specs.Prelude.{◌≡◌, ℕ, false, map, MatchOption};
+ghost use Rattle.gms_ast.specs.StatementView.{item_in, declared_in};
+ghost use Rattle.gms_grammar.specs.declared.terminal.Terminal.TheVariants.{VariableType};
+ghost use Rattle.gms_parse.specs.declared.declaration.Form.TheVariants.{Scalar as form_scalar, Plain as form_plain};
+ghost use Rattle.gms_parse.specs.declared.reader.Tables.{Tables};
+ghost use Rattle.gms_parse.specs.Walks.{Walk};
+ghost use Rattle.gms_grammar.specs.Grammar.{the, opt, ◌·◌};
+ghost use Rattle.gms_grammar.specs.GamsGrammar.{Domain, DomainPosition, ScalarItem, PlainItem, VariableStatement, token};
+ghost use Rattle.gms_parse.specs.Declarations.{variable_kind, variable_act};
+ghost use Rattle.gms_parse.specs.Readings.{IsReady, Holds, IsGot, IsFurther, IsNotFurther, IsBehindLast, AnswersName, AnswersPart, AnswersDomain, AnswersBehind, AnswersDeclaration, AnswersAct};
+ghost use Rattle.gms_parse.specs.Meanings.{IsPosition, IsDomain, IsOptionalDomain, IsDeclared, AreDeclared, IsDeclaration, IsAct, IsVariableType, form_of, item_part, items_part};
+
+use crate::data::ListOf;
+use crate::reader::{NAMES, Read, Reader, Tables};
+use gms_ast::{Act, Decl, DeclKind, Item, Named, Sequence};
+use gms_grammar::Terminal;
+use gq_field::ExactField;
+
+/// What an item of a declaration may have behind its name.
+#[derive(Clone, Copy)]
+pub(crate) enum Form {
+    /// A domain, and a list of elements.
+    Set,
+    /// A domain, and a list of elements with values.
+    Parameter,
+    /// A value.
+    Scalar,
+    /// A domain.
+    Plain,
+}
+
+/// What `variable` declares behind this word.
+fn variable_kind(word: &[u8]) -> DeclKind
+    ensures { result ≡ variable_kind word.now }
+{
+    if word.eq_ignore_ascii_case(b"free") {
+        DeclKind::Free
+    } else if word.eq_ignore_ascii_case(b"positive") {
+        DeclKind::Positive
+    } else if word.eq_ignore_ascii_case(b"negative") {
+        DeclKind::Negative
+    } else {
+        DeclKind::Discrete
+    }
+}
+
+impl<'s> Reader<'s> {
+    /// One position of a domain: a set, or `*`.
+    fn domain_position(&self, tables: &mut Tables, at: usize) -> Read<Option<Named>>
+        requires { IsReady self.now }
+        ensures { (limit : ℕ) → AnswersName limit (IsPosition self.now.source.now) (the DomainPosition) self.now at tables.old tables.new result }
+    {
+        if let Some((_, next)) = self.take_if(Terminal::Star, at) {
+            return Ok((None, next));
+        }
+        let (set, next) = self.name(tables, at)?;
+        Ok((Some(set), next))
+    }
+
+    /// The domain that stands here.
+    pub(crate) fn domain(&self, tables: &mut Tables, at: usize) -> Read<Vec<Option<Named>>>
+        requires { IsReady self.now }
+        ensures { (limit : ℕ) → AnswersDomain limit (IsDomain self.now.source.now) (the Domain) self.now at tables.old tables.new result }
+    {
+        let mut positions = Vec::new(self.alloc);
+        let (inner, start) = self.enter(at)?;
+        let (first, mut next) = inner.domain_position(tables, start)?;
+        positions.push(first)?;
+        while let Some((_, behind)) = inner.take_if(Terminal::Comma, next) {
+            let (position, after) = inner.domain_position(tables, behind)?;
+            positions.push(position)?;
+            next = after;
+        }
+        Ok((positions, self.behind(Terminal::RightParen, next)?))
+    }
+
+    /// The domain that stands here, or one without positions.
+    fn optional_domain(&self, tables: &mut Tables, at: usize) -> Read<Vec<Option<Named>>>
+        requires { IsReady self.now }
+        ensures { (limit : ℕ) → AnswersBehind limit (IsOptionalDomain self.now.source.now) (opt (the Domain)) self.now at tables.old tables.new result }
+    {
+        if self.is_next(Terminal::LeftParen, at) {
+            return self.domain(tables, at);
+        }
+        Ok((Vec::new(self.alloc), at))
+    }
+
+    /// The item of a declaration that stands here.
+    fn item<F: ExactField>(&self, tables: &mut Tables, form: Form, at: usize) -> Read<Decl<F>>
+        requires { IsReady self.now }
+        ensures { AnswersPart F.limit (IsDeclared F.value self.now.source.now form) (the (item_part form)) self.now at tables.old tables.new result }
+    {
+        match form {
+            Form::Set => self.data_item(tables, ListOf::Elements, at),
+            Form::Parameter => self.data_item(tables, ListOf::Entries, at),
+            Form::Scalar => self.scalar_item(tables, at),
+            Form::Plain => self.plain_item(tables, at),
+        }
+    }
+
+    /// The set or the parameter that stands here, with its domain and its list.
+    fn data_item<F: ExactField>(
+        &self,
+        tables: &mut Tables,
+        list: ListOf,
+        at: usize,
+    ) -> Read<Decl<F>>
+        requires { IsReady self.now }
+        ensures { AnswersPart F.limit (IsDeclared F.value self.now.source.now (form_of list)) (the (item_part (form_of list))) self.now at tables.old tables.new result }
+    {
+        let (named, next) = self.name(tables, at)?;
+        let (domain, next) = self.optional_domain(tables, next)?;
+        let (items, next) = self.list(tables, list, next)?;
+        Ok((declared(named, domain, items), next))
+    }
+
+    /// The scalar that stands here, with its value.
+    fn scalar_item<F: ExactField>(&self, tables: &mut Tables, at: usize) -> Read<Decl<F>>
+        requires { IsReady self.now }
+        ensures { AnswersPart F.limit (IsDeclared F.value self.now.source.now form_scalar) (the ScalarItem) self.now at tables.old tables.new result }
+    {
+        let (named, next) = self.name(tables, at)?;
+        let (items, next) = self.scalar_value(next)?;
+        Ok((declared(named, Vec::new(self.alloc), items), next))
+    }
+
+    /// The variable or the equation that stands here, with its domain.
+    fn plain_item<F: ExactField>(&self, tables: &mut Tables, at: usize) -> Read<Decl<F>>
+        requires { IsReady self.now }
+        ensures { AnswersPart F.limit (IsDeclared F.value self.now.source.now form_plain) (the PlainItem) self.now at tables.old tables.new result }
+    {
+        let (named, next) = self.name(tables, at)?;
+        let (domain, next) = self.optional_domain(tables, next)?;
+        Ok((declared(named, domain, Vec::new(self.alloc)), next))
+    }
+
+    /// The place of a further item of a declaration, behind the comma or the line end that ends the one before. Behind a comma an item
+    /// is due; behind a line end there is one where a name stands.
+    pub(crate) fn further_item(&self, at: usize) -> Option<usize>
+        requires { IsReady self.now }
+        ensures { MatchOption result (IsNotFurther self.now at) (λ behind. IsFurther self.now at behind) }
+    {
+        if let Some((_, behind)) = self.take_if(Terminal::Comma, at) {
+            return Some(behind);
+        }
+        let (_, behind) = self.take_if(Terminal::Break, at)?;
+        if self.is_any_next(&NAMES, behind) {
+            return Some(behind);
+        }
+        None
+    }
+
+    /// The place behind the line end that may stand behind the last item of a declaration.
+    pub(crate) fn behind_last_item(&self, at: usize) -> usize
+        requires { IsReady self.now }
+        ensures { IsNotFurther self.now at → IsBehindLast self.now at result }
+    {
+        match self.take_if(Terminal::Break, at) {
+            Some((_, behind)) => behind,
+            None => at,
+        }
+    }
+
+    /// The items of a declaration that stand here.
+    fn items<F: ExactField>(
+        &self,
+        tables: &mut Tables,
+        form: Form,
+        at: usize,
+    ) -> Read<Sequence<Decl<F>>>
+        requires { IsReady self.now }
+        ensures { AnswersPart F.limit (AreDeclared F.value self.now.source.now form) (the (items_part form)) self.now at tables.old tables.new result }
+    {
+        let mut items = Vec::new(self.alloc);
+        let (first, mut next) = self.item(tables, form, at)?;
+        items.push(first)?;
+        while let Some(behind) = self.further_item(next) {
+            let (item, after) = self.item(tables, form, behind)?;
+            items.push(item)?;
+            next = after;
+        }
+        Ok((Sequence::new(items), self.behind_last_item(next)))
+    }
+
+    /// The declaration of names of a kind that stands here, by its keyword.
+    pub(crate) fn declaration<F: ExactField>(
+        &self,
+        tables: &mut Tables,
+        keyword: Terminal,
+        kind: DeclKind,
+        form: Form,
+        at: usize,
+    ) -> Read<Act<F>>
+        requires { IsReady self.now }
+        ensures { AnswersDeclaration keyword F.limit (IsDeclaration F.value self.now.source.now kind form) (token keyword · the (items_part form)) self.now at tables.old tables.new result }
+    {
+        let start = self.behind(keyword, at)?;
+        let (items, next) = self.items(tables, form, start)?;
+        Ok((Act::Declare { kind, items }, next))
+    }
+
+    /// The declaration of variables that stands here, perhaps with their type before the keyword.
+    pub(crate) fn variables<F: ExactField>(&self, tables: &mut Tables, at: usize) -> Read<Act<F>>
+        requires { IsReady self.now }
+        ensures { AnswersAct F.limit (IsAct F.value self.now.source.now variable_act) (the VariableStatement) self.now at tables.old tables.new result }
+    {
+        let (kind, next) = self.variable_type(at);
+        self.declaration(tables, Terminal::Variable, kind, Form::Plain, next)
+    }
+
+    /// What `variable` declares behind the type that may stand here.
+    fn variable_type(&self, at: usize) -> (DeclKind, usize)
+        requires { IsReady self.now }
+        ensures { (limit : ℕ) (tables : Tables) (walk : Walk) → Holds self.now tables walk →
+            IsGot limit (IsVariableType self.now.source.now) (Holds self.now tables) (opt (token VariableType)) self.now at tables walk result.0 result.1 }
+    {
+        match self.take_if(Terminal::VariableType, at) {
+            Some((word, next)) => (variable_kind(self.text(word)), next),
+            None => (DeclKind::Free, at),
+        }
+    }
+}
+
+/// What is declared: a name, its domain and its data.
+fn declared<F: ExactField>(
+    named: Named,
+    domain: Vec<Option<Named>>,
+    items: Vec<Item<F>>,
+) -> Decl<F>
+    ensures { declared_in F.value result ≡ record { named = named; domain = domain.items; items = map (item_in F.value) items.items } }
+{
+    Decl {
+        named,
+        domain: Sequence::new(domain),
+        items: Sequence::new(items),
+    }
+}

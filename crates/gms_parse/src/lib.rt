@@ -1,0 +1,20 @@
+//! Programs, read from the bytes of a source.
+#![tactic(auto)]
+
+mod act;
+mod assign;
+mod data;
+mod declaration;
+mod fault;
+mod formula;
+mod model;
+mod reader;
+mod source;
+mod spelling;
+mod statement;
+mod table;
+#[cfg(test)]
+mod tests;
+
+pub use fault::{SourceError, SourceFault, SourceFaultOrMemory};
+pub use source::parse;

@@ -1,0 +1,305 @@
+//! What reading a program needs: the source, its tokens, the tables of names and labels, and how many parentheses are open; and the
+//! steps over single tokens.
+ghost use Rattle.std.specs.Prelude.{◌≡◌, ◌≤◌, ℕ, false, [], ◌∷◌, length, MatchResult, MatchOption};
+ghost use Rattle.std.specs.Str.{IsAscii};
+ghost use Rattle.gms_grammar.specs.Grammar.{opt};
+ghost use Rattle.gms_grammar.specs.GamsGrammar.{productions, token, any_of, name};
+ghost use Rattle.gms_grammar.specs.GamsLookAhead.{look_ahead};
+ghost use Rattle.gms_grammar.specs.Reading.{leads};
+ghost use Rattle.gms_grammar.specs.Terminals.{is, is_among};
+ghost use Rattle.gms_grammar.specs.declared.terminal.Terminal.TheVariants.{Comma, Break, Sign};
+ghost use Rattle.gms_lex.specs.TokenTexts.{token_text, IsPlaced};
+ghost use Rattle.gms_parse_x.specs.Outcomes.{next_place};
+ghost use Rattle.gms_parse.specs.declared.reader.Tables.{Tables};
+ghost use Rattle.gms_parse.specs.Walks.{Walk};
+ghost use Rattle.gms_parse.specs.Readings.{seen_from, kind_of, unexpected_at, IsReady, IsAt, IsNext, IsLacking, IsPassed, IsPassedAny, IsOpened, IsUnopened, IsEntered, IsNotEntered, IsValue, IsTooLarge, Has, Stays, IsGot, AnswersName};
+ghost use Rattle.gms_parse.specs.Meanings.{IsNamed, IsSign};
+
+use crate::fault::{SourceError, SourceFaultOrMemory};
+use crate::spelling::is_minus;
+use gms_ast::Named;
+use gms_grammar::Terminal;
+use gms_labels::{LabelFault, Labels, Place};
+use gms_lex::Token;
+use gms_parse_x::{MOST_OPEN, bytes_of, terminal_of};
+use gq_field::ExactField;
+use gq_text::read_decimal;
+use std::alloc::Global;
+
+/// A part, and the place of the token behind it.
+pub(crate) type Read<T> = Result<(T, usize), SourceFaultOrMemory>;
+
+/// The names and the labels of a program, as far as it was read.
+#[derive(Drop)]
+pub(crate) struct Tables {
+    pub(crate) names: Labels,
+    pub(crate) labels: Labels,
+}
+
+/// The tokens of a source, to be read at places in them.
+#[derive(Clone, Copy)]
+pub(crate) struct Reader<'s> {
+    pub(crate) alloc: Global,
+    /// The source.
+    pub(crate) source: &'s [u8],
+    /// Its tokens.
+    pub(crate) tokens: &'s [Token],
+    /// Where the source ends.
+    pub(crate) end: Place,
+    /// How many parentheses are open.
+    pub(crate) unclosed: u32,
+}
+
+/// The kinds of names: words that are not reserved.
+pub(crate) const NAMES: [Terminal; 2] = [Terminal::Name, Terminal::Suffix];
+
+/// Whether two kinds are the same.
+fn is(kind: Terminal, other: Terminal) -> bool
+    ensures { result ≡ is kind other }
+{
+    kind == other
+}
+
+/// Whether a kind is among some.
+fn is_among(kinds: &[Terminal], kind: Terminal) -> bool
+    ensures { result ≡ is_among kinds.now kind }
+{
+    kinds.iter().any(|other| is(kind, *other))
+}
+
+impl<'s> Reader<'s> {
+    /// The bytes of a token.
+    pub(crate) fn text(&self, token: Token) -> &'s [u8]
+        requires { IsPlaced self.now.source.now token }
+        ensures { result.now ≡ token_text self.now.source.now token }
+    {
+        bytes_of(self.source, &token)
+    }
+
+    /// The next token, where there is one.
+    fn token(&self, at: usize) -> Option<Token>
+        requires { IsReady self.now }
+        ensures { MatchOption result (seen_from self.now at ≡ []) (λ t. IsAt self.now at t) }
+    {
+        self.tokens.get(at).copied()
+    }
+
+    /// What the next token is, or the end.
+    pub(crate) fn next(&self, at: usize) -> Terminal
+        requires { IsReady self.now }
+        ensures { result ≡ kind_of (seen_from self.now at) }
+    {
+        match self.token(at) {
+            Some(token) => terminal_of(token.kind, self.text(token)),
+            None => Terminal::End,
+        }
+    }
+
+    /// Where the next token stands, or the end.
+    pub(crate) fn place(&self, at: usize) -> Place
+        requires { IsReady self.now }
+        ensures { result ≡ next_place self.now.source.now (seen_from self.now at) }
+    {
+        match self.token(at) {
+            Some(token) => token.at,
+            None => self.end,
+        }
+    }
+
+    /// The fault of the next token as unexpected.
+    pub(crate) fn unexpected(&self, at: usize) -> SourceFaultOrMemory
+        requires { IsReady self.now }
+        ensures { result ≡ unexpected_at self.now at }
+    {
+        let error = match self.next(at) {
+            Terminal::NotInProfile => SourceError::NotInProfile,
+            _ => SourceError::Expected,
+        };
+        SourceFaultOrMemory::at(error, self.place(at))
+    }
+
+    /// The next token, where it is of this kind, and the place behind it.
+    pub(crate) fn take_if(&self, kind: Terminal, at: usize) -> Option<(Token, usize)>
+        requires { IsReady self.now }
+        ensures { MatchOption result
+            (leads productions look_ahead (token kind) (seen_from self.now at) ≡ false)
+            (λ r. IsNext (is kind) self.now at r.0 r.1) }
+    {
+        let token = self.token(at)?;
+        if is(kind, self.next(at)) {
+            return Some((token, at + 1));
+        }
+        None
+    }
+
+    /// The next token, where it is of one of these kinds, and the place behind it.
+    pub(crate) fn take_any_if(&self, kinds: &[Terminal], at: usize) -> Option<(Token, usize)>
+        requires { IsReady self.now }
+        ensures { MatchOption result
+            (leads productions look_ahead (any_of kinds.now) (seen_from self.now at) ≡ false)
+            (λ r. IsNext (is_among kinds.now) self.now at r.0 r.1) }
+    {
+        let token = self.token(at)?;
+        if is_among(kinds, self.next(at)) {
+            return Some((token, at + 1));
+        }
+        None
+    }
+
+    /// The next token, which is to be of this kind, and the place behind it.
+    pub(crate) fn take(&self, kind: Terminal, at: usize) -> Read<Token>
+        requires { IsReady self.now }
+        ensures { MatchResult result
+            (λ r. IsNext (is kind) self.now at r.0 r.1)
+            (λ e. IsLacking (is kind) self.now at e) }
+    {
+        match self.take_if(kind, at) {
+            Some(found) => Ok(found),
+            None => Err(self.unexpected(at)),
+        }
+    }
+
+    /// The next token, which is to be of one of these kinds, and the place behind it.
+    pub(crate) fn take_any(&self, kinds: &[Terminal], at: usize) -> Read<Token>
+        requires { IsReady self.now }
+        ensures { MatchResult result
+            (λ r. IsNext (is_among kinds.now) self.now at r.0 r.1)
+            (λ e. IsLacking (is_among kinds.now) self.now at e) }
+    {
+        match self.take_any_if(kinds, at) {
+            Some(found) => Ok(found),
+            None => Err(self.unexpected(at)),
+        }
+    }
+
+    /// The place behind the next token, which is to be of this kind.
+    pub(crate) fn behind(&self, kind: Terminal, at: usize) -> Result<usize, SourceFaultOrMemory>
+        requires { IsReady self.now }
+        ensures { MatchResult result
+            (λ behind. IsPassed kind self.now at behind)
+            (λ e. IsLacking (is kind) self.now at e) }
+    {
+        let (_, behind) = self.take(kind, at)?;
+        Ok(behind)
+    }
+}
+
+impl<'s> Reader<'s> {
+    /// Whether the next token is of this kind.
+    pub(crate) fn is_next(&self, kind: Terminal, at: usize) -> bool
+        requires { IsReady self.now }
+        ensures { result ≡ leads productions look_ahead (token kind) (seen_from self.now at) }
+    {
+        self.take_if(kind, at).is_some()
+    }
+
+    /// Whether the next token is of one of these kinds.
+    pub(crate) fn is_any_next(&self, kinds: &[Terminal], at: usize) -> bool
+        requires { IsReady self.now }
+        ensures { result ≡ leads productions look_ahead (any_of kinds.now) (seen_from self.now at) }
+    {
+        self.take_any_if(kinds, at).is_some()
+    }
+
+    /// What reads inside the parenthesis that is to open here, and the place behind it.
+    pub(crate) fn enter(&self, at: usize) -> Read<Reader<'s>>
+        requires { IsReady self.now }
+        ensures { MatchResult result
+            (λ r. IsOpened self.now at r.0 r.1)
+            (λ e. IsUnopened self.now at e) }
+    {
+        let (token, behind) = self.take(Terminal::LeftParen, at)?;
+        if self.unclosed >= MOST_OPEN {
+            return Err(SourceFaultOrMemory::at(SourceError::Depth, token.at));
+        }
+        let inner = Reader {
+            unclosed: self.unclosed + 1,
+            ..*self
+        };
+        Ok((inner, behind))
+    }
+
+    /// The name that stands here.
+    pub(crate) fn name(&self, tables: &mut Tables, at: usize) -> Read<Named>
+        requires { IsReady self.now }
+        ensures { (limit : ℕ) → AnswersName limit (IsNamed self.now.source.now) name self.now at tables.old tables.new result }
+    {
+        let (token, behind) = self.take_any(&NAMES, at)?;
+        let text = self.ascii(token, self.text(token))?;
+        let name = self.entered(&mut tables.names, token, text)?;
+        Ok((Named { at: token.at, name }, behind))
+    }
+
+    /// These bytes of a token, which are all of ASCII.
+    pub(crate) fn ascii(
+        &self,
+        token: Token,
+        bytes: &'s [u8],
+    ) -> Result<&'s str, SourceFaultOrMemory>
+        requires { IsAscii bytes.now }
+        ensures { MatchResult result (λ text. text.now ≡ bytes.now) (λ e. ⊥) }
+    {
+        match str::from_utf8(bytes) {
+            Ok(text) => Ok(text),
+            Err(_) => Err(SourceFaultOrMemory::at(SourceError::BadByte, token.at)),
+        }
+    }
+
+    /// The number of a text in its table, where it is entered if it is new. The token is the one that the fault is told of.
+    pub(crate) fn entered(
+        &self,
+        table: &mut Labels,
+        token: Token,
+        text: &str,
+    ) -> Result<u32, SourceFaultOrMemory>
+        requires { length text.now ≤ 63 }
+        ensures { MatchResult result
+            (λ n. IsEntered table.old table.new text.now n)
+            (λ e. IsNotEntered table.old text.now token.at e) }
+    {
+        match table.enter(self.alloc, text) {
+            Ok(number) => Ok(number),
+            Err(LabelFault::Full) => Err(SourceFaultOrMemory::at(
+                SourceError::TooManyLabels,
+                token.at,
+            )),
+            Err(LabelFault::Memory) => Err(SourceFaultOrMemory::Memory),
+        }
+    }
+
+    /// The value of a number.
+    pub(crate) fn number<F: ExactField>(&self, token: Token) -> Result<F, SourceFaultOrMemory>
+        requires { IsPlaced self.now.source.now token }
+        ensures { MatchResult result
+            (λ v. IsValue F.limit F.value (token_text self.now.source.now token) v)
+            (λ e. IsTooLarge F.limit self.now.source.now token e) }
+    {
+        match read_decimal(self.text(token)) {
+            Ok(value) => Ok(value),
+            Err(_) => Err(SourceFaultOrMemory::at(SourceError::Number, token.at)),
+        }
+    }
+
+    /// Whether `-` stands here, and the place behind a sign, where there is one.
+    pub(crate) fn sign(&self, at: usize) -> (bool, usize)
+        requires { IsReady self.now }
+        ensures { (limit : ℕ) (tables : Tables) (walk : Walk) → Has self.now tables walk →
+            IsGot limit IsSign (Stays self.now tables walk) (opt (token Sign)) self.now at tables walk result.0 result.1 }
+    {
+        match self.take_if(Terminal::Sign, at) {
+            Some((token, behind)) => (is_minus(token.kind), behind),
+            None => (false, at),
+        }
+    }
+
+    /// The place behind the comma or the line end between two parts of a list.
+    pub(crate) fn behind_separator(&self, at: usize) -> Option<usize>
+        requires { IsReady self.now }
+        ensures { MatchOption result
+            (leads productions look_ahead (any_of (Comma ∷ Break ∷ [])) (seen_from self.now at) ≡ false)
+            (λ behind. IsPassedAny (Comma ∷ Break ∷ []) self.now at behind) }
+    {
+        let (_, behind) = self.take_any_if(&[Terminal::Comma, Terminal::Break], at)?;
+        Some(behind)
+    }
+}

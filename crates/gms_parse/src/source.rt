@@ -1,0 +1,49 @@
+//! The program of a source.
+ghost use Rattle.std.specs.Prelude.{MatchResult};
+ghost use Rattle.gms_parse.specs.Outcomes.{IsProgram, IsRefusal};
+
+use crate::fault::{SourceError, SourceFaultOrMemory};
+use crate::reader::{Reader, Tables};
+use gms_ast::Program;
+use gms_labels::{Labels, Place};
+use gms_lex::{MOST_BYTES, lex};
+use gq_field::ExactField;
+use std::alloc::Global;
+
+/// Where a source begins.
+const START: Place = Place { line: 1, column: 1 };
+
+/// The program of a source, with its names and labels numbered in the order of the source, or its first fault (GAMS User's Guide,
+/// "GAMS Programs").
+///
+/// A source of over 1,048,576 bytes is TooLong, at its start. Else its first lexical fault comes before all others. Else the fault is
+/// the first by place: a token with which the tokens before it begin no program (`Expected`, or `NotInProfile` for a word of a
+/// statement or a value that the language leaves out), the end of the source where more has to come (`Expected`), a parenthesis that
+/// is opened where 100 are open (`Depth`), a number out of range (`Number`), the 65,537th name or label (`TooManyLabels`; of a range,
+/// at its upper label), a fault of a table at its word (`NoColumn`, `TwoColumns`, `RepeatedEntry`, `BadRow`), a table without lines,
+/// at its name (`NoHeading`). `Memory` comes where memory was wanting.
+pub fn parse<F: ExactField>(alloc: Global, source: &[u8]) -> Result<Program<F>, SourceFaultOrMemory>
+    ensures { MatchResult result (λ program. IsProgram F.limit source.now F.value program) (λ e. IsRefusal F.limit source.now e) }
+{
+    if source.len() > MOST_BYTES {
+        return Err(SourceFaultOrMemory::at(SourceError::TooLong, START));
+    }
+    let tokens = lex(alloc, source)?;
+    let mut tables = Tables {
+        names: Labels::new(alloc),
+        labels: Labels::new(alloc),
+    };
+    let reader = Reader {
+        alloc,
+        source,
+        tokens: tokens.as_slice(),
+        end: tokens[tokens.len() - 1].at,
+        unclosed: 0,
+    };
+    let statements = reader.program(&mut tables)?;
+    Ok(Program {
+        names: tables.names,
+        labels: tables.labels,
+        statements,
+    })
+}
