@@ -98,10 +98,10 @@ refuses_equals k r = by_cause r (λ fault s. stuck_as s (stuck_pair k s.reads)) 
 -- ---- statements
 
 -- the tables so far, and what texts of numbers mean
-abbrev so_far : Tables → Sense
+abbrev pub so_far : Tables → Sense
 so_far tables = record { names = tables.names; labels = tables.labels; value = number_in }
 
-is_so_far : (tables : Tables) → IsSense tables (so_far tables)
+pub is_so_far : (tables : Tables) → IsSense tables (so_far tables)
 is_so_far tables = record { names = λ text n h. h; labels = λ text n h. h; value = number_in_is }
 
 module _ {F : Type 0} (value : F → Number) {limit : ℕ} {reader : Reader} {at middle : ℕ} {first : Tables} {w : Walk} {target : TargetNode F} (t : IsGot limit (IsTarget value reader.source.now) (StaysOpen reader first w) (the Target) reader at first w target middle) where

@@ -1,14 +1,12 @@
 -- Whole sources: what was read of the tokens is the program, or its first fault.
-use Rattle.std.proofs.Common.{◌≡◌, ◌⊎◌, inl, inr, ℕ, ◌≤◌, ◌<◌, List, [], ◌∷◌, ◌++◌, length, Vec, refl, sym, ap, ◌∙◌, subst, append_assoc}
+use Rattle.std.proofs.Common.{◌≡◌, ◌⊎◌, inl, inr, ℕ, ◌≤◌, ◌<◌, List, [], ◌∷◌, ◌++◌, length, get_or, ◌-◌, Vec, refl, sym, ap, ◌∙◌, subst, append_assoc}
 use Rattle.std.specs.declared.alloc.Global.{Global}
 use Rattle.gq_number.specs.Number.{Number, neg_ℚ}
 use Rattle.gms_ast.specs.declared.program.Stmt.{Stmt}
 use Rattle.gms_ast.specs.StatementView.{statements_view}
 use Rattle.gms_lex.specs.declared.token.Token.{Token}
-use Rattle.gms_lex.specs.declared.fault.LexFaultOrMemory.{LexFaultOrMemory}
-use Rattle.gms_lex.specs.declared.fault.LexFaultOrMemory.TheVariants as lexed
 use Rattle.gms_lex.specs.Tokens.{IsTokens, most_bytes}
-use Rattle.gms_lex.specs.Tokens.{IsRefusal as IsLexicalRefusal}
+use Rattle.gms_lex.proofs.PlacedLemmas.{tokens_placed}
 use Rattle.gms_grammar.specs.declared.terminal.Terminal.{Terminal}
 use Rattle.gms_grammar.specs.declared.terminal.Terminal.TheVariants.{End}
 use Rattle.gms_grammar.specs.Grammar.{the, yield, Derives, Begins, Stops}
@@ -20,12 +18,12 @@ use Rattle.gms_grammar.proofs.Sound.{sound}
 use Rattle.gms_grammar.proofs.Language.{gams_read_stops, gams_stuck_stops, gams_stuck_none, gams_takes, gams_stops}
 use Rattle.gms_parse_x.specs.ExpressionTrees.{no_token, first_place}
 use Rattle.gms_parse_x.specs.Outcomes.{seen, next_place}
+use Rattle.gms_parse_x.proofs.Opening.{ends_at}
 use Rattle.gms_parse.specs.declared.fault.SourceFault.{SourceFault}
 use Rattle.gms_parse.specs.declared.fault.SourceFaultOrMemory.{SourceFaultOrMemory}
 use Rattle.gms_parse.specs.declared.fault.SourceFaultOrMemory.TheVariants.{Fault, Memory}
 use Rattle.gms_parse.specs.declared.reader.Reader.{Reader}
 use Rattle.gms_parse.specs.declared.reader.Tables.{Tables}
-use Rattle.gms_parse.specs.Faults.{fault_of_lexical}
 use Rattle.gms_parse.specs.Outcomes.{unexpected_error, IsProgramOf, IsNoProgram, IsUnexpected, IsRefusal}
 use Rattle.gms_parse.specs.Walks.{Seen, Walk, start, kind_ahead, walk_behind, IsFaulty, AreSound}
 use Rattle.gms_parse.specs.Readings.{IsStuck, IsWrong, Sense, IsSense, Holds, IsOver, IsWhole, RefusesWhole, IsReady, seen_from, kind_of, unexpected}
@@ -77,18 +75,18 @@ front_begins ts front rest u v s e b = go (compare u v front rest (sym e ∙ s.p
 
 -- ---- no program
 
-module _ {limit : ℕ} {source : List ℕ} {ts : List Seen} (ended : HasEnd ts) where
-  -- some token stands behind those that begin a program
-  place_behind : (front rest : List Seen) → Stops productions (the Program) ts front rest → next_place source rest ≡ first_place rest
-  place_behind front [] s = absurd (end_behind ended front (begins_other front s.begins) s.parts)
-  place_behind front (x ∷ rest) s = refl
+-- some token stands behind those that begin a program
+place_behind : (source : List ℕ) {ts : List Seen} (front rest : List Seen) → HasEnd ts → Stops productions (the Program) ts front rest → next_place source rest ≡ first_place rest
+place_behind source front [] ended s = absurd (end_behind ended front (begins_other front s.begins) s.parts)
+place_behind source front (x ∷ rest) ended s = refl
 
+module _ {limit : ℕ} {source : List ℕ} {ts : List Seen} (ended : HasEnd ts) where
   unexpected_behind : {fault : SourceFault} (front rest : List Seen) → Stops productions (the Program) ts front rest → (kind_of rest ≡ End → Derives productions (the Program) front → ⊥) → AreSound limit source start front (kind_of rest) → fault ≡ unexpected source rest → IsUnexpected limit source front rest fault
   unexpected_behind front rest s none_such h e = record {
     is_none = none_such;
     are_sound = h;
     error = ap (λ (x : SourceFault). x.error) e;
-    at = ap (λ (x : SourceFault). x.at) e ∙ place_behind front rest s;
+    at = ap (λ (x : SourceFault). x.at) e ∙ place_behind source front rest ended s;
   }
 
   stuck_none : {fault : SourceFault} → IsStuck limit source (the Program) start ts fault → IsNoProgram limit source ts fault
@@ -143,10 +141,17 @@ refusal_of reader (Fault fault) ready short r =
       refused = elim (r.why fault refl) [ inl c ↦ elim c [ inl s ↦ stuck_none ended s | inr s ↦ wrong_none ended s ] | inr o ↦ over_none ended o ];
     }))
 
--- what is refused of the bytes
-pub lexical_refusal : {limit : ℕ} (source : List ℕ) (e : LexFaultOrMemory) → length source ≤ most_bytes → IsLexicalRefusal source e → IsRefusal limit source (fault_of_lexical e)
-lexical_refusal source lexed.Memory short r = tt
-lexical_refusal source (lexed.Fault fault) short r = inr (inl (record { short = short; lexical = fault; is_first = r; error = refl; at = refl }))
+-- ---- the reader of a source
+
+pub ready_of : (reader : Reader) (items : List Token) (n : ℕ) (last : Token) → IsTokens reader.source.now items → reader.tokens.now ≡ items → n ≡ length items → last ≡ get_or items (n - 1) last → reader.end ≡ last.at → reader.unclosed ≤ 100 → IsReady reader
+ready_of reader items n last h same size at is_end few =
+    let tokens = subst (λ (ts : List Token). IsTokens reader.source.now ts) (sym same) h in
+    record {
+      tokens = tokens;
+      placed = tokens_placed reader.source.now reader.tokens.now tokens;
+      end = is_end ∙ ap (λ (t : Token). t.at) at ∙ ap (λ k. (get_or items (k - 1) last).at) size ∙ ends_at reader.source.now items last h;
+      few = few;
+    }
 
 -- ---- a program
 
