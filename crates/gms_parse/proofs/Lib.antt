@@ -28,6 +28,12 @@ pub mod Assigning
 pub mod Acts
 pub mod Models
 pub mod TableSteps
+pub mod Choices
+pub mod Looped
+pub mod Tabled
+pub mod Keyworded
+pub mod Segments
+pub mod Wholes
 pub mod Lags
 pub mod Heads
 pub mod Named

@@ -1,0 +1,95 @@
+-- Statements that begin with a keyword.
+use Rattle.std.proofs.Common.{◌≡◌, ℕ, Bool, true, false, not, ◌&&◌, List, [], ◌∷◌, Result, Ok, Err, refl, sym, ap, ◌∙◌, subst, inl, inr, ◌⊎◌}
+use Rattle.std.proofs.lemmas.Bool.{not-true, not_from_false, and_from}
+use Rattle.gq_number.specs.Number.{Number}
+use Rattle.gms_ast.specs.declared.declaration.Item.{Item}
+use Rattle.gms_ast.specs.declared.program.Act.{Act as ActNode}
+use Rattle.gms_grammar.specs.declared.terminal.Terminal.{Terminal}
+use Rattle.gms_grammar.specs.declared.terminal.Terminal.TheVariants.{Alias, Equation, Model, Parameter, Scalar, Set, Table, Variable, VariableType, End}
+use Rattle.gms_grammar.specs.Grammar.{the, ◌∣◌, left, right, node, yield}
+use Rattle.gms_grammar.specs.LookAhead.{may_begin}
+use Rattle.gms_grammar.specs.Terminals.{is_among}
+use Rattle.gms_grammar.specs.GamsGrammar.{KeywordStatement, SetStatement, ParameterStatement, ScalarStatement, TableStatement, VariableStatement, EquationStatement, ModelStatement, AliasStatement, productions}
+use Rattle.gms_grammar.specs.GamsLookAhead.{look_ahead}
+use Rattle.gms_grammar.proofs.Sound.{sound}
+use Rattle.gms_parse_x.proofs.TokenKinds.{implies, also}
+use Rattle.gms_parse.specs.declared.fault.SourceFaultOrMemory.{SourceFaultOrMemory}
+use Rattle.gms_parse.specs.declared.reader.Reader.{Reader}
+use Rattle.gms_parse.specs.declared.reader.Tables.{Tables}
+use Rattle.gms_parse.specs.Programs.{keyword_act}
+use Rattle.gms_parse.specs.Walks.{Seen, Walk, is_keyword}
+use Rattle.gms_parse.specs.Readings.{Derivation, GamsPart, Sense, IsAnswer, Holds, kind_of, seen_from}
+use Rattle.gms_parse.specs.Meanings.{IsTabled, IsStatement, other_statement}
+use Rattle.gms_parse.proofs.TokenKinds.{IsNone, not_among, leads_by_kind}
+use Rattle.gms_parse.proofs.Alphabet.{AllPass, only, all_pass}
+use Rattle.gms_parse.proofs.Steps.{Within, within_the, within_right, within_then}
+use Rattle.gms_parse.proofs.Choices.{at_once, in_first, in_other, in_node, way_within}
+use Rattle.gms_parse.proofs.Tabled.{no_line, is_lineless, lineless, have_none}
+
+-- a statement without a table, which one of the alternatives is
+pub statement_through : {F : Type 0} (value : F → Number) {limit : ℕ} {Means : Sense → Derivation → ActNode F → Type 0} {Leaves : Walk → Type 0} {p : GamsPart} {c : Derivation → Derivation} (reader : Reader) (at : ℕ) (new : Tables) (w : Walk) (result : Result (ActNode F × ℕ) SourceFaultOrMemory) →
+    Within limit reader.source.now (the KeywordStatement) w (seen_from reader at) p w (seen_from reader at) c → ((tree : Derivation) → yield (c tree) ≡ yield tree) → only is_lineless no_line p ≡ true → IsAnswer limit Means Leaves p reader at new w result → ((v : Walk) → Leaves v → Holds reader new v) →
+    ((table_items : List Seen → List (Item Number)) (sense : Sense) (tree : Derivation) (x : ActNode F) → Means sense tree x → IsStatement value reader.source.now keyword_act table_items sense (c tree) x) → IsAnswer limit (IsTabled value reader.source.now limit (IsStatement value reader.source.now keyword_act)) (Holds reader new) (the KeywordStatement) reader at new w result
+statement_through value {limit} {p = p} {c = c} reader at new w (Ok b) within same plain got holds says = record {
+  tree = c got.tree;
+  behind = got.behind;
+  gives = within.gives _ _ _ got.gives;
+  leaves = holds got.behind got.leaves;
+  means = λ sense s. record {
+    have = have_none limit reader.source.now sense.labels (yield (c got.tree))
+        (subst (λ (us : List Seen). AllPass no_line us) (sym (same got.tree)) (all_pass is_lineless no_line lineless p got.tree (sound productions look_ahead got.gives.reads).0 plain));
+    means = λ table_items all. says table_items sense got.tree b.0 (got.means sense s);
+  };
+  further = got.further;
+}
+statement_through value reader at new w (Err e) within same plain r holds says = within.refuses e r
+
+-- ---- variables
+
+pub variable_within : {limit : ℕ} {source : List ℕ} {w : Walk} (ts : List Seen) {k : Terminal} → k ≡ kind_of ts → (k ≡ VariableType) ⊎ (k ≡ Variable) → Within limit source (the KeywordStatement) w ts (the VariableStatement) w ts (λ t. node (right (right (right (right (left t))))))
+variable_within ts seen (inl e) = way_within {kind = VariableType} (in_node (in_other refl refl (in_other refl refl (in_other refl refl (in_other refl refl (in_first refl at_once)))))) (sym seen ∙ e) refl
+variable_within ts seen (inr e) = way_within {kind = Variable} (in_node (in_other refl refl (in_other refl refl (in_other refl refl (in_other refl refl (in_first refl at_once)))))) (sym seen ∙ e) refl
+
+-- ---- the statements that a loop may have
+
+-- the keywords of the others
+abbrev pub heads : List Terminal
+heads = Set ∷ Parameter ∷ Scalar ∷ Table ∷ VariableType ∷ Variable ∷ Equation ∷ Model ∷ Alias ∷ []
+
+abbrev is_inner : Terminal → Bool
+is_inner kind = is_keyword kind && not (is_among heads kind)
+
+-- such a keyword leads into the second alternative
+past_other : {limit : ℕ} {source : List ℕ} {w : Walk} {ts : List Seen} (p q : GamsPart) → may_begin look_ahead p End ≡ false → may_begin look_ahead q End ≡ false → implies is_inner (λ k. not (may_begin look_ahead p k)) ≡ true → implies is_inner (may_begin look_ahead q) ≡ true →
+    is_inner (kind_of ts) ≡ true → Within limit source (p ∣ q) w ts q w ts right
+past_other {ts = ts} p q closed shut none_of all_of inner =
+    within_right (leads_by_kind p ts closed ∙ not-true _ (also is_inner (λ k. not (may_begin look_ahead p k)) none_of (kind_of ts) inner)) (leads_by_kind q ts shut ∙ also is_inner (may_begin look_ahead q) all_of (kind_of ts) inner)
+
+abbrev behind_models : GamsPart
+behind_models = the AliasStatement ∣ other_statement
+
+abbrev behind_equations : GamsPart
+behind_equations = the ModelStatement ∣ behind_models
+
+abbrev behind_variables : GamsPart
+behind_variables = the EquationStatement ∣ behind_equations
+
+abbrev behind_tables : GamsPart
+behind_tables = the VariableStatement ∣ behind_variables
+
+abbrev behind_scalars : GamsPart
+behind_scalars = the TableStatement ∣ behind_tables
+
+abbrev behind_parameters : GamsPart
+behind_parameters = the ScalarStatement ∣ behind_scalars
+
+abbrev behind_sets : GamsPart
+behind_sets = the ParameterStatement ∣ behind_parameters
+
+inner_within : {limit : ℕ} {source : List ℕ} {w : Walk} {ts : List Seen} → is_inner (kind_of ts) ≡ true → Within limit source (the KeywordStatement) w ts other_statement w ts (λ t. node (right (right (right (right (right (right (right (right t)))))))))
+inner_within k = within_then (within_the KeywordStatement) (within_then (past_other (the SetStatement) behind_sets refl refl refl refl k) (within_then (past_other (the ParameterStatement) behind_parameters refl refl refl refl k)
+    (within_then (past_other (the ScalarStatement) behind_scalars refl refl refl refl k) (within_then (past_other (the TableStatement) behind_tables refl refl refl refl k) (within_then (past_other (the VariableStatement) behind_variables refl refl refl refl k)
+    (within_then (past_other (the EquationStatement) behind_equations refl refl refl refl k) (within_then (past_other (the ModelStatement) behind_models refl refl refl refl k) (past_other (the AliasStatement) other_statement refl refl refl refl k))))))))
+
+pub other_within : {limit : ℕ} {source : List ℕ} {w : Walk} (ts : List Seen) {k : Terminal} → k ≡ kind_of ts → is_keyword (kind_of ts) ≡ true → IsNone heads k → Within limit source (the KeywordStatement) w ts other_statement w ts (λ t. node (right (right (right (right (right (right (right (right t)))))))))
+other_within ts {k} seen keyword none_of = inner_within (and_from _ _ keyword (not_from_false (is_among heads (kind_of ts)) (ap (is_among heads) (sym seen) ∙ not_among heads k none_of)))
