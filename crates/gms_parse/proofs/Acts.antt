@@ -1,5 +1,5 @@
 -- Statements without statements in them: words, what is shown, options, solves and aliases.
-use Rattle.std.proofs.Common.{◌≡◌, ℕ, ◌+◌, ◌<◌, ◌≤◌, Bool, true, false, not, ◌&&◌, ◌||◌, ◌==◌, cond, List, [], ◌∷◌, ◌++◌, map, Option as Maybe, option_map, refl, sym, ap, ap₂, ◌∙◌, subst, arith, append_assoc, inl, inr, ◌⊎◌}
+use Rattle.std.proofs.Common.{◌≡◌, ℕ, Bool, true, false, not, ◌==◌, cond, List, [], ◌∷◌, ◌++◌, map, Option as Maybe, option_map, refl, sym, ap, ap₂, ◌∙◌, subst, arith, append_assoc}
 use Rattle.std.proofs.lemmas.Bool.{not-true, eq-eqb}
 use Rattle.std.proofs.lemmas.List.{map-id}
 use Rattle.gq_number.specs.Number.{Number as Rational}
@@ -34,22 +34,21 @@ use Rattle.gms_grammar.proofs.Basics.{and_both, and_second, or_right}
 use Rattle.gms_grammar.proofs.Checks.{left_and}
 use Rattle.gms_parse_x.specs.ExpressionTrees.{unquoted, suffix_of, inside as inside_of, first_in, second_in}
 use Rattle.gms_parse_x.specs.Outcomes.{open_after}
-use Rattle.gms_parse_x.proofs.TokenKinds.{implies, also, same_test}
+use Rattle.gms_parse_x.proofs.TokenKinds.{also, same_test}
 use Rattle.gms_parse.specs.declared.fault.SourceFault.{SourceFault}
 use Rattle.gms_parse.specs.declared.fault.SourceFaultOrMemory.{SourceFaultOrMemory}
 use Rattle.gms_parse.specs.declared.reader.Reader.{Reader}
 use Rattle.gms_parse.specs.declared.reader.Tables.{Tables}
 use Rattle.gms_parse.specs.DataLists.{listed_in, optional_in}
 use Rattle.gms_parse.specs.Statements.{alias_act, display_act, abort_act, option_act, solve_act, shown_in, shown_list, is_maximizing, setting_in as setting_of}
-use Rattle.gms_parse.specs.Walks.{Seen, Walk, all_entered, is_name, last_kind, new_labels, walk_after, IsFaulty, deep, out_of_range, many_names, many_labels, in_table, without_lines}
-use Rattle.gms_parse.specs.Readings.{Derivation, GamsPart, Gives, Refuses, Sense, IsSense, Holds, Has, Starts, Stays, StaysOpen, Ends, Nameless, Optionless, Tableless, IsNext, IsLacking, IsOpened, IsGot, IsValue, IsTooLarge, inside, seen_from, kind_of}
+use Rattle.gms_parse.specs.Walks.{Seen, Walk, all_entered, is_name, new_labels, walk_after, IsFaulty, deep, out_of_range, many_names, many_labels, in_table, without_lines}
+use Rattle.gms_parse.specs.Readings.{Derivation, GamsPart, Gives, Refuses, Sense, Holds, Has, Starts, Stays, StaysOpen, Ends, Nameless, IsNext, IsLacking, IsOpened, IsGot, IsValue, IsTooLarge, seen_from, kind_of}
 use Rattle.gms_parse.specs.Meanings.{IsNamed, IsWord, IsMethod, IsObjective, IsSuffix, IsShown, AreShown, IsCondition, IsSetting, IsAct, act_view}
-use Rattle.gms_parse.proofs.TokenKinds.{begins, is_quiet, is_plain, leads_alike, led_first, unled_next}
+use Rattle.gms_parse.proofs.TokenKinds.{begins, leads_alike, led_first, unled_next}
 use Rattle.gms_parse.proofs.Walks.{keyword_after, room_for_none}
 use Rattle.gms_parse.proofs.Steps.{gives_one, gives_both, gives_the, gives_left, gives_right, gives_none, gives_some, by_cause, stuck_as, wrong_as, refuses_first, refuses_second, refuses_the, refuses_left, refuses_right, refuses_some}
-use Rattle.gms_parse.proofs.Nexts.{past, exact, exact_kind, led_next, refuses_lacking, gives_exact, plain_stays, plain_starts, stays_same, stays_then, earlier, optionless_on, tableless_on, begun_has, begun_starts, opened, open_has, open_starts, close_stays, closes_on, gives_bracketed, got_inside, refuses_within, refuses_inside, refuses_unclosed}
+use Rattle.gms_parse.proofs.Nexts.{past, exact_kind, led_next, refuses_lacking, gives_exact, plain_stays, stays_same, stays_then, earlier, begun_has, begun_starts, opened, open_starts, close_stays, gives_bracketed, got_inside, refuses_within, refuses_inside, refuses_unclosed}
 use Rattle.gms_parse.proofs.Entering.{number_gives, number_stays, number_refused}
-use Rattle.gms_parse.proofs.Conditions.{open_starts as name_starts}
 use Rattle.gms_parse.proofs.Eithers.{led_given, refuses_other, refuses_or}
 use Rattle.gms_parse.proofs.Listing.{AreAll, all_meant, list_of}
 

@@ -1,8 +1,7 @@
 -- The tokens of an expression leave the same names, labels and parentheses, and have the same faults, whether they are looked at as those
 -- of an expression or as those of a program.
-use Rattle.std.proofs.Common.{◌≡◌, ℕ, ◌+◌, ◌-◌, ◌<◌, ◌≤◌, Bool, true, false, not, ◌&&◌, ◌||◌, ◌==◌, cond, List, [], ◌∷◌, ◌++◌, length, Option as Maybe, Some, None, is_some, ltb, ltb-true, ltb-false, refl, sym, ap, ap₂, ◌∙◌, subst, inl, inr, ◌⊎◌, arith}
-use Rattle.gms_labels.specs.Labels.{place_of, entered, IsFullFor}
-use Rattle.gms_lex.specs.declared.token.Token.{Token}
+use Rattle.std.proofs.Common.{◌≡◌, ℕ, ◌<◌, Bool, true, false, not, ◌&&◌, ◌||◌, ◌==◌, cond, List, [], ◌∷◌, ◌++◌, refl, sym, ap, ap₂, ◌∙◌, subst, inl, inr, arith}
+use Rattle.gms_labels.specs.Labels.{entered, IsFullFor}
 use Rattle.gms_lex.specs.TokenTexts.{token_text}
 use Rattle.gms_grammar.specs.declared.terminal.Terminal.{Terminal}
 use Rattle.gms_grammar.specs.declared.terminal.Terminal.TheVariants.{Name, Suffix, Function, OrdCard, FoldOp, Infinity, NotAvailable, YesNo, Not, And, Or, RelationWord, Number, Text, Power, Relation, Circular, Sign, Star, Slash, Equals, LeftParen, RightParen, Comma, Dot, Dollar, Using, Display, Abort, Option, Table, Label, TableLine}
@@ -11,8 +10,7 @@ use Rattle.gms_parse_x.specs.ExpressionTrees.{unquoted}
 use Rattle.gms_parse_x.specs.declared.fault.SyntaxError.{SyntaxError}
 use Rattle.gms_parse_x.specs.declared.fault.SyntaxError.TheVariants as syntax
 use Rattle.gms_parse_x.specs.Outcomes as inner
-use Rattle.gms_parse_x.proofs.TokenKinds.{implies, also}
-use Rattle.gms_parse.specs.declared.fault.SourceError.{SourceError}
+use Rattle.gms_parse_x.proofs.TokenKinds.{also}
 use Rattle.gms_parse.specs.declared.fault.SourceFault.{SourceFault}
 use Rattle.gms_parse.specs.Faults.{error_of_syntax}
 use Rattle.gms_parse.specs.Tables.{labels_of_lines}

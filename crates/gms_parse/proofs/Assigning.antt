@@ -1,34 +1,29 @@
 -- Assignments, and the sides of definitions.
-use Rattle.std.proofs.Common.{◌≡◌, ℕ, ◌+◌, ◌<◌, ◌≤◌, Bool, true, false, ◌||◌, ◌&&◌, not, List, [], ◌∷◌, map, drop, Option as Maybe, option_map, refl, sym, ap, ap₂, ◌∙◌, subst, arith}
+use Rattle.std.proofs.Common.{◌≡◌, ℕ, Option as Maybe, option_map, refl, sym, ap, ap₂, ◌∙◌, arith}
 use Rattle.gq_number.specs.Number.{Number}
 use Rattle.gms_labels.specs.declared.place.Place.{Place}
-use Rattle.gms_tokens.specs.declared.kind.Kind.{Kind}
 use Rattle.gms_ast.specs.declared.expression.Expr.{Expr}
-use Rattle.gms_ast.specs.declared.expression.Index.{Index as IndexNode}
-use Rattle.gms_ast.specs.declared.program.Side.{Side}
 use Rattle.gms_ast.specs.declared.program.Target.{Target as TargetNode}
 use Rattle.gms_ast.specs.declared.program.Act.{Act as ActNode}
 use Rattle.gms_ast.specs.Trees.{Tree as Syntax, Indices, no_index, label, set, lagged}
-use Rattle.gms_ast.specs.TreeView.{indices_of, index_tree}
 use Rattle.gms_ast.specs.Numbers.{indices_in_numbers}
-use Rattle.gms_ast.specs.StatementTrees.{assigns, defines, Sides, Target}
+use Rattle.gms_ast.specs.StatementTrees.{assigns, defines}
 use Rattle.gms_ast.specs.StatementView.{shown_tree, shown_indices, shown_target}
 use Rattle.gms_lex.specs.declared.token.Token.{Token}
 use Rattle.gms_grammar.specs.declared.terminal.Terminal.TheVariants.{Equals, Sense as SenseMark}
 use Rattle.gms_grammar.specs.Grammar.{the, ◌·◌, opt, leaf, pair, node}
 use Rattle.gms_grammar.specs.Terminals.{is}
-use Rattle.gms_grammar.specs.GamsGrammar.{Expression, Condition, Target as TargetPart, Sides as SidesPart, AfterTarget, Assignment, productions, token}
+use Rattle.gms_grammar.specs.GamsGrammar.{Expression, Condition, Target as TargetPart, Sides as SidesPart, AfterTarget, Assignment, token}
 use Rattle.gms_parse_x.specs.Outcomes.{next_place}
-use Rattle.gms_parse_x.specs.ExpressionTrees.{expression, second_in}
-use Rattle.gms_parse.specs.declared.fault.SourceFaultOrMemory.{SourceFaultOrMemory}
+use Rattle.gms_parse_x.specs.ExpressionTrees.{second_in}
 use Rattle.gms_parse.specs.declared.reader.Reader.{Reader}
 use Rattle.gms_parse.specs.declared.reader.Tables.{Tables}
 use Rattle.gms_parse.specs.Statements.{side_of, assignment_act, assigned}
-use Rattle.gms_parse.specs.Walks.{Seen, Walk}
-use Rattle.gms_parse.specs.Readings.{Derivation, GamsPart, Gives, Refuses, Sense, IsSense, IsGot, Has, Starts, Stays, StaysOpen, Tableless, IsNext, IsLacking, seen_from}
+use Rattle.gms_parse.specs.Walks.{Walk}
+use Rattle.gms_parse.specs.Readings.{IsGot, Has, Starts, Stays, StaysOpen, Tableless, IsNext, seen_from}
 use Rattle.gms_parse.specs.Meanings.{IsExpression, IsTarget, IsCondition, IsAssigned, IsDefined, IsAct, has_lag, act_view}
-use Rattle.gms_parse.proofs.Steps.{gives_both, gives_the, refuses_the, refuses_first, refuses_second}
-use Rattle.gms_parse.proofs.Nexts.{past, gives_exact, plain_starts, kind_stays, stays_then, earlier, tableless_on, refuses_lacking, optionless_on}
+use Rattle.gms_parse.proofs.Steps.{gives_both, gives_the}
+use Rattle.gms_parse.proofs.Nexts.{past, gives_exact, plain_starts, kind_stays, stays_then, earlier, tableless_on, optionless_on}
 use Rattle.gms_parse.proofs.Places.{place_read}
 
 -- ---- right sides

@@ -1,5 +1,5 @@
 -- Conditions of statements.
-use Rattle.std.proofs.Common.{◌≡◌, ℕ, ◌+◌, ◌<◌, ◌≤◌, Bool, true, false, cond, List, [], ◌∷◌, Some, None, refl, sym, ap, ◌∙◌, arith}
+use Rattle.std.proofs.Common.{◌≡◌, ℕ, Bool, true, false, cond, List, Some, None, refl, sym, ap, ◌∙◌, arith}
 use Rattle.gq_number.specs.Number.{Number}
 use Rattle.gms_ast.specs.declared.expression.Expr.{Expr}
 use Rattle.gms_ast.specs.Trees.{not_so}
@@ -18,7 +18,7 @@ use Rattle.gms_parse.specs.declared.fault.SourceFaultOrMemory.{SourceFaultOrMemo
 use Rattle.gms_parse.specs.declared.reader.Reader.{Reader}
 use Rattle.gms_parse.specs.declared.reader.Tables.{Tables}
 use Rattle.gms_parse.specs.Walks.{Seen, Walk}
-use Rattle.gms_parse.specs.Readings.{GamsPart, Refuses, Sense, Has, Starts, Stays, StaysOpen, Tableless, IsNext, IsGot, seen_from}
+use Rattle.gms_parse.specs.Readings.{Refuses, Starts, StaysOpen, Tableless, IsNext, IsGot, seen_from}
 use Rattle.gms_parse.specs.Meanings.{IsNot, IsOperand, IsGuard, IsCondition}
 use Rattle.gms_parse.proofs.TokenKinds.{leads_alike}
 use Rattle.gms_parse.proofs.Steps.{gives_both, gives_the, gives_none, gives_some, refuses_the, refuses_second, refuses_some}

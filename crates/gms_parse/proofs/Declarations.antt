@@ -1,5 +1,5 @@
 -- Statements that declare names.
-use Rattle.std.proofs.Common.{◌≡◌, ℕ, ◌+◌, ◌<◌, ◌≤◌, Bool, true, false, not, List, [], ◌∷◌, ◌++◌, map, refl, sym, ap, ap₂, ◌∙◌, subst, arith}
+use Rattle.std.proofs.Common.{◌≡◌, ℕ, Bool, true, false, not, List, [], ◌∷◌, map, refl, ap, ◌∙◌, arith}
 use Rattle.std.proofs.lemmas.Bool.{not-true}
 use Rattle.gq_number.specs.Number.{Number as Rational}
 use Rattle.gms_ast.specs.declared.declaration.Decl.{Decl}
@@ -16,9 +16,9 @@ use Rattle.gms_grammar.specs.Grammar.{the, ◌·◌, opt, leaf, pair, none, some
 use Rattle.gms_grammar.specs.LookAhead.{may_begin}
 use Rattle.gms_grammar.specs.Reading.{leads}
 use Rattle.gms_grammar.specs.Terminals.{is, is_among}
-use Rattle.gms_grammar.specs.GamsGrammar.{Nonterminal, SetItems, ParameterItems, ScalarItems, PlainItems, VariableStatement, productions, token, name, items}
+use Rattle.gms_grammar.specs.GamsGrammar.{SetItems, ParameterItems, ScalarItems, PlainItems, VariableStatement, productions, token, name, items}
 use Rattle.gms_grammar.specs.GamsLookAhead.{look_ahead}
-use Rattle.gms_parse_x.proofs.TokenKinds.{implies, also, same_test}
+use Rattle.gms_parse_x.proofs.TokenKinds.{also, same_test}
 use Rattle.gms_parse_x.specs.ExpressionTrees.{second_in}
 use Rattle.gms_parse.specs.declared.declaration.Form.{Form}
 use Rattle.gms_parse.specs.declared.declaration.Form.TheVariants as form
@@ -27,11 +27,11 @@ use Rattle.gms_parse.specs.declared.reader.Reader.{Reader}
 use Rattle.gms_parse.specs.declared.reader.Tables.{Tables}
 use Rattle.gms_parse.specs.Declarations.{items_in, variable_kind, variable_act}
 use Rattle.gms_parse.specs.Walks.{Seen, Walk}
-use Rattle.gms_parse.specs.Readings.{Derivation, GamsPart, Gives, Refuses, Sense, IsSense, IsGot, Holds, Has, Starts, Stays, Ends, Tableless, IsNext, seen_from}
+use Rattle.gms_parse.specs.Readings.{Derivation, GamsPart, Gives, Refuses, IsGot, Holds, Starts, Stays, Ends, Tableless, IsNext, seen_from}
 use Rattle.gms_parse.specs.Meanings.{IsDeclared, AreDeclared, IsDeclaration, IsVariableType, IsAct, item_part, items_part, item_meaning, act_view}
 use Rattle.gms_parse.proofs.TokenKinds.{begins, is_quiet, leads_alike}
-use Rattle.gms_parse.proofs.Steps.{gives_both, gives_the, gives_none, gives_some, refuses_the, refuses_first, refuses_second}
-use Rattle.gms_parse.proofs.Nexts.{past, led_next, gives_exact, begun_has, begun_starts, begun_keyword, quiet_holds, earlier}
+use Rattle.gms_parse.proofs.Steps.{gives_both, gives_the, gives_none, gives_some, refuses_the, refuses_second}
+use Rattle.gms_parse.proofs.Nexts.{past, led_next, gives_exact, begun_starts, begun_keyword, quiet_holds, earlier}
 use Rattle.gms_parse.proofs.Itemized.{AreItems, items_meant}
 
 -- the items of each form

@@ -1,7 +1,7 @@
 -- Names that are declared, with their domains and data.
-use Rattle.std.proofs.Common.{◌≡◌, ℕ, ◌+◌, ◌<◌, ◌≤◌, Bool, true, false, List, [], ◌∷◌, ◌++◌, map, Option as Maybe, Some, None, Vec, refl, sym, ap, ap₂, ◌∙◌, subst, arith}
+use Rattle.std.proofs.Common.{◌≡◌, ℕ, List, [], map, Option as Maybe, Vec, refl, sym, ap, ap₂, ◌∙◌, subst, arith}
 use Rattle.std.specs.declared.alloc.Global.{Global}
-use Rattle.gq_number.specs.Number.{Number as Rational, neg_ℚ}
+use Rattle.gq_number.specs.Number.{Number as Rational}
 use Rattle.gms_ast.specs.declared.word.Named.{Named}
 use Rattle.gms_ast.specs.declared.declaration.Decl.{Decl}
 use Rattle.gms_ast.specs.declared.declaration.Item.{Item}
@@ -18,9 +18,9 @@ use Rattle.gms_parse.specs.declared.reader.Tables.{Tables}
 use Rattle.gms_parse.specs.DataLists.{optional_in, between}
 use Rattle.gms_parse.specs.Declarations.{named_in, optional_domain}
 use Rattle.gms_parse.specs.Walks.{Seen, Walk}
-use Rattle.gms_parse.specs.Readings.{Derivation, GamsPart, Gives, Refuses, Sense, IsSense, IsGot, Has, Stays, seen_from}
+use Rattle.gms_parse.specs.Readings.{Derivation, GamsPart, Gives, Refuses, IsGot, Stays}
 use Rattle.gms_parse.specs.Meanings.{IsNamed, IsOptionalDomain, AreListed, IsScalarValue, IsDeclared, form_of, item_part, item_meaning, list_part, list_meaning}
-use Rattle.gms_parse.proofs.Steps.{gives_both, gives_the, refuses_the, refuses_first, refuses_second}
+use Rattle.gms_parse.proofs.Steps.{gives_both, gives_the, refuses_the}
 use Rattle.gms_parse.proofs.Nexts.{stays_then, earlier}
 
 -- ---- sets and parameters

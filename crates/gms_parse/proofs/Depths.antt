@@ -1,11 +1,11 @@
 -- Within expressions each text is an index, which stands in parentheses; and parentheses close.
-use Rattle.std.proofs.Common.{◌≡◌, ℕ, ◌+◌, ◌-◌, ◌<◌, ◌≤◌, Bool, true, false, not, ◌&&◌, ◌||◌, List, [], ◌∷◌, ◌++◌, cond, refl, sym, ap, ◌∙◌, subst, arith}
+use Rattle.std.proofs.Common.{◌≡◌, ℕ, ◌+◌, ◌-◌, ◌<◌, ◌≤◌, Bool, true, false, not, List, [], ◌∷◌, ◌++◌, cond, refl, sym, ap, ◌∙◌, subst, arith}
 use Rattle.std.specs.Bool.{⊤}
 use Rattle.gms_grammar.specs.declared.terminal.Terminal.{Terminal}
-use Rattle.gms_grammar.specs.declared.terminal.Terminal.TheVariants.{Name, Suffix, Function, OrdCard, FoldOp, Infinity, NotAvailable, YesNo, Not, And, Or, RelationWord, Number, Text, Power, Relation, Circular, Sign, Star, Slash, Equals, LeftParen, RightParen, Comma, Dot, Dollar}
-use Rattle.gms_grammar.specs.Grammar.{Part, one, the, ◌·◌, ◌∣◌, opt, many, Tree, leaf, pair, left, right, none, some, more, node, yield, IsTree}
-use Rattle.gms_grammar.specs.Terminals.{is, is_among}
-use Rattle.gms_grammar.specs.GamsGrammar.{Nonterminal, Expression, Conjunction, Negation, Comparison, Sum, Product, PowerTerm, Guarded, Condition, Primary, Target, Attribute, IndexList, Index, Lag, LagAmount, Call, ExpressionList, Fold, Control, NameList, productions, token, name, any_of, bracketed, listed}
+use Rattle.gms_grammar.specs.declared.terminal.Terminal.TheVariants.{Text, LeftParen, RightParen}
+use Rattle.gms_grammar.specs.Grammar.{one, the, ◌·◌, ◌∣◌, opt, many, leaf, pair, left, right, none, some, more, node, yield, IsTree}
+use Rattle.gms_grammar.specs.Terminals.{is_among}
+use Rattle.gms_grammar.specs.GamsGrammar.{Nonterminal, Expression, Conjunction, Negation, Comparison, Sum, Product, PowerTerm, Guarded, Condition, Primary, Target, Attribute, IndexList, Index, Lag, LagAmount, Call, ExpressionList, Fold, Control, NameList, productions, token, bracketed}
 use Rattle.gms_parse_x.proofs.TokenKinds.{implies, also}
 use Rattle.gms_parse_x.specs.Outcomes.{open_after}
 use Rattle.gms_parse.specs.Walks.{Seen}

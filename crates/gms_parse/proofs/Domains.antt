@@ -1,16 +1,16 @@
 -- Domains: sets and `*` in parentheses behind a name.
-use Rattle.std.proofs.Common.{◌≡◌, ℕ, ◌+◌, ◌<◌, ◌≤◌, Bool, true, false, ◌&&◌, cond, List, [], ◌∷◌, ◌++◌, Option as Maybe, Some, None, Vec, Result, Ok, Err, not, ◌||◌, map, refl, sym, ap, ap₂, ◌∙◌, subst, arith}
+use Rattle.std.proofs.Common.{◌≡◌, ℕ, Bool, true, false, cond, List, [], ◌∷◌, Option as Maybe, Some, None, Vec, Result, Ok, Err, not, ◌||◌, refl, sym, ap, ◌∙◌, subst, arith}
 use Rattle.std.specs.declared.alloc.Global.{Global}
 use Rattle.std.proofs.lemmas.List.{map-id}
 use Rattle.gms_lex.specs.declared.token.Token.{Token}
 use Rattle.gms_ast.specs.declared.word.Named.{Named}
 use Rattle.gms_grammar.specs.declared.terminal.Terminal.{Terminal}
-use Rattle.gms_grammar.specs.declared.terminal.Terminal.TheVariants.{Star, Comma, LeftParen, RightParen, Table, Name, Suffix}
-use Rattle.gms_grammar.specs.Grammar.{the, ◌·◌, ◌∣◌, opt, leaf, pair, left, right, none, some, node, yield}
+use Rattle.gms_grammar.specs.declared.terminal.Terminal.TheVariants.{Star, Comma, LeftParen, RightParen, Table}
+use Rattle.gms_grammar.specs.Grammar.{the, opt, leaf, pair, left, right, none, some, node, yield}
 use Rattle.gms_grammar.specs.LookAhead.{may_begin}
 use Rattle.gms_grammar.specs.Reading.{leads}
-use Rattle.gms_grammar.specs.Terminals.{is, is_among}
-use Rattle.gms_grammar.specs.GamsGrammar.{Nonterminal, Expression, Domain, DomainList, DomainPosition, productions, token, name, bracketed}
+use Rattle.gms_grammar.specs.Terminals.{is}
+use Rattle.gms_grammar.specs.GamsGrammar.{Nonterminal, Expression, Domain, DomainList, DomainPosition, productions, token, name}
 use Rattle.gms_grammar.specs.GamsLookAhead.{look_ahead}
 use Rattle.gms_parse_x.proofs.TokenKinds.{same_test}
 use Rattle.gms_parse_x.specs.ExpressionTrees.{inside as inside_of}
@@ -18,19 +18,19 @@ use Rattle.gms_parse.specs.declared.fault.SourceFaultOrMemory.{SourceFaultOrMemo
 use Rattle.gms_parse.specs.declared.reader.Reader.{Reader}
 use Rattle.gms_parse.specs.declared.reader.Tables.{Tables}
 use Rattle.gms_parse.specs.DataLists.{listed_in}
-use Rattle.gms_parse.specs.Declarations.{position_in, named_in}
+use Rattle.gms_parse.specs.Declarations.{position_in}
 use Rattle.gms_labels.specs.declared.place.Place.{Place}
 use Rattle.gms_grammar.proofs.Checks.{left_and, right_and}
 use Rattle.gms_grammar.proofs.Sound.{sound}
 use Rattle.gms_parse.specs.declared.fault.SourceError.TheVariants.{NoHeading}
 use Rattle.gms_parse.specs.declared.fault.SourceFaultOrMemory.TheVariants.{Fault}
 use Rattle.gms_parse.specs.Walks.{Seen, Walk, ends_statement, last_kind, table_name, kind_ahead, walk_after, walk_behind, IsFaulty, without_lines}
-use Rattle.gms_parse.specs.Readings.{Derivation, GamsPart, Gives, Refuses, Sense, IsSense, Has, Starts, Stays, Tableless, Optionless, IsNext, IsGot, IsOpened, IsAnswer, AnswersDomain, AnswersBehind, ends_head, seen_from, kind_of}
+use Rattle.gms_parse.specs.Readings.{Derivation, Gives, Refuses, Sense, Has, Starts, Stays, IsNext, IsGot, IsOpened, AnswersDomain, AnswersBehind, ends_head, seen_from, kind_of}
 use Rattle.gms_parse.specs.Meanings.{IsNamed, IsPosition, IsDomain, IsOptionalDomain}
 use Rattle.gms_parse.proofs.TokenKinds.{leads_alike, same_kind}
 use Rattle.gms_parse.proofs.Alphabet.{AllPass, only, all_pass}
-use Rattle.gms_parse.proofs.Steps.{gives_both, gives_the, gives_left, gives_right, gives_none, gives_some, refuses_the, refuses_second, refuses_some, refuses_token, takes_next}
-use Rattle.gms_parse.proofs.Nexts.{past, exact, opened, gives_open, gives_bracketed, close_stays, closes_on, led_next, gives_exact, plain_stays, plain_starts, stays_same, stays_then, earlier}
+use Rattle.gms_parse.proofs.Steps.{gives_the, gives_left, gives_right, gives_none, gives_some, refuses_the, refuses_second, refuses_some, refuses_token, takes_next}
+use Rattle.gms_parse.proofs.Nexts.{past, exact, opened, gives_open, gives_bracketed, close_stays, closes_on, led_next, gives_exact, plain_stays, stays_same}
 use Rattle.gms_parse.proofs.Eithers.{led_given, refuses_other}
 use Rattle.gms_parse.proofs.Listing.{AreAll, all_meant, list_of}
 
@@ -120,7 +120,7 @@ module _ {reader : Reader} {at start : ℕ} {inner : Reader} {old : Tables} {w :
           let ends = right_and (is Table w.keyword) (ends_statement (kind_of (seen_from reader behind))) true_there in
           let kinds = all_pass is_domain_list no_table domains_other (the DomainList) (node got.tree) (sound productions look_ahead listed.reads).0 refl in
           let where_it_is : table_name got.behind.before ≡ table_name w.before =
-              ap (λ (x : Walk). table_name x.before) listed.leaves ∙ name_kept reader.source.now (opened w o) (yield got.tree) (kind_of (seen_from reader next)) kinds refl ∙ name_pushed (LeftParen, o.token) w.before last in
+          ap (λ (x : Walk). table_name x.before) listed.leaves ∙ name_kept reader.source.now (opened w o) (yield got.tree) (kind_of (seen_from reader next)) kinds refl ∙ name_pushed (LeftParen, o.token) w.before last in
           refuses_the Domain (refuses_second (gives_open o h) (refuses_second listed
           (refuses_token (takes_next (exact n) refl) (subst (λ (x : Place). IsFaulty limit reader.source.now got.behind (RightParen, t) (kind_of (seen_from reader behind)) (record { error = NoHeading; at = x })) where_it_is (without_lines refl (got.leaves.keyword ∙ sym table) ends)) refl)))
 

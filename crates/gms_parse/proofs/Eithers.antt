@@ -1,8 +1,8 @@
 -- Alternatives of which one begins with a single token.
-use Rattle.std.proofs.Common.{◌≡◌, ℕ, Bool, true, false, List, [], ◌∷◌, ◌++◌, sym, inl, inr, ◌⊎◌}
+use Rattle.std.proofs.Common.{◌≡◌, ℕ, Bool, true, false, List}
 use Rattle.gms_grammar.specs.declared.terminal.Terminal.{Terminal}
-use Rattle.gms_grammar.specs.Grammar.{one, ◌·◌, ◌∣◌, opt}
-use Rattle.gms_grammar.specs.Reading.{Found, read, stuck, leads, Reads, taken, refused, in_neither, left_out, takes_left, takes_right, takes_first, takes_opt}
+use Rattle.gms_grammar.specs.Grammar.{one, ◌·◌, ◌∣◌}
+use Rattle.gms_grammar.specs.Reading.{read, stuck, leads, Reads, taken, refused, in_neither, takes_left, takes_right, takes_first}
 use Rattle.gms_grammar.specs.GamsGrammar.{productions}
 use Rattle.gms_grammar.specs.GamsLookAhead.{look_ahead}
 use Rattle.gms_parse.specs.declared.fault.SourceFaultOrMemory.{SourceFaultOrMemory}

@@ -1,30 +1,28 @@
 -- Elements of lists: positions with ranges, joined by dots.
-use Rattle.std.proofs.Common.{◌≡◌, ℕ, ◌+◌, ◌-◌, ◌<◌, ◌≤◌, Bool, true, false, not, ◌&&◌, ◌||◌, cond, List, [], ◌∷◌, ◌++◌, length, map, refl, sym, ap, ap₂, ◌∙◌, subst, inl, inr, ◌⊎◌, arith, append_assoc}
+use Rattle.std.proofs.Common.{◌≡◌, ℕ, ◌≤◌, Bool, true, false, ◌||◌, List, [], ◌∷◌, ◌++◌, map, refl, sym, ap, ◌∙◌, arith, append_assoc}
 use Rattle.std.proofs.lemmas.List.{append-nil}
-use Rattle.gq_number.specs.Number.{Number, neg_ℚ}
+use Rattle.gq_number.specs.Number.{neg_ℚ}
 use Rattle.gms_lex.specs.declared.token.Token.{Token}
-use Rattle.gms_grammar.specs.declared.terminal.Terminal.{Terminal}
-use Rattle.gms_grammar.specs.declared.terminal.Terminal.TheVariants.{Label, Star, Comma, Dot, LeftParen, RightParen}
-use Rattle.gms_grammar.specs.Grammar.{the, one, ◌·◌, ◌∣◌, opt, many, leaf, pair, left, right, none, some, more, node, yield}
+use Rattle.gms_grammar.specs.declared.terminal.Terminal.TheVariants.{Label, Comma, LeftParen, RightParen}
+use Rattle.gms_grammar.specs.Grammar.{the, ◌·◌, ◌∣◌, many, leaf, pair, left, right, none, more, node}
 use Rattle.gms_grammar.specs.LookAhead.{may_begin}
 use Rattle.gms_grammar.specs.Reading.{read, stuck, leads, Reads, taken, refused, entered, entered_stuck, both, first_stuck, second_stuck, in_left_stuck, in_neither, takes_left}
 use Rattle.gms_grammar.specs.Terminals.{is}
-use Rattle.gms_grammar.specs.GamsGrammar.{Range, RangeList, ElementPart, Element, productions, token, bracketed}
+use Rattle.gms_grammar.specs.GamsGrammar.{Range, RangeList, ElementPart, productions, token, bracketed}
 use Rattle.gms_grammar.specs.GamsLookAhead.{look_ahead}
 use Rattle.gms_parse_x.specs.ExpressionTrees.{second_in}
-use Rattle.gms_parse_x.proofs.TokenKinds.{implies, same_test}
+use Rattle.gms_parse_x.proofs.TokenKinds.{same_test}
 use Rattle.gms_parse.specs.declared.data.Part.{Part as Position}
-use Rattle.gms_parse.specs.declared.data.Element.{Element as ElementNode}
 use Rattle.gms_parse.specs.declared.fault.SourceFaultOrMemory.{SourceFaultOrMemory}
 use Rattle.gms_parse.specs.declared.reader.Reader.{Reader}
 use Rattle.gms_parse.specs.declared.reader.Tables.{Tables}
-use Rattle.gms_parse.specs.DataLists.{listed_in, each_in, joined, any_true, labels_in_range, is_bad_range, labels_in_part, has_bad_range}
+use Rattle.gms_parse.specs.DataLists.{listed_in, each_in, joined, any_true, labels_in_range, is_bad_range}
 use Rattle.gms_parse.specs.Walks.{Seen, Walk, ends_statement}
-use Rattle.gms_parse.specs.Readings.{Derivation, GamsPart, Gives, Refuses, Sense, IsSense, IsGot, Has, Stays, Starless, Tableless, IsNext, IsLacking, IsOpened, IsUnopened, seen_from, kind_of}
+use Rattle.gms_parse.specs.Readings.{Derivation, GamsPart, Gives, Refuses, Sense, IsSense, IsGot, Has, Stays, Tableless, IsNext, IsLacking, IsOpened, IsUnopened, seen_from, kind_of}
 use Rattle.gms_parse.specs.Meanings.{IsAdded, IsPart}
 use Rattle.gms_parse.proofs.TokenKinds.{unled_next, led_first, leads_alike, same_kind}
-use Rattle.gms_parse.proofs.Steps.{Within, within_second, within_then, within_again, gives_both, gives_the, gives_left, gives_right, gives_no_more, refuses_the, refuses_first, refuses_second, refuses_left, refuses_right, refuses_again, by_cause, stuck_as, wrong_as}
-use Rattle.gms_parse.proofs.Nexts.{past, exact, opened, led_next, leads_next, gives_exact, gives_open, gives_bracketed, refuses_inside, refuses_unclosed, open_has, close_stays, closes_on, plain_stays, stays_then, earlier, got_inside, refuses_unopened}
+use Rattle.gms_parse.proofs.Steps.{Within, within_second, within_then, within_again, gives_both, gives_the, gives_left, gives_right, gives_no_more, refuses_the, refuses_second, refuses_right, refuses_again, by_cause, stuck_as, wrong_as}
+use Rattle.gms_parse.proofs.Nexts.{past, exact, opened, leads_next, gives_exact, gives_bracketed, refuses_inside, refuses_unclosed, close_stays, closes_on, plain_stays, stays_then, earlier, got_inside, refuses_unopened}
 
 -- the labels of ranges, and whether one of them is none
 abbrev pub labels_of : List ℕ → Sense → List Derivation → List ℕ
@@ -123,9 +121,10 @@ lone_got {reader = reader} was part none_yet sound_yet got = record {
   behind = got.behind;
   gives = gives_the ElementPart (gives_left (range_reads got.gives) got.gives);
   leaves = got.leaves;
-  means = λ sense s.
-      ((got.means sense s).0 ∙ ap (λ u. u ++ labels_in_range reader.source.now sense.labels sense.value neg_ℚ got.tree) none_yet ∙ sym (append-nil (labels_in_range reader.source.now sense.labels sense.value neg_ℚ got.tree)),
-      (got.means sense s).1 ∙ ap (λ c. c || is_bad_range reader.source.now sense.labels sense.value neg_ℚ got.tree) sound_yet ∙ sym (or_none (is_bad_range reader.source.now sense.labels sense.value neg_ℚ got.tree)));
+  means = λ sense s. (
+    (got.means sense s).0 ∙ ap (λ u. u ++ labels_in_range reader.source.now sense.labels sense.value neg_ℚ got.tree) none_yet ∙ sym (append-nil (labels_in_range reader.source.now sense.labels sense.value neg_ℚ got.tree)),
+    (got.means sense s).1 ∙ ap (λ c. c || is_bad_range reader.source.now sense.labels sense.value neg_ℚ got.tree) sound_yet ∙ sym (or_none (is_bad_range reader.source.now sense.labels sense.value neg_ℚ got.tree)),
+  );
   further = got.further;
 }
 

@@ -1,5 +1,5 @@
 -- The end of a source is its last token, and no other token is an end; nor is any token of a program.
-use Rattle.std.proofs.Common.{◌≡◌, ℕ, ◌+◌, ◌==◌, ◌&&◌, ◌||◌, Bool, true, false, not, nat_lt, nat_le, if◌then◌else◌, cond, List, [], ◌∷◌, ◌++◌, length, map, take, drop, Option, Some, None, Ok, Err, refl, sym, ap, ◌∙◌, subst}
+use Rattle.std.proofs.Common.{◌≡◌, ℕ, ◌+◌, ◌==◌, ◌&&◌, ◌||◌, Bool, true, false, not, nat_lt, nat_le, if◌then◌else◌, cond, List, [], ◌∷◌, ◌++◌, length, take, drop, Option, Some, None, Ok, Err, refl, sym, ap, ◌∙◌, subst}
 use Rattle.std.proofs.lemmas.List.{map_push}
 use Rattle.std.specs.List.{prefix_len}
 use Rattle.std.specs.Char.{is_ascii_alphabetic, is_ascii_alphanumeric}
@@ -15,7 +15,7 @@ use Rattle.gms_tokens.specs.declared.lexeme.Lexeme.{Lexeme}
 use Rattle.gms_tokens.specs.Bytes.{is_quote, is_plain, is_name_byte, is_label_byte, is_text_byte}
 use Rattle.gms_tokens.specs.Numbers.{begins_number}
 use Rattle.gms_tokens.specs.Symbols.{symbol_at}
-use Rattle.gms_tokens.specs.Shapes.{Read, longest_label, bounded, symbol_of, symbol, quoted_length, is_closed, is_label, quoted_of, quoted, code_token, label_token, remark}
+use Rattle.gms_tokens.specs.Shapes.{Read, longest_label, symbol_of, symbol, quoted_length, is_closed, is_label, quoted, code_token, label_token, remark}
 use Rattle.gms_tokens.specs.TableLines.{table_bytes}
 use Rattle.gms_lex.specs.declared.keyword.Shape.{Shape}
 use Rattle.gms_lex.specs.declared.keyword.Shape.TheVariants.{Set, Parameter, Scalar, Model}
@@ -40,7 +40,7 @@ use Rattle.gms_grammar.specs.Terminals.{is, is_among}
 use Rattle.gms_grammar.specs.GamsGrammar.{Nonterminal, Expression, Program, productions}
 use Rattle.gms_parse_x.specs.Words.{terminal_of, terminal_of_word, terminal_of_symbol}
 use Rattle.gms_parse_x.specs.Outcomes.{seen}
-use Rattle.gms_parse_x.proofs.TokenKinds.{implies, also}
+use Rattle.gms_parse_x.proofs.TokenKinds.{also}
 use Rattle.gms_parse.specs.Walks.{Seen}
 use Rattle.gms_parse.specs.Readings.{Derivation, kind_of}
 use Rattle.gms_parse.proofs.Alphabet.{AllPass, pass_front, pass_rest, only, all_pass}

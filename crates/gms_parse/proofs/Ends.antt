@@ -1,20 +1,19 @@
 -- The end of the source is a token: behind any other there is a further one.
-use Rattle.std.proofs.Common.{◌≡◌, ℕ, ◌+◌, ◌-◌, ◌<◌, ◌≤◌, Bool, true, false, List, [], ◌∷◌, ◌++◌, length, map, take, drop, refl, sym, ap, ◌∙◌, subst, arith}
+use Rattle.std.proofs.Common.{◌≡◌, ℕ, ◌-◌, ◌<◌, Bool, true, false, List, [], ◌∷◌, ◌++◌, length, map, take, drop, refl, sym, ap, ◌∙◌, arith}
 use Rattle.std.proofs.lemmas.List.{length-drop, length-map, take-append-drop}
 use Rattle.gms_lex.specs.declared.token.Token.{Token}
 use Rattle.gms_lex.specs.TokenTexts.{token_text}
-use Rattle.gms_lex.specs.Tokens.{IsTokens, tokens_of, end_token}
+use Rattle.gms_lex.specs.Tokens.{tokens_of, end_token}
 use Rattle.gms_grammar.specs.declared.terminal.Terminal.{Terminal}
 use Rattle.gms_grammar.specs.declared.terminal.Terminal.TheVariants.{End}
 use Rattle.gms_grammar.specs.Reading.{leads}
 use Rattle.gms_grammar.specs.GamsGrammar.{productions}
 use Rattle.gms_grammar.specs.GamsLookAhead.{look_ahead}
-use Rattle.gms_grammar.specs.Terminals.{is, is_among}
+use Rattle.gms_grammar.specs.Terminals.{is}
 use Rattle.gms_parse_x.specs.Words.{terminal_of}
-use Rattle.gms_parse_x.proofs.TokenKinds.{implies, also}
 use Rattle.gms_parse.specs.declared.reader.Reader.{Reader}
 use Rattle.gms_parse.specs.Walks.{Seen}
-use Rattle.gms_parse.specs.Readings.{GamsPart, IsReady, IsNext, seen_from, kind_of}
+use Rattle.gms_parse.specs.Readings.{GamsPart, IsReady, IsNext, seen_from}
 use Rattle.gms_parse.proofs.TokenKinds.{same_kind}
 
 -- a token as the grammar sees it

@@ -1,15 +1,12 @@
 -- Names that are entered, numbers, and signs.
-use Rattle.std.proofs.Common.{◌≡◌, ℕ, ◌+◌, ◌<◌, ◌≤◌, Bool, true, false, cond, not, ◌&&◌, ◌||◌, List, [], ◌∷◌, length, Some, refl, sym, ap, ap₂, ◌∙◌, subst, arith, inl, inr, ◌⊎◌, Err}
-use Rattle.std.specs.Str.{IsAscii}
+use Rattle.std.proofs.Common.{◌≡◌, ℕ, ◌≤◌, Bool, true, false, cond, not, ◌&&◌, ◌||◌, List, [], ◌∷◌, refl, sym, ap, ap₂, ◌∙◌, subst, arith, inl, inr, Err}
 use Rattle.gq_number.specs.Number.{Number as Rational, neg_ℚ}
-use Rattle.gq_extended.specs.declared.extended.Ext.{Ext}
 use Rattle.gq_text.specs.Decimal.{MeansNumber}
 use Rattle.gq_text.specs.declared.fault.NumberFault.{NumberFault}
 use Rattle.gq_text.specs.declared.fault.NumberFault.TheVariants.{Shape, Limit}
 use Rattle.gq_text.specs.Literal.{FitsLiteral, Reads}
 use Rattle.gq_text.proofs.Splits.{one_number}
 use Rattle.gms_labels.specs.Labels.{place_of, entered, IsFullFor}
-use Rattle.gms_labels.specs.declared.place.Place.{Place}
 use Rattle.gms_lex.specs.declared.token.Token.{Token}
 use Rattle.gms_lex.specs.TokenTexts.{token_text}
 use Rattle.gms_grammar.specs.declared.terminal.Terminal.{Terminal}
@@ -20,13 +17,10 @@ use Rattle.gms_grammar.specs.Reading.{leads}
 use Rattle.gms_grammar.specs.Terminals.{is, is_among}
 use Rattle.gms_grammar.specs.GamsGrammar.{name, token, productions}
 use Rattle.gms_grammar.specs.GamsLookAhead.{look_ahead}
-use Rattle.gms_grammar.proofs.Checks.{left_and}
 use Rattle.gms_parse_x.specs.ExpressionTrees.{or_0, is_minus}
-use Rattle.gms_parse_x.proofs.TokenKinds.{implies, also}
-use Rattle.gms_ast.specs.declared.word.Named.{Named}
 use Rattle.gms_parse.specs.declared.fault.SourceFault.{SourceFault}
 use Rattle.gms_parse.specs.declared.fault.SourceFaultOrMemory.{SourceFaultOrMemory}
-use Rattle.gms_parse.specs.declared.fault.SourceError.TheVariants.{TooManyLabels, Depth, NotInProfile, Expected, Number as OutOfRange}
+use Rattle.gms_parse.specs.declared.fault.SourceError.TheVariants.{Depth, NotInProfile, Expected}
 use Rattle.gms_parse.specs.declared.fault.SourceFaultOrMemory.TheVariants.{Fault}
 use Rattle.gms_parse.specs.declared.reader.Reader.{Reader}
 use Rattle.gms_parse.specs.declared.reader.Tables.{Tables}
@@ -34,7 +28,7 @@ use Rattle.gms_grammar.proofs.Basics.{not_true}
 use Rattle.gms_parse.specs.Outcomes.{unexpected_error}
 use Rattle.gms_parse.specs.DataLists.{opposed}
 use Rattle.gms_parse.specs.Walks.{Seen, Walk, walk_after, new_labels, is_name, last_kind, IsFaulty, deep, out_of_range, many_names, many_labels, in_table, without_lines}
-use Rattle.gms_parse.specs.Readings.{Gives, Refuses, Sense, IsSense, IsGot, Has, Holds, Starts, Stays, IsNext, IsEntered, IsNotEntered, IsTooLarge, IsLacking, IsUnopened, seen_from, kind_of}
+use Rattle.gms_parse.specs.Readings.{Gives, Refuses, IsGot, Has, Starts, Stays, IsNext, IsEntered, IsNotEntered, IsTooLarge, IsLacking, IsUnopened, seen_from, kind_of}
 use Rattle.gms_parse.specs.Meanings.{IsNamed, IsSign}
 use Rattle.gms_parse.proofs.TokenKinds.{begins, same_kind}
 use Rattle.gms_parse.proofs.Walks.{keyword_after, room_for_none}
@@ -105,8 +99,8 @@ name_got {limit} {reader} {at} {behind} {t} {old} {w} n s number texts is names 
 pub name_refused : {limit : ℕ} {reader : Reader} {at behind : ℕ} {t : Token} {old : Tables} {w : Walk} (n : IsNext is_named reader at t behind) → Starts reader old w → {e : SourceFaultOrMemory} (texts : List ℕ) → texts ≡ token_text reader.source.now t → IsNotEntered old.names texts t.at e →
     Refuses limit reader.source.now name w (seen_from reader at) e
 name_refused {reader = reader} {t = t} {old = old} n s texts is r = elim r.why [
-  inl m ↦ refuses_memory m |
-  inr f ↦ refuses_token (takes_next n.is n.passes) (many_names (named_there n s) (subst (λ (ns : List (List ℕ)). IsFullFor ns (token_text reader.source.now t)) (sym s.has.holds.names) (subst (λ (x : List ℕ). IsFullFor old.names x) is f.1))) f.0
+  | inl m ↦ refuses_memory m
+  | inr f ↦ refuses_token (takes_next n.is n.passes) (many_names (named_there n s) (subst (λ (ns : List (List ℕ)). IsFullFor ns (token_text reader.source.now t)) (sym s.has.holds.names) (subst (λ (x : List ℕ). IsFullFor old.names x) is f.1))) f.0
 ]
 
 -- ---- signs

@@ -1,16 +1,14 @@
 -- Expressions and parts of them, as the crate that reads them says what it read.
-use Rattle.std.proofs.Common.{◌≡◌, ℕ, ◌+◌, ◌-◌, ◌<◌, ◌≤◌, Bool, true, false, not, ◌||◌, cond, List, [], ◌∷◌, ◌++◌, length, map, drop, refl, sym, ap, ap₂, ◌∙◌, subst, inl, inr, ◌⊎◌, arith}
+use Rattle.std.proofs.Common.{◌≡◌, ℕ, ◌+◌, ◌-◌, ◌<◌, ◌≤◌, Bool, true, false, not, ◌||◌, cond, List, [], ◌∷◌, ◌++◌, length, drop, refl, sym, ap, ap₂, ◌∙◌, subst, inl, inr, arith}
 use Rattle.gq_number.specs.Number.{Number}
 use Rattle.gms_lex.specs.declared.token.Token.{Token}
 use Rattle.gms_grammar.specs.declared.terminal.Terminal.{Terminal}
 use Rattle.gms_grammar.specs.declared.terminal.Terminal.TheVariants.{NotInProfile}
-use Rattle.gms_grammar.specs.Grammar.{the, yield, IsTree, Stops}
+use Rattle.gms_grammar.specs.Grammar.{the, yield, IsTree}
 use Rattle.gms_grammar.specs.Terminals.{is}
 use Rattle.gms_grammar.specs.GamsGrammar.{Nonterminal, Expression, productions}
 use Rattle.std.proofs.lemmas.List.{length-drop, length-map, length-append}
-use Rattle.gms_parse_x.specs.declared.fault.SyntaxError.{SyntaxError}
 use Rattle.gms_parse_x.specs.declared.fault.SyntaxError.TheVariants as syntax_error
-use Rattle.gms_parse_x.specs.declared.fault.SyntaxFault.{SyntaxFault}
 use Rattle.gms_parse_x.specs.declared.fault.SyntaxFaultOrMemory.{SyntaxFaultOrMemory}
 use Rattle.gms_parse_x.specs.declared.fault.SyntaxFaultOrMemory.TheVariants as syntax
 use Rattle.gms_parse_x.specs.Outcomes as inner
@@ -26,7 +24,7 @@ use Rattle.gms_parse.specs.declared.reader.Tables.{Tables}
 use Rattle.gms_parse.specs.Faults.{error_of_syntax, fault_of_syntax}
 use Rattle.gms_parse.specs.Outcomes.{unexpected_error}
 use Rattle.gms_parse.specs.Walks.{Seen, Walk, walk_after, walk_behind, kind_ahead, IsFaulty}
-use Rattle.gms_parse.specs.Readings.{Derivation, Sense, IsSense, Starts, Stays, StaysOpen, Tableless, IsGot, IsStuck, IsWrong, Refuses, unexpected, seen_from, kind_of}
+use Rattle.gms_parse.specs.Readings.{Derivation, Sense, Starts, StaysOpen, Tableless, IsGot, IsStuck, IsWrong, Refuses, seen_from, kind_of}
 use Rattle.gms_parse.proofs.Steps.{refuses_memory}
 use Rattle.gms_parse.proofs.Alphabet.{AllPass, pass_front, pass_rest, only, all_pass}
 use Rattle.gms_parse.proofs.Depths.{TextsAbove, depth_after, above_front, above_rest, is_deep, is_shallow, deep_closes}
@@ -111,7 +109,7 @@ module _ {reader : Reader} {old : Tables} {w : Walk} (n : Nonterminal) (formula 
       ahead_of reader at next front within e =
           let seen_token : Token → Seen = (λ t. (terminal_of t.kind (token_text reader.source.now t), t)) in
           let l : length reader.tokens.now - at ≡ length front + (length reader.tokens.now - next) =
-              sym (length-drop at reader.tokens.now) ∙ sym (length-map (drop at reader.tokens.now) seen_token) ∙ ap length e ∙ length-append front (seen_from reader next) ∙ ap (λ m. length front + m) (length-map (drop next reader.tokens.now) seen_token ∙ length-drop next reader.tokens.now) in
+          sym (length-drop at reader.tokens.now) ∙ sym (length-map (drop at reader.tokens.now) seen_token) ∙ ap length e ∙ length-append front (seen_from reader next) ∙ ap (λ m. length front + m) (length-map (drop next reader.tokens.now) seen_token ∙ length-drop next reader.tokens.now) in
           omega (arith, l, within)
 
   -- a part that was refused

@@ -1,13 +1,12 @@
 -- Assignments and definitions begin alike: what a reader finds of a target it finds of the statement that begins with its name.
-use Rattle.std.proofs.Common.{◌≡◌, ◌⊎◌, inl, inr, ℕ, Bool, true, false, not, ◌&&◌, cond, List, [], ◌∷◌, ◌++◌, codes, refl, sym, ap, ◌∙◌, subst, append_assoc}
+use Rattle.std.proofs.Common.{◌≡◌, ◌⊎◌, inl, inr, ℕ, Bool, true, false, not, cond, List, [], ◌∷◌, ◌++◌, codes, refl, sym, ap, ◌∙◌, subst, append_assoc}
 use Rattle.gq_number.specs.Number.{Number}
 use Rattle.gms_ast.specs.declared.expression.Suffix.{Suffix}
 use Rattle.gms_ast.specs.declared.expression.Suffix.TheVariants as suffix
 use Rattle.gms_ast.specs.Trees.{Indices, no_index}
 use Rattle.gms_ast.specs.StatementTrees.{Target as TargetTree}
-use Rattle.gms_grammar.specs.declared.terminal.Terminal.{Terminal}
 use Rattle.gms_grammar.specs.declared.terminal.Terminal.TheVariants.{Name, Suffix as SuffixWord, Text, Comma, LeftParen, RightParen, Equals, DotDot}
-use Rattle.gms_grammar.specs.Grammar.{one, the, ◌·◌, ◌∣◌, opt, many, leaf, pair, left, right, none, some, more, node, yield}
+use Rattle.gms_grammar.specs.Grammar.{the, ◌·◌, ◌∣◌, opt, many, leaf, pair, left, right, none, some, more, node, yield}
 use Rattle.gms_grammar.specs.Reading.{read, stuck, leads, Reads, Takes, taken, refused, entered, entered_stuck, both, first_stuck, second_stuck, in_left, in_left_stuck, in_right, in_right_stuck, in_neither, left_out, there, there_stuck, no_more, again, again_stuck, later_stuck, takes_one, takes_the, takes_first, takes_second, takes_left, takes_right, takes_opt, takes_many, takes_later}
 use Rattle.gms_grammar.specs.Terminals.{is, is_among}
 use Rattle.gms_grammar.specs.GamsGrammar.{Nonterminal, Expression, Condition, Target, Attribute, IndexList, Index, Lag, NamedStatement, AfterName, HeadIndices, AfterHeadName, AfterHeadIndex, AfterLag, AfterHead, AfterTarget, Sides, productions, token, name, bracketed}
@@ -250,12 +249,12 @@ last_plain first p h = record {
 
 list_goes : {ts between rest : List Seen} {first others : Derivation} → Reads productions look_ahead (the Index) ts (read first between) → Reads productions look_ahead (many (token Comma · the Index)) between (read others rest) → PlainList first others ts rest ⊎ LaggedList first others ts rest
 list_goes {first = first} r (no_more h) = elim (index_goes r) [
-  inl p ↦ inl (last_plain first p h) |
-  inr l ↦ inr (lag_goes first none l (no_more h))
+  | inl p ↦ inl (last_plain first p h)
+  | inr l ↦ inr (lag_goes first none l (no_more h))
 ]
 list_goes {first = first} r (again {b = others} h (both {b = second} (taken k) s) m) = elim (index_goes r) [
-  inl p ↦ elim (list_goes s m) [ inl l ↦ inl (before_plain first second others p h (taken k) l) | inr l ↦ inr (before_lagged first second others p h (taken k) l) ] |
-  inr l ↦ inr (lag_goes first _ l (again h (both (taken k) s) m))
+  | inl p ↦ elim (list_goes s m) [ inl l ↦ inl (before_plain first second others p h (taken k) l) | inr l ↦ inr (before_lagged first second others p h (taken k) l) ]
+  | inr l ↦ inr (lag_goes first _ l (again h (both (taken k) s) m))
 ]
 
 -- ---- where indices are not read to their end
@@ -303,14 +302,14 @@ list_taken (takes_the (takes_second r t)) = others_taken r t
 -- no parenthesis closes them
 unclosed : {ts rest : List Seen} {list : Derivation} → Reads productions look_ahead (the IndexList) ts (read list rest) → leads productions look_ahead (token RightParen) rest ≡ false → Reads productions look_ahead (the HeadIndices) ts (stuck (yield list ++ []) rest)
 unclosed {rest = rest} (entered (both r m)) h = elim (list_goes r m) [
-  inl p ↦ p.leading.sticks [] rest (entered_stuck (in_neither (comma_unled rest p.over) (unled_next (is RightParen) (the AfterHead) rest h))) |
-  inr l ↦ l.leading.sticks [] rest (first_stuck (refused h))
+  | inl p ↦ p.leading.sticks [] rest (entered_stuck (in_neither (comma_unled rest p.over) (unled_next (is RightParen) (the AfterHead) rest h)))
+  | inr l ↦ l.leading.sticks [] rest (first_stuck (refused h))
 ]
 
 closed_taken : {ts rest u behind : List Seen} {list : Derivation} → Reads productions look_ahead (the IndexList) ts (read list rest) → Takes productions look_ahead (token RightParen) rest u behind → Takes productions look_ahead (the HeadIndices) ts (yield list ++ u) behind
 closed_taken {u = u} {behind = behind} (entered (both r m)) t = elim (list_goes r m) [
-  inl p ↦ p.leading.takes u behind (takes_the (takes_right (takes_first t))) |
-  inr l ↦ l.leading.takes u behind (takes_first t)
+  | inl p ↦ p.leading.takes u behind (takes_the (takes_right (takes_first t)))
+  | inr l ↦ l.leading.takes u behind (takes_first t)
 ]
 
 -- ---- what is assigned or defined
@@ -433,6 +432,6 @@ target_goes (entered (both {between = us} {a = word} r (both (left_out h) (left_
   plain = λ source s. refl;
 })
 target_goes (entered (both {a = word} r (both (left_out h) (there k (both (taken o) (both (entered (both {a = first} {b = others} i m)) (taken c))))))) = elim (list_goes i m) [
-  inl l ↦ inl (headed word first others r h k (taken o) c l) |
-  inr l ↦ inr (aimed word first others r h k (taken o) c l)
+  | inl l ↦ inl (headed word first others r h k (taken o) c l)
+  | inr l ↦ inr (aimed word first others r h k (taken o) c l)
 ]

@@ -1,12 +1,11 @@
 -- The items of a declaration, which the grammar nests, read in a loop: a reading of the rest is one of the whole.
-use Rattle.std.proofs.Common.{◌≡◌, ℕ, ◌+◌, ◌<◌, ◌≤◌, Bool, true, false, ◌||◌, List, [], ◌∷◌, ◌++◌, length, ◌-◌, map, refl, sym, ap, ap₂, ◌∙◌, subst, inl, inr, ◌⊎◌, arith, append_assoc}
+use Rattle.std.proofs.Common.{◌≡◌, ℕ, ◌<◌, ◌≤◌, true, false, List, [], ◌∷◌, ◌++◌, length, ◌-◌, map, refl, sym, ap, ap₂, ◌∙◌, subst, inl, inr, ◌⊎◌, arith, append_assoc}
 use Rattle.std.specs.Bool.{⊤}
 use Rattle.std.proofs.lemmas.List.{append-nil}
-use Rattle.gms_grammar.specs.declared.terminal.Terminal.{Terminal}
-use Rattle.gms_grammar.specs.declared.terminal.Terminal.TheVariants.{Comma, Break, Name, Suffix}
-use Rattle.gms_grammar.specs.Grammar.{the, one, ◌·◌, ◌∣◌, opt, leaf, pair, left, right, none, some, node}
+use Rattle.gms_grammar.specs.declared.terminal.Terminal.TheVariants.{Comma, Break}
+use Rattle.gms_grammar.specs.Grammar.{the, ◌·◌, ◌∣◌, opt, leaf, pair, left, right, none, some, node}
 use Rattle.gms_grammar.specs.Reading.{leads}
-use Rattle.gms_grammar.specs.Terminals.{is, is_among}
+use Rattle.gms_grammar.specs.Terminals.{is}
 use Rattle.gms_grammar.specs.GamsGrammar.{Nonterminal, productions, token, name, items}
 use Rattle.gms_grammar.specs.GamsLookAhead.{look_ahead}
 use Rattle.gms_grammar.proofs.Basics.{or_left, or_right, or_both}
@@ -16,8 +15,8 @@ use Rattle.gms_parse.specs.declared.reader.Reader.{Reader}
 use Rattle.gms_parse.specs.declared.reader.Tables.{Tables}
 use Rattle.gms_parse.specs.Declarations.{items_in, further_items}
 use Rattle.gms_parse.specs.Walks.{Seen, Walk}
-use Rattle.gms_parse.specs.Readings.{Derivation, GamsPart, Gives, Refuses, Sense, IsSense, Has, Starts, Stays, Undotted, IsNext, IsPassed, IsGot, IsFurther, IsNotFurther, IsBehindLast, seen_from}
-use Rattle.gms_parse.proofs.TokenKinds.{unled_next, led_first}
+use Rattle.gms_parse.specs.Readings.{Derivation, GamsPart, Gives, Refuses, Sense, IsSense, Starts, Stays, Undotted, IsNext, IsPassed, IsGot, IsFurther, IsNotFurther, IsBehindLast, seen_from}
+use Rattle.gms_parse.proofs.TokenKinds.{unled_next}
 use Rattle.gms_parse.proofs.Steps.{Within, within_the, within_second, within_then, within_some, within_left, within_right, gives_none, refuses_first}
 use Rattle.gms_parse.proofs.Nexts.{past, exact, led_next, leads_next, gives_exact, earlier, kind_stays, stays_then, optionless_on, falls}
 

@@ -1,5 +1,5 @@
 -- Elements with their positions, and lists of them.
-use Rattle.std.proofs.Common.{◌≡◌, ℕ, ◌+◌, ◌<◌, ◌≤◌, Bool, true, false, ◌||◌, cond, List, [], ◌∷◌, ◌++◌, map, Some, None, option_map, Vec, refl, sym, ap, ap₂, ◌∙◌, subst, arith}
+use Rattle.std.proofs.Common.{◌≡◌, ℕ, Bool, true, false, ◌||◌, List, [], ◌∷◌, ◌++◌, map, Some, None, Vec, refl, sym, ap, ap₂, ◌∙◌, subst, arith}
 use Rattle.std.specs.declared.alloc.Global.{Global}
 use Rattle.gq_number.specs.Number.{Number as Rational, neg_ℚ}
 use Rattle.gq_extended.specs.declared.extended.Ext.{Ext}
@@ -8,10 +8,10 @@ use Rattle.gms_ast.specs.StatementView.{extended_in, item_in}
 use Rattle.gms_lex.specs.declared.token.Token.{Token}
 use Rattle.gms_grammar.specs.declared.terminal.Terminal.{Terminal}
 use Rattle.gms_grammar.specs.declared.terminal.Terminal.TheVariants.{Dot, Comma, Break, Slash, Equals}
-use Rattle.gms_grammar.specs.Grammar.{the, one, ◌·◌, ◌∣◌, opt, leaf, pair, none, some, node}
+use Rattle.gms_grammar.specs.Grammar.{the, ◌·◌, opt, leaf, pair, none, some, node}
 use Rattle.gms_grammar.specs.Reading.{leads}
 use Rattle.gms_grammar.specs.Terminals.{is, is_among}
-use Rattle.gms_grammar.specs.GamsGrammar.{Nonterminal, Element, ElementPart, Entry, Value, SetList, productions, token, any_of}
+use Rattle.gms_grammar.specs.GamsGrammar.{Element, ElementPart, Entry, Value, productions, token}
 use Rattle.gms_grammar.specs.GamsLookAhead.{look_ahead}
 use Rattle.gms_labels.specs.declared.place.Place.{Place}
 use Rattle.gms_parse_x.specs.Outcomes.{next_place}
@@ -25,11 +25,11 @@ use Rattle.gms_parse.specs.declared.reader.Reader.{Reader}
 use Rattle.gms_parse.specs.declared.reader.Tables.{Tables}
 use Rattle.gms_parse.specs.DataLists.{listed_in, any_true, labels_in_part, has_bad_range}
 use Rattle.gms_parse.specs.Walks.{Seen, Walk}
-use Rattle.gms_parse.specs.Readings.{Derivation, GamsPart, Gives, Refuses, Sense, IsSense, IsGot, Has, Stays, IsNext, IsLacking, seen_from}
+use Rattle.gms_parse.specs.Readings.{Derivation, GamsPart, Gives, Refuses, IsGot, Has, Stays, IsNext, IsLacking, seen_from}
 use Rattle.gms_parse.specs.Meanings.{IsPart, IsElement, IsGiven, IsListed, AreListed, listed_part, list_part, listed_meaning, list_meaning}
 use Rattle.gms_parse.proofs.TokenKinds.{unled_next}
 use Rattle.gms_parse.proofs.Steps.{gives_both, gives_the, gives_none, gives_some, refuses_the, refuses_first, refuses_second, refuses_some}
-use Rattle.gms_parse.proofs.Nexts.{past, leads_next, gives_exact, refuses_lacking, plain_stays, stays_then, stays_same, earlier}
+use Rattle.gms_parse.proofs.Nexts.{past, leads_next, gives_exact, refuses_lacking, plain_stays, stays_then, stays_same}
 use Rattle.gms_parse.proofs.Places.{place_read}
 use Rattle.gms_parse.proofs.Listing.{AreAll, all_meant, list_of, Listing, listing_start, listing_on, listing_got, separated_walk}
 
@@ -85,10 +85,11 @@ module _ {limit : ℕ} {reader : Reader} {start : ℕ} {w : Walk} where
         behind = got.behind;
         gives = gives;
         leaves = got.leaves;
-        means = λ sense s.
-            (placed ∙ sym (place_read (the Element) refl gives),
-            parts_are ∙ l.parts_are ∙ all_meant (IsPart reader.source.now) (λ (p : Position). p.labels.items) (labels_in_part reader.source.now sense.labels sense.value neg_ℚ) sense (λ tree x h. h.0) got.tree l.ghost (got.means sense s),
-            bad_is ∙ l.bad_is ∙ ap any_true (all_meant (IsPart reader.source.now) (λ (p : Position). p.bad_range) (has_bad_range reader.source.now sense.labels sense.value neg_ℚ) sense (λ tree x h. h.1) got.tree l.ghost (got.means sense s)));
+        means = λ sense s. (
+          placed ∙ sym (place_read (the Element) refl gives),
+          parts_are ∙ l.parts_are ∙ all_meant (IsPart reader.source.now) (λ (p : Position). p.labels.items) (labels_in_part reader.source.now sense.labels sense.value neg_ℚ) sense (λ tree x h. h.0) got.tree l.ghost (got.means sense s),
+          bad_is ∙ l.bad_is ∙ ap any_true (all_meant (IsPart reader.source.now) (λ (p : Position). p.bad_range) (has_bad_range reader.source.now sense.labels sense.value neg_ℚ) sense (λ tree x h. h.1) got.tree l.ghost (got.means sense s)),
+        );
         further = got.further;
       }
 

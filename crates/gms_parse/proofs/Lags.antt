@@ -1,5 +1,5 @@
 -- Indices with a lag, and targets that may be defined.
-use Rattle.std.proofs.Common.{◌≡◌, ℕ, ◌+◌, ◌<◌, ◌≤◌, Bool, true, false, not, ◌&&◌, ◌||◌, List, [], ◌∷◌, ◌++◌, map, length, take, drop, get_or, refl, sym, ap, ◌∙◌, subst}
+use Rattle.std.proofs.Common.{◌≡◌, ℕ, ◌+◌, ◌<◌, ◌≤◌, Bool, true, false, not, ◌||◌, List, [], ◌∷◌, ◌++◌, map, length, take, drop, get_or, refl, sym, ap, ◌∙◌, subst}
 use Rattle.std.proofs.lemmas.List.{take_more, drop_more, take_all, take-append-drop}
 use denote.Enum.Bare.{sameb}
 use Rattle.gq_number.specs.Number.{Number}
@@ -11,7 +11,7 @@ use Rattle.gms_ast.specs.declared.program.Target.{Target as TargetNode}
 use Rattle.gms_ast.specs.Trees.{Indices}
 use Rattle.gms_ast.specs.TreeView.{index_tree, indices_of}
 use Rattle.gms_ast.specs.StatementView.{shown_target}
-use Rattle.gms_grammar.proofs.Basics.{and_first, and_second, and_both}
+use Rattle.gms_grammar.proofs.Basics.{and_second, and_both}
 use Rattle.gms_parse.specs.Meanings.{has_lag, is_unsuffixed, is_plain_target}
 use Rattle.gms_parse.proofs.Assigning.{lag_in_numbers}
 

@@ -1,26 +1,26 @@
 -- Lists with separators between their parts, read in a loop.
-use Rattle.std.proofs.Common.{◌≡◌, ℕ, ◌+◌, ◌<◌, ◌≤◌, Bool, true, false, not, List, [], ◌∷◌, ◌++◌, map, refl, sym, ap, ap₂, ◌∙◌, subst, arith, append_assoc}
+use Rattle.std.proofs.Common.{◌≡◌, ℕ, ◌≤◌, Bool, true, false, not, List, [], ◌∷◌, ◌++◌, map, refl, sym, ap, ap₂, ◌∙◌, subst, arith, append_assoc}
 use Rattle.std.specs.Bool.{⊤}
 use Rattle.std.proofs.lemmas.List.{append-nil}
 use Rattle.gms_grammar.specs.declared.terminal.Terminal.{Terminal}
 use Rattle.std.proofs.lemmas.Bool.{not-true}
 use Rattle.gms_grammar.specs.declared.terminal.Terminal.TheVariants.{Dot, Using, Star}
 use Rattle.gms_grammar.specs.Terminals.{is, is_among}
-use Rattle.gms_grammar.specs.Grammar.{one, the, ◌·◌, many, leaf, pair, none, more, node}
+use Rattle.gms_grammar.specs.Grammar.{one, ◌·◌, many, leaf, pair, none, more}
 use Rattle.gms_grammar.specs.Reading.{leads}
 use Rattle.gms_grammar.specs.GamsGrammar.{productions}
 use Rattle.gms_grammar.specs.GamsLookAhead.{look_ahead}
 use Rattle.gms_lex.specs.declared.token.Token.{Token}
 use Rattle.gms_parse_x.proofs.TokenKinds.{implies, also}
-use Rattle.gms_parse_x.specs.ExpressionTrees.{first_in, second_in}
+use Rattle.gms_parse_x.specs.ExpressionTrees.{second_in}
 use Rattle.gms_parse.specs.declared.fault.SourceFaultOrMemory.{SourceFaultOrMemory}
 use Rattle.gms_parse.specs.declared.reader.Reader.{Reader}
 use Rattle.gms_parse.specs.declared.reader.Tables.{Tables}
-use Rattle.gms_parse.specs.Walks.{Seen, Walk, last_kind}
+use Rattle.gms_parse.specs.Walks.{Walk, last_kind}
 use Rattle.gms_parse.specs.DataLists.{listed_in, each_in}
-use Rattle.gms_parse.specs.Readings.{Derivation, GamsPart, Gives, Refuses, Sense, IsSense, Has, Starts, Stays, IsNext, IsGot, seen_from}
-use Rattle.gms_parse.proofs.TokenKinds.{is_quiet, is_plain, unled_next}
-use Rattle.gms_parse.proofs.Steps.{Within, within_the, within_second, within_then, within_again, gives_both, gives_no_more, refuses_again, refuses_second}
+use Rattle.gms_parse.specs.Readings.{Derivation, GamsPart, Refuses, Sense, IsSense, Starts, Stays, IsNext, IsGot, seen_from}
+use Rattle.gms_parse.proofs.TokenKinds.{is_plain, unled_next}
+use Rattle.gms_parse.proofs.Steps.{Within, within_second, within_then, within_again, gives_both, gives_no_more, refuses_again, refuses_second}
 use Rattle.gms_parse.proofs.Nexts.{past, gives_plain, leads_next, earlier, plain_stays, stays_then, optionless_on}
 
 -- the parts of a list behind its first one, each with a separator before it

@@ -1,8 +1,8 @@
 -- The members of a range are no longer than its labels.
-use Rattle.std.proofs.Common.{◌≡◌, ℕ, ◌+◌, ◌-◌, ◌<◌, ◌≤◌, ◌^◌, Bool, true, false, ◌&&◌, cond, nat_le, nat_lt, List, [], ◌∷◌, ◌++◌, length, map, take, drop, reverse, get_or, replicate, decimal, refl, sym, ap, ◌∙◌, subst, arith, length-append}
+use Rattle.std.proofs.Common.{◌≡◌, ℕ, ◌+◌, ◌-◌, ◌<◌, ◌≤◌, ◌^◌, Bool, true, false, cond, nat_le, List, [], ◌++◌, length, reverse, get_or, replicate, decimal, refl, sym, ap, ◌∙◌, subst, arith, length-append}
 use Rattle.std.specs.Char.{is_ascii_digit, to_ascii_lowercase}
 use Rattle.std.specs.Int.{IsInRange}
-use Rattle.std.specs.List.{suffix_len, range_with_len}
+use Rattle.std.specs.List.{suffix_len}
 use Rattle.std.specs.Str.{str_eq_ignore_ascii_case, str_to_ascii_lowercase}
 use Rattle.std.proofs.lemmas.Bool.Decides.{nat_tests}
 use Rattle.std.proofs.lemmas.Fmt.{length-decimal-le}
@@ -12,7 +12,7 @@ use Rattle.std.proofs.lemmas.List.Sums.{prefix_len_passes, suffix_len-le-length}
 use Rattle.std.proofs.lemmas.Slice.Eq.{bytes_eq-Decides}
 use Rattle.std.proofs.lemmas.Str.Parse.{numerals_by_value, tells_by_index, digits_value_short}
 use Rattle.gms_grammar.proofs.Checks.{left_and, right_and}
-use Rattle.gms_set.specs.Ranges.{text_length, text_of, digits_of, number_of, is_padded, is_numbered, go_together, is_short, is_range, width_of, written, members}
+use Rattle.gms_set.specs.Ranges.{text_length, text_of, digits_of, number_of, is_padded, is_numbered, go_together, is_range, width_of, written, members}
 
 lower_length : (a : List ℕ) → length (str_to_ascii_lowercase a) ≡ length a
 lower_length a = length-map a to_ascii_lowercase

@@ -1,5 +1,5 @@
 -- Models with their equations, and the items of declarations, which the grammar nests.
-use Rattle.std.proofs.Common.{◌≡◌, ℕ, ◌+◌, ◌-◌, ◌<◌, ◌≤◌, Bool, true, false, not, ◌||◌, List, [], ◌∷◌, ◌++◌, map, length, Vec, refl, sym, ap, ap₂, ◌∙◌, subst, arith, append_assoc, inl, inr, ◌⊎◌}
+use Rattle.std.proofs.Common.{◌≡◌, ℕ, ◌-◌, ◌<◌, ◌≤◌, Bool, true, false, List, [], ◌∷◌, ◌++◌, map, length, Vec, refl, sym, ap, ap₂, ◌∙◌, subst, arith, append_assoc, inl, inr}
 use Rattle.std.specs.declared.alloc.Global.{Global}
 use Rattle.std.proofs.lemmas.List.{append-nil, map-id, map-append}
 use Rattle.gq_number.specs.Number.{Number as Rational}
@@ -8,16 +8,14 @@ use Rattle.gms_ast.specs.declared.word.Named.{Named}
 use Rattle.gms_ast.specs.declared.declaration.ModelDecl.{ModelDecl}
 use Rattle.gms_ast.specs.declared.program.Act.TheVariants as act
 use Rattle.gms_ast.specs.StatementTrees.{declares_models}
-use Rattle.gms_grammar.specs.declared.terminal.Terminal.{Terminal}
-use Rattle.gms_grammar.specs.declared.terminal.Terminal.TheVariants.{Model, Option, Table, Name, Suffix, All, Slash, Comma, Break}
-use Rattle.gms_grammar.specs.Grammar.{one, the, ◌·◌, ◌∣◌, opt, many, leaf, pair, left, right, none, some, node}
+use Rattle.gms_grammar.specs.declared.terminal.Terminal.TheVariants.{Model, Table, Name, Suffix, All, Slash, Comma, Break}
+use Rattle.gms_grammar.specs.Grammar.{the, ◌·◌, ◌∣◌, opt, many, leaf, pair, left, right, none, some, node}
 use Rattle.gms_grammar.specs.LookAhead.{may_begin}
 use Rattle.gms_grammar.specs.Reading.{leads}
 use Rattle.gms_grammar.specs.Terminals.{is, is_among}
 use Rattle.gms_grammar.specs.GamsGrammar.{Nonterminal, ModelStatement, ModelItems, ModelItem, ModelList, productions, token, any_of, name, separated}
 use Rattle.gms_grammar.specs.GamsLookAhead.{look_ahead}
 use Rattle.gms_grammar.proofs.Basics.{or_left, or_right, or_both}
-use Rattle.gms_parse_x.specs.ExpressionTrees.{inside as inside_of}
 use Rattle.gms_parse_x.proofs.TokenKinds.{same_test}
 use Rattle.gms_parse.specs.declared.fault.SourceFaultOrMemory.{SourceFaultOrMemory}
 use Rattle.gms_parse.specs.declared.reader.Reader.{Reader}
@@ -25,11 +23,11 @@ use Rattle.gms_parse.specs.declared.reader.Tables.{Tables}
 use Rattle.gms_parse.specs.DataLists.{listed_in}
 use Rattle.gms_parse.specs.Declarations.{items_in, named_in, model_in, model_act}
 use Rattle.gms_parse.specs.Walks.{Seen, Walk}
-use Rattle.gms_parse.specs.Readings.{Derivation, GamsPart, Gives, Refuses, Sense, IsSense, Holds, Has, Starts, Stays, Ends, Optionless, IsNext, IsLacking, IsPassed, IsFurther, IsNotFurther, IsBehindLast, IsGot, seen_from}
+use Rattle.gms_parse.specs.Readings.{Derivation, GamsPart, Gives, Refuses, Sense, IsSense, Has, Starts, Stays, Ends, Optionless, IsNext, IsLacking, IsFurther, IsNotFurther, IsBehindLast, IsGot, seen_from}
 use Rattle.gms_parse.specs.Meanings.{IsNamed, AreEquations, IsModelList, IsModel, IsAct}
-use Rattle.gms_parse.proofs.TokenKinds.{leads_alike, led_first, unled_next}
+use Rattle.gms_parse.proofs.TokenKinds.{leads_alike, unled_next}
 use Rattle.gms_parse.proofs.Steps.{Within, within_the, within_second, within_some, within_left, within_right, within_then, gives_both, gives_the, gives_left, gives_right, gives_none, gives_some, refuses_first, refuses_second, refuses_the, refuses_some}
-use Rattle.gms_parse.proofs.Nexts.{past, exact, led_next, leads_next, falls, refuses_lacking, gives_exact, plain_stays, plain_starts, stays_same, stays_then, earlier, optionless_on}
+use Rattle.gms_parse.proofs.Nexts.{past, exact, led_next, leads_next, falls, refuses_lacking, gives_exact, plain_stays, plain_starts, stays_same, stays_then, earlier}
 use Rattle.gms_parse.proofs.Listing.{AreAll, all_meant, list_of}
 use Rattle.gms_parse.proofs.Acts.{led_both, refuses_more, view-Model}
 

@@ -1,10 +1,10 @@
 -- Statements that begin with a name: assignments and definitions.
-use Rattle.std.proofs.Common.{◌≡◌, ◌⊎◌, inl, inr, ℕ, ◌+◌, ◌<◌, ◌≤◌, Bool, true, false, List, [], ◌∷◌, ◌++◌, map, drop, Option as Maybe, Result, option_map, refl, sym, ap, ap₂, ◌∙◌, subst, append_assoc, arith}
+use Rattle.std.proofs.Common.{◌≡◌, inl, inr, ℕ, Bool, true, false, List, [], ◌∷◌, ◌++◌, Option as Maybe, option_map, refl, sym, ap, ap₂, ◌∙◌, subst, append_assoc, arith}
 use Rattle.gq_number.specs.Number.{Number}
 use Rattle.gms_ast.specs.declared.expression.Expr.{Expr}
 use Rattle.gms_ast.specs.declared.program.Target.{Target as TargetNode}
 use Rattle.gms_ast.specs.declared.program.Act.{Act as ActNode}
-use Rattle.gms_ast.specs.StatementTrees.{Act, defines, Target as TargetTree}
+use Rattle.gms_ast.specs.StatementTrees.{defines, Target as TargetTree}
 use Rattle.gms_ast.specs.StatementView.{shown_tree, shown_target}
 use Rattle.gms_lex.specs.declared.token.Token.{Token}
 use Rattle.gms_grammar.specs.declared.terminal.Terminal.{Terminal}
@@ -30,7 +30,6 @@ use Rattle.gms_parse.proofs.TokenKinds.{unled_next, led_first}
 use Rattle.gms_parse.proofs.Walks.{ahead_append, walk_append, sound_append}
 use Rattle.gms_parse.proofs.Steps.{Within, gives_both, gives_the, gives_left, gives_right, refuses_the, refuses_first, refuses_second, refuses_right, by_cause, stuck_as, wrong_as, wrong_parts}
 use Rattle.gms_parse.proofs.Nexts.{past, exact, gives_exact, leads_next, plain_starts, kind_stays, stays_then, earlier, optionless_on, tableless_on}
-use Rattle.gms_parse.proofs.Conditions.{open_starts}
 use Rattle.gms_parse.proofs.Heads.{Leading, target_stuck, target_taken, Headed, Aimed, target_goes}
 
 ahead_is : {rest : List Seen} (u us : List Seen) → rest ≡ u ++ us → kind_of rest ≡ kind_ahead u (kind_of us)
@@ -111,8 +110,8 @@ module _ {F : Type 0} (value : F → Number) {limit : ℕ} {reader : Reader} {at
 
   pub condition_refused : {e : SourceFaultOrMemory} → Refuses limit reader.source.now (opt (the Condition)) t.behind (seen_from reader middle) e → Refuses limit reader.source.now (the NamedStatement) w (seen_from reader at) e
   condition_refused {e} r = elim (target_goes t.gives.reads) [
-    inl h ↦ (within_of t.gives h.leading).refuses e (refuses_the AfterHead (refuses_first r)) |
-    inr a ↦ (within_of t.gives a.leading).refuses e (refuses_the AfterTarget (refuses_first r))
+    | inl h ↦ (within_of t.gives h.leading).refuses e (refuses_the AfterHead (refuses_first r))
+    | inr a ↦ (within_of t.gives a.leading).refuses e (refuses_the AfterTarget (refuses_first r))
   ]
 
   module _ {further : ℕ} {second : Tables} {condition : Maybe (Expr F)} (c : IsGot limit (IsCondition value reader.source.now) (StaysOpen reader second t.behind) (opt (the Condition)) reader middle second t.behind condition further) where
@@ -152,8 +151,8 @@ module _ {F : Type 0} (value : F → Number) {limit : ℕ} {reader : Reader} {at
     pub assigned_refused : {e : SourceFaultOrMemory} → (is_plain_target (shown_target value target) ≡ true → leads productions look_ahead (token DotDot) (seen_from reader further) ≡ false) → Refuses limit reader.source.now (token Equals · the Expression) c.behind (seen_from reader further) e →
         Refuses limit reader.source.now (the NamedStatement) w (seen_from reader at) e
     assigned_refused {e} unless r = elim (target_goes t.gives.reads) [
-      inl h ↦ (within_of t.gives h.leading).refuses e (refuses_the AfterHead (refuses_second c.gives (refuses_equals (unled_next (is DotDot) (the Sides) (seen_from reader further) (unless (plain_as true h.plain))) r))) |
-      inr a ↦ (within_of t.gives a.leading).refuses e (refuses_the AfterTarget (refuses_second c.gives r))
+      | inl h ↦ (within_of t.gives h.leading).refuses e (refuses_the AfterHead (refuses_second c.gives (refuses_equals (unled_next (is DotDot) (the Sides) (seen_from reader further) (unless (plain_as true h.plain))) r)))
+      | inr a ↦ (within_of t.gives a.leading).refuses e (refuses_the AfterTarget (refuses_second c.gives r))
     ]
 
     -- a definition
@@ -163,8 +162,8 @@ module _ {F : Type 0} (value : F → Number) {limit : ℕ} {reader : Reader} {at
 
       pub defined_refused : {e : SourceFaultOrMemory} → Refuses limit reader.source.now (the Sides) (past reader c.behind DotDot dots behind) (seen_from reader behind) e → Refuses limit reader.source.now (the NamedStatement) w (seen_from reader at) e
       defined_refused {e} r = elim (target_goes t.gives.reads) [
-        inl h ↦ (within_of t.gives h.leading).refuses e (refuses_the AfterHead (refuses_second c.gives (refuses_right unled (leads_next (the Sides) n) (refuses_second (gives_exact {kind = DotDot} n refl) r)))) |
-        inr a ↦ absurd (both_ways _ plain (plain_as false a.other))
+        | inl h ↦ (within_of t.gives h.leading).refuses e (refuses_the AfterHead (refuses_second c.gives (refuses_right unled (leads_next (the Sides) n) (refuses_second (gives_exact {kind = DotDot} n refl) r))))
+        | inr a ↦ absurd (both_ways _ plain (plain_as false a.other))
       ]
 
       pub defined_got : {new : Tables} {act : ActNode F} {next : ℕ} → IsGot limit (IsDefined value reader.source.now target condition) (Stays reader new (past reader c.behind DotDot dots behind)) (the Sides) reader behind new (past reader c.behind DotDot dots behind) act next →

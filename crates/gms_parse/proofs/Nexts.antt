@@ -1,7 +1,7 @@
 -- Single tokens at places of a reader.
-use Rattle.std.proofs.Common.{◌≡◌, ℕ, ◌+◌, ◌<◌, ◌≤◌, Bool, true, false, not, ◌&&◌, ◌||◌, List, [], ◌∷◌, ◌++◌, map, drop, length, Some, refl, sym, ap, ◌∙◌, subst, arith, inl, inr, ◌-◌}
+use Rattle.std.proofs.Common.{◌≡◌, ℕ, ◌+◌, ◌<◌, ◌≤◌, Bool, true, false, not, ◌&&◌, List, [], ◌∷◌, length, Some, refl, sym, ap, ◌∙◌, subst, arith, ◌-◌}
 use Rattle.gms_grammar.specs.declared.terminal.Terminal.{Terminal}
-use Rattle.gms_grammar.specs.declared.terminal.Terminal.TheVariants.{LeftParen, RightParen, Dot, Using, Option, Table, End, Star, Semicolon}
+use Rattle.gms_grammar.specs.declared.terminal.Terminal.TheVariants.{LeftParen, RightParen, Dot, Using, Option, Table, Semicolon}
 use Rattle.gms_grammar.specs.Grammar.{one, ◌·◌, leaf, pair, yield}
 use Rattle.gms_grammar.specs.Reading.{leads, refused}
 use Rattle.gms_grammar.specs.Terminals.{is, is_among}
@@ -15,8 +15,8 @@ use Rattle.gms_parse.specs.declared.fault.SourceFault.{SourceFault}
 use Rattle.gms_parse.specs.declared.fault.SourceFaultOrMemory.{SourceFaultOrMemory}
 use Rattle.gms_parse.specs.declared.reader.Reader.{Reader}
 use Rattle.gms_parse.specs.declared.reader.Tables.{Tables}
-use Rattle.gms_parse.specs.Walks.{Seen, Walk, last_kind, ends_statement, walk_behind, walk_after, IsFaulty, deep, out_of_range, many_names, many_labels, in_table, without_lines}
-use Rattle.gms_parse.specs.Readings.{Derivation, GamsPart, Gives, Refuses, Sense, IsSense, Holds, Has, Starts, Stays, Undotted, Optionless, Tableless, IsNext, IsLacking, IsPassed, IsOpened, IsUnopened, inside, seen_from, kind_of, IsGot}
+use Rattle.gms_parse.specs.Walks.{Seen, Walk, ends_statement, walk_after, IsFaulty, deep, out_of_range, many_names, many_labels, in_table, without_lines}
+use Rattle.gms_parse.specs.Readings.{Derivation, GamsPart, Gives, Refuses, Sense, IsSense, Holds, Has, Starts, Stays, Optionless, IsNext, IsLacking, IsOpened, IsUnopened, inside, seen_from, kind_of, IsGot}
 use Rattle.gms_parse.proofs.TokenKinds.{begins, is_quiet, is_plain, same_kind, led_first}
 use Rattle.gms_parse.proofs.Walks.{quiet_after, quiet_sound, keyword_after, begun_after, room_for_none, names_kept, labels_kept}
 use Rattle.gms_parse.proofs.Steps.{gives_one, gives_both, refuses_at, refuses_first, refuses_second}

@@ -1,5 +1,5 @@
 -- Where the parts of a program begin.
-use Rattle.std.proofs.Common.{◌≡◌, ℕ, Bool, true, false, List, [], ◌∷◌, ◌++◌, refl, sym, ap, ◌∙◌}
+use Rattle.std.proofs.Common.{◌≡◌, ℕ, false, List, [], ◌∷◌, ◌++◌, sym, ap}
 use Rattle.gms_grammar.specs.Grammar.{yield}
 use Rattle.gms_grammar.specs.LookAhead.{may_be_empty}
 use Rattle.gms_grammar.specs.GamsGrammar.{productions}

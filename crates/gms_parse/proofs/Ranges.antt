@@ -1,9 +1,9 @@
 -- Labels of lists, and ranges of them.
-use Rattle.std.proofs.Common.{◌≡◌, ℕ, zero, suc, get_or, ◌+◌, ◌-◌, ◌<◌, ◌≤◌, Bool, true, false, not, ◌&&◌, ◌||◌, cond, List, [], ◌∷◌, ◌++◌, length, map, take, Option as Maybe, Some, None, refl, sym, ap, ap₂, ◌∙◌, subst, inl, inr, ◌⊎◌, arith, append_assoc}
+use Rattle.std.proofs.Common.{◌≡◌, ℕ, zero, suc, get_or, ◌+◌, ◌-◌, ◌<◌, ◌≤◌, Bool, true, false, not, ◌&&◌, ◌||◌, cond, List, [], ◌∷◌, ◌++◌, length, map, take, Some, None, refl, sym, ap, ap₂, ◌∙◌, subst, inl, inr, arith, append_assoc}
 use Rattle.std.specs.Str.{IsAscii}
 use Rattle.std.proofs.lemmas.Str.{IsAscii-take, IsAscii-drop}
 use Rattle.std.proofs.Math.Seq.{take-suc}
-use Rattle.gq_number.specs.Number.{Number, neg_ℚ}
+use Rattle.gq_number.specs.Number.{neg_ℚ}
 use Rattle.gms_labels.specs.Labels.{place_of, entered, IsFullFor}
 use Rattle.gms_labels.proofs.Places.{place_of-entered_kept}
 use Rattle.gms_tokens.specs.Bytes.{is_quote}
@@ -16,9 +16,8 @@ use Rattle.gms_set.specs.declared.fault.SetFault.{SetFault}
 use Rattle.gms_set.specs.declared.fault.SetFaultOrMemory.{SetFaultOrMemory}
 use Rattle.gms_set.specs.declared.fault.SetFaultOrMemory.TheVariants as set_fault
 use Rattle.gms_grammar.specs.declared.terminal.Terminal.{Terminal}
-use Rattle.gms_grammar.specs.declared.terminal.Terminal.TheVariants as terminal
 use Rattle.gms_grammar.specs.declared.terminal.Terminal.TheVariants.{Label, Star}
-use Rattle.gms_grammar.specs.Grammar.{the, ◌·◌, opt, leaf, pair, none, some, node}
+use Rattle.gms_grammar.specs.Grammar.{the, leaf, pair, none, some, node}
 use Rattle.gms_grammar.specs.Reading.{leads}
 use Rattle.gms_grammar.specs.Terminals.{is}
 use Rattle.gms_grammar.specs.GamsGrammar.{Range, productions, token}
@@ -27,17 +26,17 @@ use Rattle.gms_parse_x.specs.ExpressionTrees.{or_0}
 use Rattle.gms_parse.specs.declared.data.Part.{Part as Position}
 use Rattle.gms_parse.specs.declared.fault.SourceFault.{SourceFault}
 use Rattle.gms_parse.specs.declared.fault.SourceFaultOrMemory.{SourceFaultOrMemory}
-use Rattle.gms_parse.specs.declared.fault.SourceFaultOrMemory.TheVariants.{Fault, Memory}
+use Rattle.gms_parse.specs.declared.fault.SourceFaultOrMemory.TheVariants.{Fault}
 use Rattle.gms_parse.specs.declared.fault.SourceError.TheVariants.{TooManyLabels}
 use Rattle.gms_parse.specs.declared.reader.Reader.{Reader}
 use Rattle.gms_parse.specs.declared.reader.Tables.{Tables}
 use Rattle.gms_parse.specs.DataLists.{range_labels}
-use Rattle.gms_parse.specs.Walks.{Seen, Walk, last_kind, range_start, range_texts, list_labels, new_labels, all_entered, LacksRoom, walk_after, IsFaulty, deep, out_of_range, many_names, many_labels, in_table, without_lines}
-use Rattle.gms_parse.specs.Readings.{Derivation, Gives, Refuses, Sense, IsSense, IsGot, Has, Holds, Starless, Stays, IsNext, IsLacking, IsEntered, IsNotEntered, seen_from, kind_of}
+use Rattle.gms_parse.specs.Walks.{Seen, Walk, last_kind, range_start, range_texts, list_labels, new_labels, all_entered, LacksRoom, IsFaulty, deep, out_of_range, many_names, many_labels, in_table, without_lines}
+use Rattle.gms_parse.specs.Readings.{Gives, Refuses, Sense, IsSense, IsGot, Has, Holds, Starless, Stays, IsNext, IsLacking, IsEntered, IsNotEntered, seen_from, kind_of}
 use Rattle.gms_parse.specs.Meanings.{IsLabelToken, IsEnteredRange, IsNotEnteredRange, IsAdded, AreThere, text_of_label}
 use Rattle.gms_parse.proofs.TokenKinds.{leads_by_kind}
 use Rattle.gms_parse.proofs.Steps.{gives_one, gives_both, gives_the, gives_none, gives_some, takes_next, refuses_the, refuses_first, refuses_second, refuses_some, refuses_token, refuses_memory}
-use Rattle.gms_parse.proofs.Nexts.{past, exact, led_next, leads_next, gives_exact, refuses_lacking, plain_stays, stays_then}
+use Rattle.gms_parse.proofs.Nexts.{past, exact, leads_next, gives_exact, refuses_lacking, plain_stays, stays_then}
 use Rattle.gms_parse.proofs.TokenKinds.{unled_next}
 use Rattle.gms_parse.proofs.Walks.{room_for_none}
 
@@ -220,8 +219,8 @@ module _ {reader : Reader} {at : ℕ} {old : Tables} {w : Walk} {first : Token} 
 
   pub label_not_entered : {limit : ℕ} {e : SourceFaultOrMemory} → leads productions look_ahead (token Star) (seen_from reader next) ≡ false → (text : List ℕ) → text ≡ text_of_label reader.source.now first → IsNotEntered old.labels text first.at e → Refuses limit reader.source.now (the Range) w (seen_from reader at) e
   label_not_entered unled text spelled r = elim r.why [
-    inl m ↦ refuses_memory m |
-    inr f ↦ refuses_the Range (refuses_first (label_refuses (text_of_label reader.source.now first ∷ []) n (alone_new unled) h.holds (lacks_append old.labels [] (text_of_label reader.source.now first) [] (subst (λ (x : List ℕ). IsFullFor old.labels x) spelled f.1)) f.0))
+    | inl m ↦ refuses_memory m
+    | inr f ↦ refuses_the Range (refuses_first (label_refuses (text_of_label reader.source.now first ∷ []) n (alone_new unled) h.holds (lacks_append old.labels [] (text_of_label reader.source.now first) [] (subst (λ (x : List ℕ). IsFullFor old.labels x) spelled f.1)) f.0))
   ]
 
   module _ {star : Token} {middle : ℕ} (m : IsNext (is Star) reader next star middle) where
@@ -278,8 +277,8 @@ module _ {reader : Reader} {at : ℕ} {old : Tables} {w : Walk} {first : Token} 
 
       pub range_refused : {limit : ℕ} {e : SourceFaultOrMemory} → IsNotEnteredRange reader.source.now old first last e → Refuses limit reader.source.now (the Range) w (seen_from reader at) e
       range_refused r = elim r.why [
-        inl f ↦ refuses_memory f |
-        inr f ↦ refuses_the Range (refuses_second begun_gives (refuses_some (leads_next (token Label) m) (refuses_second (gives_exact {kind = Star} m refl) (label_refuses (range_texts reader.source.now (text_of_label reader.source.now first) (text_of_label reader.source.now last)) k refl star_stays.has.holds f.1 f.0))))
+        | inl f ↦ refuses_memory f
+        | inr f ↦ refuses_the Range (refuses_second begun_gives (refuses_some (leads_next (token Label) m) (refuses_second (gives_exact {kind = Star} m refl) (label_refuses (range_texts reader.source.now (text_of_label reader.source.now first) (text_of_label reader.source.now last)) k refl star_stays.has.holds f.1 f.0))))
       ]
 
 -- ---- members, one after another

@@ -1,7 +1,7 @@
 -- Whole sources: what was read of the tokens is the program, or its first fault.
-use Rattle.std.proofs.Common.{◌≡◌, ◌⊎◌, inl, inr, ℕ, ◌≤◌, ◌<◌, List, [], ◌∷◌, ◌++◌, length, get_or, ◌-◌, Vec, refl, sym, ap, ◌∙◌, subst, append_assoc}
+use Rattle.std.proofs.Common.{◌≡◌, inl, inr, ℕ, ◌≤◌, List, [], ◌∷◌, ◌++◌, length, get_or, ◌-◌, Vec, refl, sym, ap, ◌∙◌, subst, append_assoc}
 use Rattle.std.specs.declared.alloc.Global.{Global}
-use Rattle.gq_number.specs.Number.{Number, neg_ℚ}
+use Rattle.gq_number.specs.Number.{Number}
 use Rattle.gms_ast.specs.declared.program.Stmt.{Stmt}
 use Rattle.gms_ast.specs.StatementView.{statements_view}
 use Rattle.gms_lex.specs.declared.token.Token.{Token}
@@ -24,9 +24,9 @@ use Rattle.gms_parse.specs.declared.fault.SourceFaultOrMemory.{SourceFaultOrMemo
 use Rattle.gms_parse.specs.declared.fault.SourceFaultOrMemory.TheVariants.{Fault, Memory}
 use Rattle.gms_parse.specs.declared.reader.Reader.{Reader}
 use Rattle.gms_parse.specs.declared.reader.Tables.{Tables}
-use Rattle.gms_parse.specs.Outcomes.{unexpected_error, IsProgramOf, IsNoProgram, IsUnexpected, IsRefusal}
-use Rattle.gms_parse.specs.Walks.{Seen, Walk, start, kind_ahead, walk_behind, IsFaulty, AreSound}
-use Rattle.gms_parse.specs.Readings.{IsStuck, IsWrong, Sense, IsSense, Holds, IsOver, IsWhole, RefusesWhole, IsReady, seen_from, kind_of, unexpected}
+use Rattle.gms_parse.specs.Outcomes.{IsProgramOf, IsNoProgram, IsUnexpected, IsRefusal}
+use Rattle.gms_parse.specs.Walks.{Seen, Walk, start, walk_behind, IsFaulty, AreSound}
+use Rattle.gms_parse.specs.Readings.{IsStuck, IsWrong, IsOver, IsWhole, RefusesWhole, IsReady, seen_from, kind_of, unexpected}
 use Rattle.gms_parse.specs.Meanings.{IsTabled, AreStatements}
 use Rattle.gms_parse.proofs.Walks.{ahead_append}
 use Rattle.gms_parse.proofs.EndTokens.{HasEnd, has_end, begins_other, end_behind, end_alone}

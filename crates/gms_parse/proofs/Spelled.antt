@@ -1,8 +1,7 @@
 -- How names and labels are spelled: they are of ASCII, and short.
-use Rattle.std.proofs.Common.{◌≡◌, ℕ, ◌+◌, ◌-◌, ◌<◌, ◌≤◌, Bool, true, false, not, ◌&&◌, cond, ltb, Option, Some, None, List, [], ◌∷◌, length, take, drop, refl, sym, ap, ◌∙◌, subst, arith, length-take, length-drop}
+use Rattle.std.proofs.Common.{◌≡◌, ℕ, ◌≤◌, Bool, true, false, not, ◌&&◌, cond, ltb, Option, Some, None, List, [], ◌∷◌, length, refl, sym, ap, ◌∙◌, arith}
 use Rattle.std.proofs.lemmas.Bool.{ltb-false, eqb-true}
 use Rattle.std.specs.Str.{IsAscii}
-use Rattle.std.proofs.lemmas.Str.{IsAscii-take, IsAscii-drop}
 use Rattle.gms_tokens.specs.declared.kind.Kind.{Kind}
 use Rattle.gms_tokens.specs.declared.kind.Kind.TheVariants as kind
 use Rattle.gms_tokens.specs.declared.kind.Sym.{Sym}
@@ -14,7 +13,7 @@ use Rattle.gms_grammar.specs.declared.terminal.Terminal.TheVariants.{Name, Suffi
 use Rattle.gms_grammar.specs.Terminals.{is, is_among, number_of}
 use Rattle.gms_lines.specs.ControlWords.{is_among as is_listed}
 use Rattle.gms_grammar.proofs.Checks.{left_and, right_and}
-use Rattle.gms_parse_x.specs.Words.{Words, statement_words, expression_words, other_words, kind_among, or_else, or_name, terminal_of, terminal_of_word, terminal_of_symbol, terminal_of_text}
+use Rattle.gms_parse_x.specs.Words.{Words, statement_words, expression_words, other_words, kind_among, or_else, or_name, terminal_of, terminal_of_word, terminal_of_symbol}
 use Rattle.gms_parse.specs.Meanings.{IsLabelToken}
 use Rattle.gms_parse.specs.declared.reader.Reader.{Reader}
 use Rattle.gms_parse.specs.Readings.{IsNext}
@@ -62,7 +61,6 @@ text_spelled kind.End text h s = cc
 -- a name is of ASCII and has at most 63 bytes
 pub name_spelled : {reader : Reader} {at behind : ℕ} {t : Token} → IsNext is_named reader at t behind → IsAscii (token_text reader.source.now t) × (length (token_text reader.source.now t) ≤ 63)
 name_spelled {reader = reader} {t = t} n = named_spelled t.kind (token_text reader.source.now t) (ap is_named (sym n.kind_is) ∙ n.passes) n.placed.spelled
-
 
 label_symbol : (s : Sym) → terminal_of_symbol s ≡ Label → ⊥
 label_symbol sym_kind.EqE h = cc

@@ -1,12 +1,10 @@
 -- Tables: their lines, the entries that these give, and the statement.
-use Rattle.std.proofs.Common.{◌≡◌, ◌≢◌, ℕ, suc, ◌+◌, ◌<◌, ◌≤◌, Bool, true, false, not, ◌&&◌, ◌||◌, cond, ltb, List, [], ◌∷◌, ◌++◌, map, reverse, take, take_while, length, string_bytes, string_len, All, Option as Maybe, Some, option_map, Vec, refl, sym, ap, ap₂, ◌∙◌, subst, arith, append_assoc, inl, inr, ◌⊎◌}
-use Rattle.std.specs.Bool.{⊤}
+use Rattle.std.proofs.Common.{◌≡◌, ◌≢◌, ℕ, suc, ◌+◌, ◌≤◌, Bool, true, false, not, ◌&&◌, ◌||◌, cond, ltb, List, [], ◌∷◌, ◌++◌, map, reverse, take, take_while, length, string_bytes, string_len, All, Option as Maybe, Some, Vec, refl, sym, ap, ap₂, ◌∙◌, subst, arith, append_assoc, inl, inr, ◌⊎◌}
 use Rattle.std.specs.Str.{IsAscii}
 use Rattle.std.specs.List.{prefix_len}
 use Rattle.std.specs.declared.alloc.Global.{Global}
 use Rattle.std.proofs.lemmas.List.{append-nil, map-append, reverse-append}
 use Rattle.std.proofs.lemmas.List.Elements.{All-nil, All-cons, All-head, All-tail, All-append}
-use Rattle.std.proofs.lemmas.Bool.{eqb-true}
 use Rattle.gq_number.specs.Number.{Number as Rational, neg_ℚ}
 use Rattle.gq_text.proofs.Splits.{one_number}
 use Rattle.gms_labels.specs.Labels.{place_of}
@@ -19,11 +17,10 @@ use Rattle.gms_lex.specs.declared.token.Token.{Token}
 use Rattle.gms_lex.specs.TokenTexts.{token_text, IsSpelled}
 use Rattle.gms_ast.specs.declared.word.Named.{Named}
 use Rattle.gms_ast.specs.declared.declaration.Item.{Item}
-use Rattle.gms_ast.specs.declared.declaration.Decl.{Decl}
 use Rattle.gms_ast.specs.declared.declaration.DeclKind.TheVariants as kind
 use Rattle.gms_ast.specs.declared.program.Act.TheVariants as act
 use Rattle.gms_ast.specs.StatementTrees.{declares}
-use Rattle.gms_ast.specs.StatementView.{item_in, declared_in}
+use Rattle.gms_ast.specs.StatementView.{item_in}
 use Rattle.gms_table.specs.declared.entry.Entry.{Entry}
 use Rattle.gms_table.specs.declared.entry.TableLine.{TableLine as Line}
 use Rattle.gms_table.specs.declared.fault.TableError.{TableError}
@@ -37,20 +34,20 @@ use Rattle.gms_table.specs.CellNumbers.{IsValue, signed}
 use Rattle.gms_table.specs.TableEntries as entries
 use Rattle.gms_table.specs.TableEntries.{Part, name as name_part, cell, table_of, parts_of, IsEntry, AreEntries, Stands, IsFirstFault, IsTable, IsRefusal}
 use Rattle.gms_grammar.specs.declared.terminal.Terminal.{Terminal}
-use Rattle.gms_grammar.specs.declared.terminal.Terminal.TheVariants.{Table, Option, Name, Suffix, Text, LongText, Label, TableLine, Break, End, LeftParen, RightParen}
-use Rattle.gms_grammar.specs.Grammar.{one, the, ◌·◌, many, leaf, pair, none, more, node, yield}
+use Rattle.gms_grammar.specs.declared.terminal.Terminal.TheVariants.{Table, Name, Suffix, Text, LongText, Label, TableLine, Break, End}
+use Rattle.gms_grammar.specs.Grammar.{the, ◌·◌, many, leaf, pair, none, more, node, yield}
 use Rattle.gms_grammar.specs.Reading.{read, leads, Reads, taken, takes_one}
-use Rattle.gms_grammar.specs.Terminals.{is, is_among, number_of}
+use Rattle.gms_grammar.specs.Terminals.{is, is_among}
 use Rattle.gms_grammar.specs.GamsGrammar.{Nonterminal, Expression, Domain, DomainList, DomainPosition, TableStatement, productions, token, name}
 use Rattle.gms_grammar.specs.GamsLookAhead.{look_ahead}
 use Rattle.gms_grammar.proofs.Sound.{sound}
 use Rattle.gms_parse_x.specs.Words.{terminal_of, terminal_of_word, terminal_of_symbol}
 use Rattle.gms_parse_x.specs.Outcomes.{next_place}
-use Rattle.gms_parse_x.proofs.TokenKinds.{implies, also, same_number}
+use Rattle.gms_parse_x.proofs.TokenKinds.{also}
 use Rattle.gms_parse.specs.declared.fault.SourceError.TheVariants.{NoHeading}
 use Rattle.gms_parse.specs.declared.fault.SourceFault.{SourceFault}
 use Rattle.gms_parse.specs.declared.fault.SourceFaultOrMemory.{SourceFaultOrMemory}
-use Rattle.gms_parse.specs.declared.fault.SourceFaultOrMemory.TheVariants.{Fault, Memory}
+use Rattle.gms_parse.specs.declared.fault.SourceFaultOrMemory.TheVariants.{Fault}
 use Rattle.gms_parse.specs.declared.reader.Reader.{Reader}
 use Rattle.gms_parse.specs.declared.reader.Tables.{Tables}
 use Rattle.gms_parse.specs.Faults.{error_of_table, fault_at, table_fault_at, fault_of_table}
@@ -59,12 +56,12 @@ use Rattle.gms_parse.specs.TableReadings.{IsTableRead, IsTableRefused}
 use Rattle.gms_parse.specs.Declarations.{table_act, items_of_lines}
 use Rattle.gms_parse.specs.Outcomes.{IsTableOf, HaveItems, AreAllItems}
 use Rattle.gms_parse.specs.Walks.{Seen, Walk, kind_ahead, last_kind, ends_statement, table_name, all_entered, lines_with, walk_after, walk_behind, IsFaulty, deep, out_of_range, many_names, many_labels, in_table, without_lines}
-use Rattle.gms_parse.specs.Readings.{Derivation, GamsPart, Gives, Refuses, Sense, IsSense, Holds, Has, Starts, Stays, IsNext, IsGot, IsLines, ends_head, seen_from, kind_of}
+use Rattle.gms_parse.specs.Readings.{Derivation, Gives, Refuses, Sense, IsSense, Holds, Starts, Stays, IsNext, IsGot, IsLines, ends_head, seen_from, kind_of}
 use Rattle.gms_parse.specs.Meanings.{IsNamed, IsDomain, IsTabled, IsStatement}
 use Rattle.gms_parse.proofs.TokenKinds.{same_kind}
 use Rattle.gms_parse.proofs.Alphabet.{AllPass, pass_append, pass_front, pass_rest, only, all_pass}
 use Rattle.gms_parse.proofs.Spelled.{word_kind}
-use Rattle.gms_parse.proofs.Steps.{given_parts, gives_one, gives_both, gives_the, gives_no_more, gives_again, refuses_first, refuses_second, refuses_the, refuses_again, refuses_later, refuses_token, refuses_memory}
+use Rattle.gms_parse.proofs.Steps.{gives_one, gives_both, gives_the, gives_no_more, gives_again, refuses_first, refuses_second, refuses_the, refuses_again, refuses_later, refuses_token, refuses_memory}
 use Rattle.gms_parse.proofs.Nexts.{past, exact, gives_exact, begun_starts, earlier}
 use Rattle.gms_parse.proofs.Domains.{name_pushed, name_kept, not_no}
 use Rattle.gms_parse.proofs.Views.{view-Declare}

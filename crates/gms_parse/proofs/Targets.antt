@@ -1,11 +1,9 @@
 -- What is assigned, as the crate that reads expressions means it.
-use Rattle.std.proofs.Common.{◌≡◌, ℕ, List, refl, ap, ◌∙◌}
+use Rattle.std.proofs.Common.{◌≡◌, ℕ, List, ap}
 use Rattle.gq_number.specs.Number.{Number}
-use Rattle.gms_labels.specs.declared.place.Place.{Place}
-use Rattle.gms_ast.specs.declared.expression.Suffix.{Suffix}
-use Rattle.gms_ast.specs.Trees.{Tree as Syntax, reference, Indices}
+use Rattle.gms_ast.specs.Trees.{Tree as Syntax, reference}
 use Rattle.gms_ast.specs.StatementTrees.{Target}
-use Rattle.gms_grammar.specs.Grammar.{the, leaf, pair, none, some, node, IsTree}
+use Rattle.gms_grammar.specs.Grammar.{the, pair, none, some, node, IsTree}
 use Rattle.gms_grammar.specs.GamsGrammar.{Target as TargetPart, productions}
 use Rattle.gms_parse_x.specs.ExpressionTrees as trees
 use Rattle.gms_parse.specs.Statements.{target_in}

@@ -1,5 +1,5 @@
 -- Kinds of tokens, told apart, and what the kind of the next token says of the parts that it leads into.
-use Rattle.std.proofs.Common.{◌≡◌, ℕ, Bool, true, false, not, ◌&&◌, ◌||◌, ◌==◌, List, [], ◌∷◌, refl, sym, ap, ◌∙◌, inl, inr, ◌⊎◌}
+use Rattle.std.proofs.Common.{◌≡◌, Bool, true, false, not, ◌&&◌, ◌||◌, List, [], ◌∷◌, refl, sym, ap, ◌∙◌}
 use Rattle.std.specs.Bool.{⊤}
 use Rattle.std.proofs.lemmas.Bool.{eqb-true}
 use Rattle.gms_grammar.specs.declared.terminal.Terminal.{Terminal}
@@ -11,7 +11,7 @@ use Rattle.gms_grammar.specs.Terminals.{is, is_among}
 use Rattle.gms_grammar.specs.GamsGrammar.{productions}
 use Rattle.gms_grammar.specs.GamsLookAhead.{look_ahead}
 use Rattle.gms_grammar.proofs.Basics.{or_left}
-use Rattle.gms_parse_x.proofs.TokenKinds.{implies, also, same_test, same_number}
+use Rattle.gms_parse_x.proofs.TokenKinds.{implies, also, same_number}
 use Rattle.gms_parse.specs.Walks.{Seen, is_keyword}
 use Rattle.gms_parse.specs.Readings.{GamsPart, kind_of}
 

@@ -1,9 +1,7 @@
 -- Values of data.
-use Rattle.std.proofs.Common.{◌≡◌, ℕ, ◌+◌, ◌<◌, ◌≤◌, Bool, true, false, ◌||◌, ◌&&◌, cond, List, [], ◌∷◌, ◌++◌, map, Some, None, Vec, Option as Maybe, refl, sym, ap, ap₂, ◌∙◌, subst, arith}
+use Rattle.std.proofs.Common.{◌≡◌, ℕ, Bool, true, false, cond, List, [], ◌∷◌, map, Some, Vec, refl, sym, ap, ap₂, ◌∙◌, arith}
 use Rattle.std.specs.declared.alloc.Global.{Global}
 use Rattle.gq_number.specs.Number.{Number as Rational, neg_ℚ}
-use Rattle.gq_text.specs.Decimal.{MeansNumber}
-use Rattle.gq_text.specs.Literal.{FitsLiteral}
 use Rattle.gq_extended.specs.declared.extended.Ext.{Ext}
 use Rattle.gq_extended.specs.declared.extended.Ext.TheVariants as ext
 use Rattle.gms_ast.specs.declared.declaration.Item.{Item}
@@ -13,7 +11,7 @@ use Rattle.gms_lex.specs.TokenTexts.{token_text}
 use Rattle.gms_grammar.specs.declared.terminal.Terminal.{Terminal}
 use Rattle.gms_grammar.specs.declared.terminal.Terminal.TheVariants.{Number, Infinity, NotAvailable, Sign, Equals, Slash}
 use Rattle.gms_grammar.specs.Grammar.{the, one, ◌·◌, ◌∣◌, opt, leaf, pair, left, right, none, some, node}
-use Rattle.gms_grammar.specs.Reading.{Found, read, stuck, leads, Reads, taken, refused, first_stuck, second_stuck, in_right_stuck, in_neither, left_out, there, there_stuck, takes_right}
+use Rattle.gms_grammar.specs.Reading.{read, stuck, leads, Reads, taken, refused, first_stuck, second_stuck, in_right_stuck, in_neither, left_out, there, there_stuck, takes_right}
 use Rattle.gms_grammar.specs.Terminals.{is, is_among}
 use Rattle.gms_grammar.specs.GamsGrammar.{Value, productions, token, any_of}
 use Rattle.gms_grammar.specs.GamsLookAhead.{look_ahead}
@@ -26,13 +24,13 @@ use Rattle.gms_parse.proofs.Places.{place_read}
 use Rattle.gms_parse.specs.declared.fault.SourceFaultOrMemory.{SourceFaultOrMemory}
 use Rattle.gms_parse.specs.declared.reader.Reader.{Reader}
 use Rattle.gms_parse.specs.declared.reader.Tables.{Tables}
-use Rattle.gms_parse.specs.DataLists.{opposed, signed_value, value_of_token, value_in}
+use Rattle.gms_parse.specs.DataLists.{opposed, signed_value}
 use Rattle.gms_parse.specs.Walks.{Seen, Walk}
-use Rattle.gms_parse.specs.Readings.{Derivation, GamsPart, Gives, Refuses, Sense, IsSense, IsGot, Has, Stays, IsNext, IsLacking, IsTooLarge, IsValue, unexpected_at, seen_from, kind_of}
+use Rattle.gms_parse.specs.Readings.{Derivation, GamsPart, Gives, Refuses, IsGot, Has, Stays, IsNext, IsLacking, IsValue, seen_from, kind_of}
 use Rattle.gms_parse.specs.Meanings.{IsSign, IsUnsigned, IsGiven, IsScalarValue}
 use Rattle.gms_parse.proofs.Steps.{gives_one, gives_both, gives_the, gives_left, gives_right, gives_none, gives_some, refuses_at, refuses_the, refuses_first, refuses_second, refuses_some, by_cause, stuck_as, wrong_as}
-use Rattle.gms_parse.proofs.Nexts.{past, exact, led_next, leads_next, gives_exact, gives_any, refuses_lacking, plain_stays, stays_then, stays_same, earlier}
-use Rattle.gms_parse.proofs.Entering.{number_gives, number_stays, number_refused}
+use Rattle.gms_parse.proofs.Nexts.{past, exact, led_next, leads_next, gives_exact, refuses_lacking, plain_stays, stays_then, stays_same, earlier}
+use Rattle.gms_parse.proofs.Entering.{number_gives, number_stays}
 
 -- a token of any of some kinds, of which it is this one
 gives_kind : {limit : ℕ} (test : Terminal → Bool) (kind : Terminal) {reader : Reader} {at behind : ℕ} {t : Token} {w : Walk} → IsNext (is kind) reader at t behind → test kind ≡ true → is_quiet kind ≡ true → Gives limit reader.source.now (one test) w (seen_from reader at) (leaf (kind, t)) (past reader w kind t behind) (seen_from reader behind)
@@ -155,7 +153,6 @@ pub slash_stays : {reader : Reader} {at behind : ℕ} {t : Token} {tables : Tabl
 slash_stays {reader} {behind = behind} {t = t} {w = w} h n = plain_stays reader w Slash t behind refl h
 
 module _ {limit : ℕ} {reader : Reader} {at behind : ℕ} {t : Token} {tables : Tables} {w : Walk} (h : Has reader tables w) (n : IsNext (is Slash) reader at t behind) where
-
   pub some_value : {F : Type 0} (value : F → Rational) {v : Ext F} {next after : ℕ} {end : Token} (items : Vec (Item F) Global) (item : Item F) → items.items ≡ item ∷ [] → item_in value item ≡ record { at = next_place reader.source.now (seen_from reader behind); parts = []; value = Some (extended_in value v); bad_range = false } →
       IsGot limit (IsGiven value reader.source.now) (Stays reader tables (past reader w Slash t behind)) (the Value) reader behind tables (past reader w Slash t behind) v next → IsNext (is Slash) reader next end after →
       IsGot limit (IsScalarValue value reader.source.now) (Stays reader tables w) (opt (token Slash · the Value · token Slash)) reader at tables w items after

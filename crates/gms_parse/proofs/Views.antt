@@ -1,27 +1,21 @@
 -- What statements show.
-use Rattle.std.proofs.Common.{◌≡◌, List, Option as Maybe, Vec, map, option_map, refl, sym, ap, ◌∙◌}
-use Rattle.std.specs.declared.alloc.Global.{Global}
+use Rattle.std.proofs.Common.{◌≡◌, List, Option as Maybe, map, option_map, sym, ap, ◌∙◌}
 use Rattle.gq_number.specs.Number.{Number}
 use Rattle.gms_labels.specs.declared.place.Place.{Place}
 use Rattle.gms_ast.specs.declared.word.Named.{Named}
 use Rattle.gms_ast.specs.declared.expression.Expr.{Expr}
 use Rattle.gms_ast.specs.declared.expression.Index.{Index}
-use Rattle.gms_ast.specs.declared.expression.Control.{Control}
 use Rattle.gms_ast.specs.declared.declaration.Decl.{Decl}
 use Rattle.gms_ast.specs.declared.declaration.DeclKind.{DeclKind}
 use Rattle.gms_ast.specs.declared.program.Side.{Side}
 use Rattle.gms_ast.specs.declared.program.Right.{Right}
 use Rattle.gms_ast.specs.declared.program.Right.TheVariants as right
 use Rattle.gms_ast.specs.declared.program.Target.{Target as TargetNode}
-use Rattle.gms_ast.specs.declared.program.Act.{Act as ActNode}
-use Rattle.gms_ast.specs.declared.program.Act.TheVariants.{Declare, Assign, Define, Loop, rolls-Declare, rolls-Assign, rolls-Define, rolls-Loop}
-use Rattle.gms_ast.specs.declared.program.Act.TheOpen.{Act-F, Stmt-F}
-use Rattle.gms_ast.specs.declared.program.Act.TheFolds.{fold-roll-Act, fold-roll-Stmt}
-use Rattle.gms_ast.specs.declared.program.Stmt.{Stmt}
-use Rattle.gms_ast.specs.TreeView.{control_tree}
-use Rattle.gms_ast.specs.Numbers.{control_in_numbers}
-use Rattle.gms_ast.specs.StatementTrees.{Act, declares, assigns, defines, loops, Statements, statement}
-use Rattle.gms_ast.specs.StatementView.{declared_in, shown_tree, shown_indices, shown_target, shown_right, in_order, act_step, statement_step, statement_view}
+use Rattle.gms_ast.specs.declared.program.Act.TheVariants.{Declare, Assign, Define, rolls-Declare, rolls-Assign, rolls-Define}
+use Rattle.gms_ast.specs.declared.program.Act.TheOpen.{Act-F}
+use Rattle.gms_ast.specs.declared.program.Act.TheFolds.{fold-roll-Act}
+use Rattle.gms_ast.specs.StatementTrees.{Act, declares, assigns, defines, Statements}
+use Rattle.gms_ast.specs.StatementView.{declared_in, shown_tree, shown_indices, shown_target, shown_right, act_step, statement_step}
 use Rattle.gms_parse.specs.Meanings.{act_view}
 
 module _ {F : Type 0} (value : F → Number) where

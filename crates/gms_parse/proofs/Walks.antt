@@ -1,16 +1,16 @@
 -- What tokens leave, one after another.
-use Rattle.std.proofs.Common.{◌≡◌, ℕ, ◌+◌, ◌-◌, ◌<◌, ◌≤◌, Bool, true, false, not, ◌&&◌, ◌||◌, cond, List, [], ◌∷◌, ◌++◌, length, Option, Some, None, refl, sym, ap, ◌∙◌, subst, inl, inr, ◌⊎◌, arith}
+use Rattle.std.proofs.Common.{◌≡◌, ℕ, Bool, true, false, not, cond, List, [], ◌∷◌, ◌++◌, Some, refl, sym, ap, ◌∙◌, subst}
 use Rattle.gms_labels.specs.Labels.{place_of, entered}
 use Rattle.gms_labels.proofs.Places.{place_of-entered_kept}
 use Rattle.gms_lex.specs.declared.token.Token.{Token}
 use Rattle.gms_lex.specs.TokenTexts.{token_text}
 use Rattle.gms_grammar.specs.declared.terminal.Terminal.{Terminal}
 use Rattle.gms_grammar.specs.declared.terminal.Terminal.TheVariants.{LeftParen, RightParen, Name, Suffix, Text, Label, Number, TableLine}
-use Rattle.gms_grammar.specs.Terminals.{is, is_among}
+use Rattle.gms_grammar.specs.Terminals.{is_among}
 use Rattle.gms_grammar.proofs.Checks.{left_and}
 use Rattle.gms_parse_x.proofs.TokenKinds.{also}
 use Rattle.gms_parse.specs.declared.fault.SourceFault.{SourceFault}
-use Rattle.gms_parse.specs.Walks.{Seen, Walk, kind_ahead, is_name, is_keyword, all_entered, LacksRoom, new_labels, walk_after, walk_behind, IsFaulty, deep, out_of_range, many_names, many_labels, in_table, without_lines, AreSound}
+use Rattle.gms_parse.specs.Walks.{Seen, Walk, kind_ahead, is_name, all_entered, LacksRoom, new_labels, walk_after, walk_behind, IsFaulty, deep, out_of_range, many_names, many_labels, in_table, without_lines, AreSound}
 use Rattle.gms_parse.proofs.TokenKinds.{begins, is_quiet}
 
 -- what stands ahead of tokens is the first of those behind them, where there are none

@@ -8,9 +8,7 @@ use Rattle.gms_lex.specs.TokenTexts.{token_text, unquoted, IsPlaced}
 use Rattle.gms_set.specs.Ranges.{is_range}
 use Rattle.gq_number.specs.Number.{Number, neg_ℚ}
 use Rattle.gq_extended.specs.declared.extended.Ext.{Ext}
-use Rattle.gms_grammar.specs.declared.terminal.Terminal.{Terminal}
-use Rattle.gms_grammar.specs.declared.terminal.Terminal.TheVariants as terminal
-use Rattle.gms_grammar.specs.Grammar.{the, ◌·◌, ◌∣◌, yield}
+use Rattle.gms_grammar.specs.Grammar.{the, ◌∣◌, yield}
 use Rattle.gms_grammar.specs.GamsGrammar.{Nonterminal, DisplayStatement, OptionStatement, SolveStatement, AbortStatement, LoopStatement, Element, Entry, SetList, ParameterList, SetItem, SetItems, ParameterItem, ParameterItems, ScalarItem, ScalarItems, PlainItem, PlainItems, token}
 use Rattle.gms_ast.specs.declared.word.Named.{Named}
 use Rattle.gms_ast.specs.declared.word.Word.{Word}

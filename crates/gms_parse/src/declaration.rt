@@ -223,11 +223,7 @@ impl<'s> Reader<'s> {
 }
 
 /// What is declared: a name, its domain and its data.
-fn declared<F: ExactField>(
-    named: Named,
-    domain: Vec<Option<Named>>,
-    items: Vec<Item<F>>,
-) -> Decl<F>
+fn declared<F: ExactField>(named: Named, domain: Vec<Option<Named>>, items: Vec<Item<F>>) -> Decl<F>
     ensures { declared_in F.value result ≡ record { named = named; domain = domain.items; items = map (item_in F.value) items.items } }
 {
     Decl {

@@ -20,11 +20,7 @@ use std::alloc::Global;
 
 impl<'s> Reader<'s> {
     /// The expression that stands here.
-    pub(crate) fn expression<F: ExactField>(
-        &self,
-        tables: &mut Tables,
-        at: usize,
-    ) -> Read<Expr<F>>
+    pub(crate) fn expression<F: ExactField>(&self, tables: &mut Tables, at: usize) -> Read<Expr<F>>
         requires ready { IsReady self.now }
         requires within { at < length self.now.tokens.now }
         ensures { AnswersFormula F.limit (IsExpression F.value self.now.source.now) (the Expression) self.now at tables.old tables.new result }
@@ -58,11 +54,7 @@ impl<'s> Reader<'s> {
     }
 
     /// The sets of a loop, and their condition, that stand here.
-    pub(crate) fn control<F: ExactField>(
-        &self,
-        tables: &mut Tables,
-        at: usize,
-    ) -> Read<Control<F>>
+    pub(crate) fn control<F: ExactField>(&self, tables: &mut Tables, at: usize) -> Read<Control<F>>
         requires ready { IsReady self.now }
         requires within { at < length self.now.tokens.now }
         ensures { AnswersFormula F.limit (IsControl F.value self.now.source.now) (the ControlPart) self.now at tables.old tables.new result }

@@ -52,10 +52,7 @@ const PROGRAMS: [Row<'static>; 28] = [
         "set i /a,b/, j /x,y/;\ntable p(i,j)\n      x\na     1\nb     2\n+     y\na     3\nb     4 ;",
         "3 4 2",
     ),
-    (
-        "table p(*,*)\n   x\na  1\n+  y\na  2; display p;",
-        "1 3 2",
-    ),
+    ("table p(*,*)\n   x\na  1\n+  y\na  2; display p;", "1 3 2"),
     (
         "set i /a/, j /x/;\ntable p(i,j)\n   x  y\na  1\nb; display p;",
         "3 4 3",
@@ -74,10 +71,7 @@ const PROGRAMS: [Row<'static>; 28] = [
     ("table p(*)\n   x\na  -1;", "1 2 1"),
     // Tabs, comments, blank lines and control lines.
     ("table p(*,*)\n\tx\ty\na\t1\t2;display p;", "1 3 2"),
-    (
-        "table p(*,*)\n  x\n* c\n\n$eject\na 5;display p;",
-        "1 2 2",
-    ),
+    ("table p(*,*)\n  x\n* c\n\n$eject\na 5;display p;", "1 2 2"),
     // As many labels as may be, and the greatest number.
     ("set i /i1*i65536/;", "1 65536 1"),
     ("set i /i1*i65536, I7/;", "1 65536 1"),
@@ -136,10 +130,7 @@ const FAULTS: [Row<'static>; 42] = [
         "21 NoColumn 4:12",
     ),
     // The text of a table's head ends at a comma and at a semicolon.
-    (
-        "table p(*,*) miles, or km\n   x\na  1;",
-        "11 Expected 1:19",
-    ),
+    ("table p(*,*) miles, or km\n   x\na  1;", "11 Expected 1:19"),
     ("table p(*,*) miles; display p;", "25 NoHeading 1:7"),
     ("table p(*,*)\n;", "25 NoHeading 1:7"),
     ("table p(*,*)\ndisplay p;", "25 NoHeading 1:7"),

@@ -1,9 +1,8 @@
 use Rattle.gms_parse_x.proofs.Signs.{handed_on}
-use Rattle.std.proofs.Common.{true, false, [], ◌∷◌, refl, sym, ◌∙◌}
+use Rattle.std.proofs.Common.{[], ◌∷◌, refl, sym, ◌∙◌}
 use Rattle.std.proofs.lemmas.Slice.{pushed}
 use Rattle.gms_grammar.specs.Grammar.{the}
 use Rattle.gms_grammar.specs.GamsGrammar.{LoopStatement, LoopBody, Assignment}
-use Rattle.gms_grammar.specs.Terminals.{is}
 use Rattle.gms_grammar.specs.declared.terminal.Terminal.TheVariants.{Display, Option, Solve, Abort, Loop}
 use Rattle.gms_parse.specs.Readings.{seen_from}
 use Rattle.gms_parse.proofs.Steps.{refuses_the, refuses_first, refuses_second, refuses_memory, refuses_at}

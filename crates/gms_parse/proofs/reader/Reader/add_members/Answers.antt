@@ -27,9 +27,12 @@ loop-member-init c = (refl, refl, entering_start _ _)
 pub loop-member-preserved : goal.loop-member-preserved
 loop-member-preserved c =
     let items = c.deref-member-items.result.now in
-    let within = c.loop-member-test.true in
-    (c.loop-member.invariant.0, c.loop-member.invariant.1, entering_next _ _ (map string_bytes items) c.loop-member.member-index _ _ c.loop-member.invariant.2 (let l = length-map items string_bytes in omega (arith, l, within)) c.as_str.result.now
-    (c.as_str.ensures.value ∙ ap string_bytes c.member-item.is ∙ sym (get_or-map string_bytes items c.loop-member.member-index c.member-item.result _ within)) _ _ c.in_ok-entered-in-Ok.ensures _ c.in_ok-push-in-Ok.ensures.items)
+    let within = c.loop-member-test.true in (
+      c.loop-member.invariant.0,
+      c.loop-member.invariant.1,
+      entering_next _ _ (map string_bytes items) c.loop-member.member-index _ _ c.loop-member.invariant.2 (let l = length-map items string_bytes in omega (arith, l, within)) c.as_str.result.now
+          (c.as_str.ensures.value ∙ ap string_bytes c.member-item.is ∙ sym (get_or-map string_bytes items c.loop-member.member-index c.member-item.result _ within)) _ _ c.in_ok-entered-in-Ok.ensures _ c.in_ok-push-in-Ok.ensures.items,
+    )
 
 pub returns-in_err-entered-in-Ok-clause-names : goal.returns-in_err-entered-in-Ok-clause-names
 returns-in_err-entered-in-Ok-clause-names c = c.loop-member.invariant.0

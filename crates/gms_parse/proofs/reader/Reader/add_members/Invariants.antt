@@ -1,4 +1,4 @@
-use Rattle.std.proofs.Common.{◌≡◌, ℕ, take, map, string_bytes}
+use Rattle.std.proofs.Common.{◌≡◌, take, map, string_bytes}
 use Rattle.gms_parse.proofs.Ranges.{Entering}
 use Rattle.gms_parse.proofs.reader.Reader.add_members.Given as goal
 

@@ -1,4 +1,3 @@
-use Rattle.std.proofs.Common.{refl}
 use Rattle.gms_grammar.specs.GamsGrammar.{Assignment, AfterTarget}
 use Rattle.gms_parse_x.proofs.Signs.{handed_on, answered}
 use Rattle.gms_parse.proofs.Steps.{refuses_the, refuses_first, refuses_second}

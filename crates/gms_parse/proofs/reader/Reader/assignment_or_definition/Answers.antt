@@ -1,4 +1,4 @@
-use Rattle.std.proofs.Common.{◌≡◌, refl, sym, ◌∙◌}
+use Rattle.std.proofs.Common.{sym, ◌∙◌}
 use Rattle.gms_grammar.proofs.Basics.{both_ways}
 use Rattle.gms_parse_x.proofs.Signs.{handed_on, answered}
 use Rattle.gms_parse.proofs.Nexts.{tableless_on}

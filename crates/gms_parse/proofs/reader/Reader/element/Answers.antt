@@ -1,4 +1,4 @@
-use Rattle.std.proofs.Common.{◌≡◌, [], ◌∷◌, ◌++◌, refl, ap, ◌∙◌}
+use Rattle.std.proofs.Common.{[], ◌∷◌, ◌++◌, refl, ap, ◌∙◌}
 use Rattle.std.proofs.lemmas.Slice.{pushed}
 use Rattle.gms_grammar.specs.GamsGrammar.{Element}
 use Rattle.gms_parse_x.proofs.Signs.{handed_on}

@@ -1,4 +1,4 @@
-use Rattle.std.proofs.Common.{◌≡◌, inl, inr, ap, Err}
+use Rattle.std.proofs.Common.{inr, ap, Err}
 use Rattle.gms_labels.specs.declared.fault.LabelFault.{LabelFault}
 use Rattle.gms_parse.proofs.reader.Reader.entered.Goals as goal
 

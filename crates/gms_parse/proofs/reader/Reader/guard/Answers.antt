@@ -1,4 +1,3 @@
-use Rattle.std.proofs.Common.{refl}
 use Rattle.gms_parse_x.proofs.Signs.{handed_on}
 use Rattle.gms_parse.proofs.Steps.{refuses_second, refuses_memory}
 use Rattle.gms_parse.proofs.Nexts.{tableless_on}

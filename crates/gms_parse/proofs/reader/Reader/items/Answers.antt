@@ -1,4 +1,4 @@
-use Rattle.std.proofs.Common.{◌≡◌, [], ◌∷◌, refl}
+use Rattle.std.proofs.Common.{[], ◌∷◌, refl}
 use Rattle.std.proofs.lemmas.Slice.{pushed}
 use Rattle.gms_parse_x.proofs.Signs.{handed_on}
 use Rattle.gms_parse.specs.Meanings.{item_part, items_part}

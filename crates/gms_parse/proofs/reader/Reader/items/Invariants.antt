@@ -1,4 +1,4 @@
-use Rattle.std.proofs.Common.{ℕ, length, ◌-◌}
+use Rattle.std.proofs.Common.{length, ◌-◌}
 use Rattle.gms_parse.specs.Walks.{Walk}
 use Rattle.gms_parse.specs.Readings.{Starts, Tableless}
 use Rattle.gms_parse.specs.Meanings.{IsDeclared, items_part}

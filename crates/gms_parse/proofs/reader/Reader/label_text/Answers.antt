@@ -1,4 +1,4 @@
-use Rattle.std.proofs.Common.{◌≡◌, sym, ap, ◌∙◌, subst}
+use Rattle.std.proofs.Common.{sym, ap, ◌∙◌, subst}
 use Rattle.std.specs.Str.{IsAscii}
 use Rattle.gms_lex.specs.TokenTexts.{unquoted}
 use Rattle.gms_parse.proofs.Ranges.{label_spelled}

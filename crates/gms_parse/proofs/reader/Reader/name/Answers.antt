@@ -1,4 +1,4 @@
-use Rattle.std.proofs.Common.{◌≡◌, refl, sym, ap, ◌∙◌, subst}
+use Rattle.std.proofs.Common.{refl, sym, ◌∙◌, subst}
 use Rattle.std.specs.Str.{IsAscii}
 use Rattle.gms_parse_x.proofs.Signs.{handed_on}
 use Rattle.gms_parse.proofs.Nexts.{refuses_lacking}

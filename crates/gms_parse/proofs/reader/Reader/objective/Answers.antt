@@ -1,5 +1,5 @@
 use Rattle.gms_parse_x.proofs.Signs.{handed_on}
-use Rattle.std.proofs.Common.{◌≡◌, ◌∙◌, ap, refl}
+use Rattle.std.proofs.Common.{◌∙◌, ap, refl}
 use Rattle.gms_grammar.specs.declared.terminal.Terminal.TheVariants.{Direction}
 use Rattle.gms_parse.specs.Statements.{is_maximizing}
 use Rattle.gms_parse.proofs.Steps.{refuses_first, refuses_second}

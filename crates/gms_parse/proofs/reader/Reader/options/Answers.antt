@@ -1,5 +1,5 @@
 use Rattle.gms_parse_x.proofs.Signs.{handed_on}
-use Rattle.std.proofs.Common.{◌≡◌, [], ◌∷◌, refl, ap, ◌∙◌}
+use Rattle.std.proofs.Common.{[], ◌∷◌, refl, ap, ◌∙◌}
 use Rattle.std.proofs.lemmas.Slice.{pushed}
 use Rattle.gms_grammar.specs.GamsGrammar.{OptionStatement}
 use Rattle.gms_grammar.specs.Terminals.{is}
@@ -7,7 +7,7 @@ use Rattle.gms_grammar.specs.declared.terminal.Terminal.TheVariants.{Option}
 use Rattle.gms_parse.proofs.Steps.{refuses_the, refuses_first, refuses_second, refuses_memory}
 use Rattle.gms_parse.proofs.Nexts.{falls, refuses_lacking, gives_exact, begun_has}
 use Rattle.gms_parse.proofs.Listing.{listing_start, listing_on, listing_got, listing_refuses, separated_stays}
-use Rattle.gms_parse.proofs.Acts.{options_got, has_setting, setting_walk}
+use Rattle.gms_parse.proofs.Acts.{options_got, has_setting}
 use Rattle.gms_parse.proofs.reader.Reader.options.Goals as goal
 
 pub returns-in_err-start : goal.returns-in_err-start

@@ -1,4 +1,4 @@
-use Rattle.std.proofs.Common.{◌≡◌, ℕ, true, length, ◌-◌}
+use Rattle.std.proofs.Common.{◌≡◌, true, length, ◌-◌}
 use Rattle.gms_grammar.specs.Grammar.{the}
 use Rattle.gms_grammar.specs.GamsGrammar.{Setting}
 use Rattle.gms_grammar.specs.Terminals.{is}

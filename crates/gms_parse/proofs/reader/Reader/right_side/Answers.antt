@@ -1,12 +1,10 @@
-use Rattle.std.proofs.Common.{refl, ap, ◌∙◌}
-use Rattle.gms_ast.specs.StatementTrees.{assigns}
-use Rattle.gms_ast.specs.StatementView.{shown_target, shown_tree}
+use Rattle.std.proofs.Common.{refl}
 use Rattle.gms_grammar.specs.declared.terminal.Terminal.TheVariants.{Equals}
 use Rattle.gms_parse_x.proofs.Signs.{handed_on}
 use Rattle.gms_parse.proofs.Views.{assign_shown}
 use Rattle.gms_parse.proofs.Ends.{behind_within}
 use Rattle.gms_parse.proofs.Steps.{refuses_first, refuses_second}
-use Rattle.gms_parse.proofs.Nexts.{past, gives_exact, plain_starts, kind_stays, tableless_on, refuses_lacking}
+use Rattle.gms_parse.proofs.Nexts.{gives_exact, plain_starts, kind_stays, tableless_on, refuses_lacking}
 use Rattle.gms_parse.proofs.Assigning.{right_side_got}
 use Rattle.gms_parse.proofs.reader.Reader.right_side.Goals as goal
 

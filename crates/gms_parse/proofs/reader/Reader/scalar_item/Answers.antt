@@ -1,4 +1,4 @@
-use Rattle.std.proofs.Common.{ap, map, ◌∙◌, []}
+use Rattle.std.proofs.Common.{ap, map, ◌∙◌}
 use Rattle.gms_ast.specs.StatementView.{item_in}
 use Rattle.gms_grammar.specs.GamsGrammar.{ScalarItem}
 use Rattle.gms_parse_x.proofs.Signs.{handed_on}

@@ -1,6 +1,5 @@
 use Rattle.gms_parse_x.proofs.Signs.{handed_on}
-use Rattle.std.proofs.Common.{◌≡◌, ◌∙◌, sym, ap, ap₂, refl}
-use Rattle.gms_ast.specs.declared.word.Word.{Word}
+use Rattle.std.proofs.Common.{◌∙◌, ap}
 use Rattle.gms_parse_x.specs.ExpressionTrees.{unquoted}
 use Rattle.gms_parse.proofs.Steps.{refuses_memory}
 use Rattle.gms_parse.proofs.Acts.{text_got, symbol_got, symbol_unnamed, symbol_refused}

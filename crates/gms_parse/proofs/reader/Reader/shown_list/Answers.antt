@@ -1,5 +1,5 @@
 use Rattle.gms_parse_x.proofs.Signs.{handed_on}
-use Rattle.std.proofs.Common.{◌≡◌, [], ◌∷◌, refl}
+use Rattle.std.proofs.Common.{[], ◌∷◌, refl}
 use Rattle.std.proofs.lemmas.Slice.{pushed}
 use Rattle.gms_grammar.specs.GamsGrammar.{ShownList}
 use Rattle.gms_parse.proofs.Steps.{refuses_the, refuses_first, refuses_memory}

@@ -1,11 +1,7 @@
-use Rattle.std.proofs.Common.{refl, ap₂, ap, ◌∙◌, option_map}
-use Rattle.gms_labels.specs.declared.place.Place.{Place}
-use Rattle.gms_ast.specs.StatementTrees.{defines}
-use Rattle.gms_ast.specs.StatementView.{shown_target, shown_tree, shown_indices}
+use Rattle.std.proofs.Common.{refl}
 use Rattle.gms_grammar.specs.GamsGrammar.{Sides}
 use Rattle.gms_grammar.specs.declared.terminal.Terminal.TheVariants.{Sense}
 use Rattle.gms_parse_x.proofs.Signs.{handed_on}
-use Rattle.gms_parse.specs.Statements.{side_of}
 use Rattle.gms_parse.proofs.Views.{define_shown}
 use Rattle.gms_parse.proofs.Ends.{behind_within}
 use Rattle.gms_parse.proofs.Steps.{refuses_the, refuses_first, refuses_second}

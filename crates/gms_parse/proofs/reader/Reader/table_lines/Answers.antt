@@ -1,4 +1,4 @@
-use Rattle.std.proofs.Common.{◌≡◌, ◌∙◌, refl, ap, sym, subst, arith, length}
+use Rattle.std.proofs.Common.{◌∙◌, refl, ap, sym, subst, arith, length}
 use Rattle.std.specs.Str.{IsAscii}
 use Rattle.gms_parse.proofs.Nexts.{falls}
 use Rattle.gms_parse.proofs.TableSteps.{line_spelled, lines_start, lines_more, lines_end}

@@ -1,9 +1,9 @@
 use Rattle.gms_parse_x.proofs.Signs.{handed_on}
-use Rattle.std.proofs.Common.{◌≡◌, [], ◌∷◌, ◌∙◌, refl, ap, sym}
+use Rattle.std.proofs.Common.{[], ◌∷◌, ◌∙◌, refl, ap}
 use Rattle.std.proofs.lemmas.Slice.{pushed}
 use Rattle.gms_grammar.specs.GamsGrammar.{TableStatement}
 use Rattle.gms_grammar.specs.Terminals.{is}
-use Rattle.gms_grammar.specs.declared.terminal.Terminal.TheVariants.{Table, Option}
+use Rattle.gms_grammar.specs.declared.terminal.Terminal.TheVariants.{Option}
 use Rattle.gms_parse.proofs.Steps.{refuses_the, refuses_first, refuses_second, refuses_memory}
 use Rattle.gms_parse.proofs.Nexts.{refuses_lacking, gives_exact}
 use Rattle.gms_parse.proofs.TableSteps.{table_starts, table_refused, items_refused, table_read}
