@@ -1,5 +1,5 @@
 -- What a call answers, as what the definitions give.
-use Rattle.std.specs.Prelude.{◌≡◌, ℕ, Result, Ok, Err}
+use Rattle.std.specs.Prelude.{◌≡◌, Result, Ok, Err}
 use Rattle.gq_number.specs.Number.{Number}
 use Rattle.gq_extended.specs.Meaning.{extended}
 use Rattle.gms_eval.specs.declared.stop.ExecStop.{ExecStop}
