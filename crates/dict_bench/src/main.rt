@@ -1,7 +1,6 @@
 //! Pivots transport programs by Bland's rule and prints how many pivots they took; `bench/dict` runs it and times it.
 #![tactic(auto)]
 
-mod transport;
 mod walk;
 
 use gq_field::{ExactField, Half};
@@ -30,7 +29,7 @@ fn field_named(name: &str) -> Option<Field> {
 
 /// The walk of the transport program with so many plants and markets.
 fn walk_of<F: ExactField>(alloc: Global, plants: u32) -> Result<Option<Tally>, AllocError> {
-    let lp = transport::program::<F>(alloc, plants)?;
+    let lp = lp_transport::program::<F>(alloc, plants, 1)?;
     walk::walked(alloc, &lp)
 }
 

@@ -60,9 +60,11 @@ struct Data {
     costs: Vec<u64>,
 }
 
-/// Data for so many plants and as many markets.
-fn drawn(alloc: Global, plants: u32) -> Result<Data, AllocError> {
-    let mut draws = Draws { state: 1 };
+/// Data for so many plants and as many markets, drawn from this seed.
+fn drawn(alloc: Global, plants: u32, seed: u32) -> Result<Data, AllocError> {
+    let mut draws = Draws {
+        state: u64::from(seed),
+    };
     let mut demands = Vec::new(alloc);
     let mut total: u64 = 0;
     for _ in 0..plants {
@@ -117,9 +119,9 @@ fn sum_row<F: ExactField>(
     Ok(row(alloc, symbol, sense, right, entries))
 }
 
-/// The program with so many plants and as many markets: least z, the cost of what is brought.
-pub fn program<F: ExactField>(alloc: Global, plants: u32) -> Result<Lp<F>, AllocError> {
-    let data = drawn(alloc, plants)?;
+/// The program with so many plants and as many markets, its data drawn from this seed: least z, the cost of what is brought.
+pub fn program<F: ExactField>(alloc: Global, plants: u32, seed: u32) -> Result<Lp<F>, AllocError> {
+    let data = drawn(alloc, plants, seed)?;
     let mut columns = Vec::new(alloc);
     let mut symbol: u32 = 0;
     for _ in &data.costs {
