@@ -1,0 +1,54 @@
+-- What the statements of a run show (GAMS User's Guide, "GAMS Output", "The Display Statement", "Model and Solve Statements").
+use Rattle.std.specs.Prelude.{ℕ, Bool, List, Option}
+use Rattle.gq_number.specs.Number.{Number}
+use Rattle.gq_extended.specs.Extended.{Extended}
+use Rattle.gms_ast.specs.declared.expression.Suffix.{Suffix}
+use Rattle.gms_store.specs.declared.kind.SymbolKind.{SymbolKind}
+use Rattle.gms_store.specs.declared.settings.Settings.{Settings}
+use Rattle.gms_eval.specs.Faults.{Fault}
+use Rattle.lp_core.specs.declared.program.Lp.{Lp}
+
+-- What is shown for an item of a `display` or an `abort`: a text, or the values of a symbol.
+pub record Shown : Type 0 where
+  -- the text, empty for a symbol
+  pub text : List ℕ
+  -- the symbol, by the number of its name
+  pub name : Option ℕ
+  -- what the symbol is
+  pub kind : SymbolKind
+  -- which of its values are shown
+  pub suffix : Suffix
+  -- whether the symbol has indices
+  pub indexed : Bool
+  -- the tuples with their values, those that are 0 left out where the symbol has indices
+  pub entries : List (List ℕ × Extended)
+  -- with how many decimals numbers are shown
+  pub decimals : ℕ
+
+-- What a solve shows.
+pub record Solved : Type 0 where
+  -- the line of the statement
+  pub line : ℕ
+  -- the model, by the number of its name
+  pub model : ℕ
+  -- the equations of the model, in order
+  pub equations : List ℕ
+  -- the linear program
+  pub lp : Lp Number
+  -- the place of the answer among those of the run
+  pub answer : ℕ
+  -- the name of the solver
+  pub solver : List ℕ
+  pub settings : Settings
+  -- the level of the objective after the solve
+  pub objective_level : Number
+
+-- What a statement shows, or why the run stops.
+pub data Event : Type 0 where
+  -- a display: the line of its statement, and its items
+  displays : ℕ → List Shown → Event
+  solves : Solved → Event
+  -- an abort: the line of its statement, and its items
+  aborts : ℕ → List Shown → Event
+  -- the run stops
+  stops : Fault → Event

@@ -1,0 +1,6 @@
+//! Events: what a run shows, statement by statement.
+#![tactic(auto)]
+
+mod event;
+
+pub use event::{Event, Shown};
