@@ -1,1 +1,4 @@
-pub mod FirstFile
+mod FirstFile
+pub mod Calmness
+pub mod Fronts
+mod Spools

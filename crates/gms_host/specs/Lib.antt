@@ -3,3 +3,4 @@ pub mod Rules
 pub mod Counts
 pub mod MemoryState
 pub mod RealState
+pub mod Spooling

@@ -1,7 +1,7 @@
 -- A host of files in memory: what its caller may know of it, and what each of its calls leaves.
-use Rattle.std.specs.Prelude.{ℕ, Bool, true, false, List, [], ◌∷◌, ◌++◌, length, ◌==◌, map, take, drop, unwrap_or, Some, Result, Ok, Err, String, Vec, string_bytes, Contains, refl}
+use Rattle.std.specs.Prelude.{ℕ, Bool, true, false, List, [], ◌∷◌, ◌++◌, length, ◌==◌, map, take, drop, unwrap_or, min, Option, Some, None, Result, Ok, Err, String, Vec, string_bytes, Contains, refl}
 use Rattle.std.specs.declared.alloc.Global.{Global}
-use Rattle.std.specs.Coded.{Coded, code_by, coded×, coded_ℕ, coded_bool, coded_list}
+use Rattle.std.specs.Coded.{Coded, code_by, coded×, coded_ℕ, coded_bool, coded_list, coded_option}
 use Rattle.std.specs.FinMap as finite
 use Rattle.gms_host.specs.declared.host.Failed.{Failed}
 use Rattle.gms_host.specs.declared.host.Failed.TheVariants.{Fault, Memory}
@@ -14,6 +14,8 @@ pub record MemoryState : Type 0 where
   pub files : Files
   -- the numbers of the calls that are to fail
   pub failing : List ℕ
+  -- how many bytes a call reads, writes or says at most, where there is a bound
+  pub most : Option ℕ
   -- the number of the next call
   pub calls : ℕ
   -- what the opened input still gives
@@ -40,22 +42,23 @@ bytes_code = coded_list coded_ℕ
 -- a state is stored as its fields, in pairs
 abbrev pub state_code : Coded MemoryState
 state_code =
-    code_by (Files × (List ℕ × (ℕ × (List ℕ × (List ℕ × (List ℕ × (List (List ℕ) × (Bool × (Bool × (ℕ × ℕ))))))))))
-    (coded× (finite.code bytes_code bytes_code) (coded× bytes_code (coded× coded_ℕ (coded× bytes_code (coded× bytes_code (coded× bytes_code
-    (coded× (coded_list bytes_code) (coded× coded_bool (coded× coded_bool (coded× coded_ℕ coded_ℕ))))))))))
-    (λ m. (m.files, (m.failing, (m.calls, (m.input, (m.output, (m.said, (m.asked, (m.reading, (m.writing, (m.read_faults, m.write_faults)))))))))))
+    code_by (Files × (List ℕ × (Option ℕ × (ℕ × (List ℕ × (List ℕ × (List ℕ × (List (List ℕ) × (Bool × (Bool × (ℕ × ℕ)))))))))))
+    (coded× (finite.code bytes_code bytes_code) (coded× bytes_code (coded× (coded_option coded_ℕ) (coded× coded_ℕ (coded× bytes_code (coded× bytes_code (coded× bytes_code
+    (coded× (coded_list bytes_code) (coded× coded_bool (coded× coded_bool (coded× coded_ℕ coded_ℕ)))))))))))
+    (λ m. (m.files, (m.failing, (m.most, (m.calls, (m.input, (m.output, (m.said, (m.asked, (m.reading, (m.writing, (m.read_faults, m.write_faults))))))))))))
     (λ p. record {
       files = p.0;
       failing = p.1.0;
-      calls = p.1.1.0;
-      input = p.1.1.1.0;
-      output = p.1.1.1.1.0;
-      said = p.1.1.1.1.1.0;
-      asked = p.1.1.1.1.1.1.0;
-      reading = p.1.1.1.1.1.1.1.0;
-      writing = p.1.1.1.1.1.1.1.1.0;
-      read_faults = p.1.1.1.1.1.1.1.1.1.0;
-      write_faults = p.1.1.1.1.1.1.1.1.1.1;
+      most = p.1.1.0;
+      calls = p.1.1.1.0;
+      input = p.1.1.1.1.0;
+      output = p.1.1.1.1.1.0;
+      said = p.1.1.1.1.1.1.0;
+      asked = p.1.1.1.1.1.1.1.0;
+      reading = p.1.1.1.1.1.1.1.1.0;
+      writing = p.1.1.1.1.1.1.1.1.1.0;
+      read_faults = p.1.1.1.1.1.1.1.1.1.1.0;
+      write_faults = p.1.1.1.1.1.1.1.1.1.1.1;
     })
     (λ _. refl)
 
@@ -68,6 +71,7 @@ abbrev pub at_start : Files → List ℕ → MemoryState
 at_start files failing = record {
   files = files;
   failing = failing;
+  most = None;
   calls = 0;
   input = [];
   output = [];
@@ -78,6 +82,14 @@ at_start files failing = record {
   read_faults = 0;
   write_faults = 0;
 }
+
+-- the same, of which each call reads, writes or says at most so many bytes
+abbrev pub in_pieces_of : ℕ → MemoryState → MemoryState
+in_pieces_of most m = record m { most = Some most }
+
+-- how many of so many bytes go in one call
+abbrev pub piece : MemoryState → ℕ → ℕ
+piece m count = elim m.most [ None ↦ count | Some most ↦ min count most ]
 
 -- a host of files in memory tells all of itself, counts precisely, and is reliable exactly where no call is to fail
 abbrev pub meaning_of : MemoryState → Meaning

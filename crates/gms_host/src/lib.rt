@@ -4,10 +4,12 @@
 mod host;
 mod memory;
 mod real;
+mod spool;
 
 pub use host::{Failed, Host};
 pub use memory::MemHost;
 pub use real::RealHost;
+pub use spool::Spool;
 
 #[cfg(test)]
 mod tests;

@@ -1,7 +1,7 @@
 //! A host over files in memory, whose calls fail where its maker says so.
-ghost use Rattle.std.specs.Prelude.{◌≡◌, ◌≢◌, ◌<◌, ◌↔◌, ◌⊎◌, ◌++◌, true, IsSome, map, min, take, drop, length, option_map, string_bytes, Contains, IsNone, IsTrue, IfOk, OnOk, OnErr, IsErrOf};
+ghost use Rattle.std.specs.Prelude.{◌≡◌, ◌≢◌, ◌<◌, ◌↔◌, ◌⊎◌, ◌++◌, [], true, IsSome, map, min, take, drop, length, option_map, string_bytes, Contains, IsNone, IsTrue, IfOk, OnOk, OnErr, IsErrOf};
 ghost use Rattle.std.specs.FinMap as finite;
-ghost use Rattle.gms_host.specs.MemoryState.{files_of, at_start, numbered, with_read_fault, with_write_fault, meaning_of, IsToFail, after_open_in, after_read, after_open_out, after_write, after_close_out, after_say};
+ghost use Rattle.gms_host.specs.MemoryState.{files_of, at_start, in_pieces_of, piece, numbered, with_read_fault, with_write_fault, meaning_of, IsToFail, after_open_in, after_read, after_open_out, after_write, after_close_out, after_say};
 
 use crate::host::{Failed, Host};
 use std::alloc::Global;
@@ -17,6 +17,7 @@ pub struct MemHost {
     alloc: Global,
     files: Vec<(String, Vec<u8>)>,
     failing: Vec<u64>,
+    most: Option<u32>,
     calls: u64,
     input: Vec<u8>,
     given: usize,
@@ -30,7 +31,7 @@ pub struct MemHost {
 }
 
 impl Model for MemHost {
-    ghost use Rattle.std.specs.Prelude.{◌≤◌, drop, length, map, string_bytes};
+    ghost use Rattle.std.specs.Prelude.{◌≤◌, ◌<◌, IfSome, drop, length, map, string_bytes};
     ghost use Rattle.gms_host.specs.MemoryState.{MemoryState, state_code, files_of};
 
     ghost Value = { MemoryState };
@@ -40,6 +41,7 @@ impl Model for MemHost {
     ghost view = { λ h. record {
       files = files_of h.files.items;
       failing = h.failing.items;
+      most = h.most;
       calls = h.calls;
       input = drop h.given h.input.items;
       output = h.output.items;
@@ -51,7 +53,7 @@ impl Model for MemHost {
       write_faults = h.write_faults;
     } };
 
-    ghost invariant = { λ h. h.given ≤ length h.input.items };
+    ghost invariant = { λ h. (h.given ≤ length h.input.items) × IfSome h.most (λ most. 0 < most) };
 }
 
 impl MemHost {
@@ -64,6 +66,7 @@ impl MemHost {
             alloc,
             files,
             failing: fail,
+            most: None,
             calls: 0,
             input: Vec::new(alloc),
             given: 0,
@@ -74,6 +77,22 @@ impl MemHost {
             writing: false,
             read_faults: 0,
             write_faults: 0,
+        }
+    }
+
+    /// A host as `new` makes it, that reads, writes and says at most so many bytes a call.
+    pub fn in_pieces(
+        alloc: Global,
+        files: Vec<(String, Vec<u8>)>,
+        fail: Vec<u64>,
+        most: u32,
+    ) -> MemHost
+        requires { 0 < most }
+        ensures { result ≡ in_pieces_of most (at_start (files_of files.items) fail.items) }
+    {
+        MemHost {
+            most: Some(most),
+            ..MemHost::new(alloc, files, fail)
         }
     }
 
@@ -113,6 +132,16 @@ impl MemHost {
         let number = self.calls;
         self.calls = number.saturating_add(1);
         self.failing.contains(&number)
+    }
+
+    /// How many of so many bytes go in one call.
+    fn piece(&self, count: usize) -> usize
+        ensures { result ≡ piece self.now count }
+    {
+        match self.most {
+            Some(most) => count.min(most as usize),
+            None => count,
+        }
     }
 
     /// Counts a fault of reading.
@@ -163,14 +192,15 @@ impl Host for MemHost {
         Ok(())
     }
 
-    /// Gives as many bytes as are left and fit, and leaves the rest of the buffer.
+    /// Gives as many bytes as are left and fit, and go in one call, and leaves the rest of the buffer.
     ///
     /// It is a fault exactly where the call is to fail, and takes no memory. Then nothing is given.
     fn read(&mut self, into: &mut [u8]) -> Result<usize, Failed>
         requires open { self.old.reading ≡ true }
         requires room { 0 < length into.old }
         ensures after { self.new ≡ after_read self.old result }
-        ensures count { IfOk result (λ count. count ≡ min (length into.old) (length self.old.input)) }
+        ensures count { IfOk result (λ count. count ≡ piece self.old (min (length into.old) (length self.old.input))) }
+        ensures end { IfOk result (λ count. count ≡ 0 → self.old.input ≡ []) }
         ensures given { IfOk result (λ count. into.new ≡ take count self.old.input ++ drop count into.old) }
         ensures kept { OnErr result (into.new ≡ into.old) }
         ensures exact { IsErrOf result Failed.Fault ↔ IsToFail self.old }
@@ -181,7 +211,7 @@ impl Host for MemHost {
             return Err(self.read_fault());
         }
         let rest = &self.input[self.given..];
-        let count = into.len().min(rest.len());
+        let count = self.piece(into.len().min(rest.len()));
         into[..count].copy_from_slice(&rest[..count]);
         self.given += count;
         Ok(count)
@@ -205,21 +235,23 @@ impl Host for MemHost {
         Ok(())
     }
 
-    /// Adds all the bytes to the output.
+    /// Adds the first bytes to the output, as many as go in one call.
     ///
     /// It is a fault exactly where the call is to fail. Where it fails nothing is added.
     fn write(&mut self, from: &[u8]) -> Result<usize, Failed>
         requires open { self.old.writing ≡ true }
         requires some { 0 < length from.now }
         ensures after { self.new ≡ after_write self.old from.now result }
-        ensures count { IfOk result (λ count. count ≡ length from.now) }
+        ensures count { IfOk result (λ count. count ≡ piece self.old (length from.now)) }
+        ensures some { IfOk result (λ count. 0 < count) }
         ensures exact { IsErrOf result Failed.Fault ↔ IsToFail self.old }
     {
         if self.begin_call() {
             return Err(self.write_fault());
         }
-        self.output.extend_from_slice(from)?;
-        Ok(from.len())
+        let count = self.piece(from.len());
+        self.output.extend_from_slice(&from[..count])?;
+        Ok(count)
     }
 
     /// Closes the output, whose bytes stand.
@@ -238,20 +270,22 @@ impl Host for MemHost {
         Ok(())
     }
 
-    /// Adds all the bytes to standard output.
+    /// Adds the first bytes to standard output, as many as go in one call.
     ///
     /// It is a fault exactly where the call is to fail. Where it fails nothing is added.
     fn say(&mut self, from: &[u8]) -> Result<usize, Failed>
         requires { 0 < length from.now }
         ensures after { self.new ≡ after_say self.old from.now result }
-        ensures count { IfOk result (λ count. count ≡ length from.now) }
+        ensures count { IfOk result (λ count. count ≡ piece self.old (length from.now)) }
+        ensures some { IfOk result (λ count. 0 < count) }
         ensures exact { IsErrOf result Failed.Fault ↔ IsToFail self.old }
     {
         if self.begin_call() {
             return Err(self.write_fault());
         }
-        self.said.extend_from_slice(from)?;
-        Ok(from.len())
+        let count = self.piece(from.len());
+        self.said.extend_from_slice(&from[..count])?;
+        Ok(count)
     }
 }
 

@@ -1,5 +1,7 @@
 //! That calls succeed with ample memory, and which calls of a host in memory fail.
-use crate::{Failed, Host, MemHost, RealHost};
+ghost use Rattle.std.specs.Prelude.{◌<◌};
+
+use crate::{Failed, Host, MemHost, RealHost, Spool};
 use std::alloc::{AllocError, Global};
 use std::fs;
 use std::test::Fail;
@@ -109,5 +111,64 @@ fn reads_files_of_every_small_size(rt: HostRuntime) -> Result<(), Fail> {
         host.open_in(name.as_str())?;
         assert_eq!(rt; host.read(&mut buffer), Ok(length), "{length}");
     }
+    Ok(())
+}
+
+#[test]
+fn reads_and_writes_in_pieces(rt: HostRuntime) -> Result<(), Fail> {
+    let alloc = rt.alloc();
+    let mut files = Vec::new(alloc);
+    let bytes = Vec::from_slice(alloc, b"first")?;
+    files.push((String::from_str(alloc, "a")?, bytes))?;
+    let mut host = MemHost::in_pieces(alloc, files, Vec::new(alloc), 2);
+    let mut buffer = [0u8; 8];
+    host.open_in("a")?;
+    assert_eq!(rt; host.read(&mut buffer)?, 2);
+    assert_eq!(rt; host.read(&mut buffer)?, 2);
+    assert_eq!(rt; host.read(&mut buffer)?, 1);
+    assert_eq!(rt; host.read(&mut buffer)?, 0);
+    host.open_out("c")?;
+    assert_eq!(rt; host.write(b"bytes")?, 2);
+    assert_eq!(rt; host.write(b"t")?, 1);
+    assert_eq!(rt; host.say(b"done")?, 2);
+    assert_eq!(rt; host.output(), b"byt".as_slice());
+    assert_eq!(rt; host.said(), b"do".as_slice());
+    Ok(())
+}
+
+/// What stands in the output after texts of a length were put into a spool, at two places of its room.
+fn spooled(alloc: Global, length: usize, pieces: u32) -> Result<usize, Fail>
+    requires { 0 < pieces }
+{
+    let mut host = MemHost::in_pieces(alloc, Vec::new(alloc), Vec::new(alloc), pieces);
+    host.open_out("a")?;
+    let text = "n".repeat(alloc, length)?;
+    let mut spool = Spool::new(alloc)?;
+    spool.put(&mut host, text.as_bytes())?;
+    spool.put(&mut host, text.as_bytes())?;
+    spool.flush(&mut host)?;
+    Ok(host.output().len())
+}
+
+#[test]
+fn spools_texts_around_its_room(rt: HostRuntime) -> Result<(), Fail> {
+    let alloc = rt.alloc();
+    for length in [0usize, 1, 2, 2047, 2048, 2049, 4095, 4096, 4097, 9000] {
+        assert_eq!(rt; spooled(alloc, length, 4096)?, 2 * length, "{length}");
+        assert_eq!(rt; spooled(alloc, length, 1000)?, 2 * length, "{length}");
+    }
+    Ok(())
+}
+
+#[test]
+fn a_spool_that_fails_has_nothing_pending(rt: HostRuntime) -> Result<(), Fail> {
+    let alloc = rt.alloc();
+    let mut host = MemHost::new(alloc, Vec::new(alloc), Vec::from_slice(alloc, &[1])?);
+    host.open_out("a")?;
+    let mut spool = Spool::new(alloc)?;
+    spool.put(&mut host, b"text")?;
+    assert_eq!(rt; spool.flush(&mut host), Err(Failed::Fault));
+    spool.flush(&mut host)?;
+    assert_eq!(rt; host.output(), b"".as_slice());
     Ok(())
 }
