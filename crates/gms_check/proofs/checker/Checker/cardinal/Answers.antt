@@ -1,0 +1,22 @@
+use Rattle.std.proofs.Common.{◌≡◌, ◌∙◌, ap, sym, refl, Bool, [], ◌∷◌, not, ◌&&◌, ◌||◌}
+use Rattle.gms_check.specs.Checking.{Checking, faulted, seen}
+use Rattle.gms_known.specs.Names.{is_set_name, is_unknown}
+use Rattle.gms_check.specs.declared.error.ErrorKind.TheVariants.{UnknownName, WrongKind}
+use Rattle.gms_check.specs.Uses.{cardinal}
+use Rattle.gms_check.proofs.Noting.{alone, and-false, and-true, chain-2, not-and, noted-by}
+use Rattle.gms_check.proofs.checker.Checker.cardinal.Goals as goal
+use Rattle.gms_check.proofs.checker.Checker.cardinal.Goals.{then-standing, else-standing}
+
+pub returns : goal.returns
+returns g c =
+    let facts = c.args.self.now.known in
+    let s = seen c.args.self.now in
+    let set = is_set_name facts.state c.args.set in
+    let unknown = is_unknown facts.state c.args.set in
+    let wrong = not c.args.standing.numbers || not set in
+    let stands : c.if-standing.stands ≡ (c.args.standing.numbers && set) = elim c.if-standing.branch [
+      | then-standing w ↦ and-true c.args.standing.numbers set _ _ w.stands-is w.is_set-stands.ensures w.if-standing.true
+      | else-standing w ↦ and-false c.args.standing.numbers set _ w.stands-is w.if-standing.false
+    ] in
+    noted-by g.F.ExactField.value s _ c.args.at (cardinal c.args.standing c.args.set) ((unknown, UnknownName) ∷ (wrong, WrongKind) ∷ []) (alone c.args.at unknown UnknownName ((wrong, WrongKind) ∷ []))
+    (chain-2 c.args.at s _ _ _ _ c.require_known.ensures (c.require.ensures ∙ ap (λ b. faulted (seen c.require_known.new.self) c.args.at ((b, WrongKind) ∷ [])) (ap not stands ∙ not-and c.args.standing.numbers set)))

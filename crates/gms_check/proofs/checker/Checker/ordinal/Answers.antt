@@ -1,0 +1,25 @@
+use Rattle.std.proofs.Common.{◌≡◌, ◌∙◌, ap, sym, refl, Bool, List, ℕ, [], ◌∷◌, not, ◌&&◌, ◌||◌}
+use Rattle.gms_check.specs.Checking.{Checking, faulted, seen}
+use Rattle.gms_known.specs.Facts.{is_ordered}
+use Rattle.gms_known.specs.Names.{is_set_name, is_unknown}
+use Rattle.gms_check.specs.declared.error.ErrorKind.TheVariants.{UnknownName, WrongKind, Uncontrolled, NotOrdered}
+use Rattle.gms_check.specs.Past.{is_among}
+use Rattle.gms_check.specs.Uses.{cardinal, ordinal}
+use Rattle.gms_check.proofs.Noting.{alone, faulted-by, faulted-then, noted-by}
+use Rattle.gms_check.proofs.checker.Checker.ordinal.Goals as goal
+
+pub returns : goal.returns
+returns g c =
+    let facts = c.args.self.now.known in
+    let s = seen c.args.self.now in
+    let at = c.args.at in
+    let unknown = is_unknown facts.state c.args.set in
+    let wrong = not c.args.standing.numbers || not (is_set_name facts.state c.args.set) in
+    let free = not (is_among s.controlled c.args.set) in
+    let unordered = not (is_ordered facts c.args.set) in
+    noted-by g.F.ExactField.value s _ at (ordinal c.args.standing s.controlled c.args.set) ((unknown, UnknownName) ∷ (wrong, WrongKind) ∷ (free, Uncontrolled) ∷ (unordered, NotOrdered) ∷ []) (alone at unknown UnknownName ((wrong, WrongKind) ∷ (free, Uncontrolled) ∷ (unordered, NotOrdered) ∷ []))
+    (faulted-then at s _ _ ((unknown, UnknownName) ∷ (wrong, WrongKind) ∷ (free, Uncontrolled) ∷ []) ((unordered, NotOrdered) ∷ [])
+    (faulted-then at s _ _ ((unknown, UnknownName) ∷ (wrong, WrongKind) ∷ []) ((free, Uncontrolled) ∷ [])
+    (faulted-by g.F.ExactField.value s _ at (cardinal c.args.standing c.args.set) ((unknown, UnknownName) ∷ (wrong, WrongKind) ∷ []) (sym (alone at unknown UnknownName ((wrong, WrongKind) ∷ []))) c.cardinal.ensures)
+    (c.require.ensures ∙ ap (λ b. faulted (seen c.cardinal.new.self) at ((not b, Uncontrolled) ∷ [])) (c.is_controlled-controlled.ensures ∙ ap (λ (controlled : List ℕ). is_among controlled c.args.set) c.deref.ensures.value)))
+    (c.require-2.ensures ∙ ap (λ b. faulted (seen c.require.new.self) at ((not b, NotOrdered) ∷ [])) c.is_ordered-ordered.ensures))

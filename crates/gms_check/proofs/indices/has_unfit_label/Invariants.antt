@@ -1,0 +1,10 @@
+use Rattle.std.proofs.Common.{◌≡◌, ◌==◌, not, drop, take, ℕ}
+use Rattle.std.specs.List.{list_any}
+use Rattle.gms_known.specs.Facts.{names}
+use Rattle.gms_known.specs.Names.{positions}
+use Rattle.gms_check.specs.IndexList.{have_unfit_label}
+use Rattle.gms_check.specs.StatementUses.{index_list}
+use Rattle.gms_check.proofs.indices.has_unfit_label.Given as goal
+
+abbrev pub invariant-loop-place : goal.invariant-loop-place
+invariant-loop-place g l = have_unfit_label l.known.state (names l.known) l.name (drop l.place (positions l.known.state l.name)) (index_list (drop l.place l.indices)) ≡ have_unfit_label l.known.state (names l.known) l.name (positions l.known.state l.name) (index_list l.indices)

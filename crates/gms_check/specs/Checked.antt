@@ -1,0 +1,64 @@
+-- What holds of a program without compile errors: its references name what is declared, have as many indices as declared, and
+-- their index sets are controlled and, where they have a lag, ordered.
+use Rattle.std.specs.Prelude.{ℕ, ◌≡◌, ◌≤◌, true, false, List, [], ◌∷◌, ◌++◌, length, map, Option, None, All}
+use Rattle.gq_number.specs.Number.{Number}
+use Rattle.gms_labels.specs.declared.place.Place.{Place}
+use Rattle.gms_ast.specs.declared.expression.Suffix.{Suffix}
+use Rattle.gms_ast.specs.declared.program.Stmt.{Stmt}
+use Rattle.gms_ast.specs.declared.program.Program.{Program}
+use Rattle.gms_ast.specs.Trees.{Indices}
+use Rattle.gms_check.specs.declared.standing.Standing.{Standing}
+use Rattle.gms_check.specs.Standing.{may_stand, may_be_assigned}
+use Rattle.gms_check.specs.Uses.{Use, Uses, reading, ordinal, cardinal, controlling, assigning, defining, index_sets}
+use Rattle.gms_check.specs.StatementUses.{statement_uses}
+use Rattle.gms_check.specs.Past.{Known, is_among}
+use Rattle.gms_known.specs.Names.{is_equation, is_index_set, is_set_name, is_unknown, kind_of, positions}
+use Rattle.gms_check.specs.Domains.{index_count, has_unfit_set, has_unfit_label}
+use Rattle.gms_check.specs.Controls.{lagged_sets, is_controlled_twice, is_ordered}
+use Rattle.gms_check.specs.declared.error.ErrorKind.{ErrorKind}
+use Rattle.gms_check.specs.CompileErrors.{compile_errors, has_error, known_after}
+use Rattle.gms_check.specs.Loaded.{sound}
+
+module _ {F : Type 0} where
+  -- Indices that go with a name: they are as many as its positions, and at most 10; each set is one-dimensional and below its position's set, and each label is in it; a set with a lag is ordered.
+  pub record AreIndices (known : Known F) (name : ℕ) (indices : Indices F) : Type 0 where
+    pub count : index_count indices ≡ length (positions known.state name)
+    pub few : index_count indices ≤ 10
+    pub sets : All (λ index. is_index_set known.state index ≡ true) (index_sets indices)
+    pub below : has_unfit_set known name (positions known.state name) indices ≡ false
+    pub labels : has_unfit_label known name (positions known.state name) indices ≡ false
+    pub ordered : All (λ index. is_ordered known index ≡ true) (lagged_sets indices)
+
+  -- A reference that has a meaning: its name is declared and may stand there, its indices go with it, and each index set is controlled.
+  pub record IsReading (known : Known F) (standing : Standing) (controlled : List ℕ) (name : ℕ) (suffix : Suffix) (indices : Indices F) : Type 0 where
+    pub declared : is_unknown known.state name ≡ false
+    pub stands : may_stand standing (kind_of known.state name) suffix ≡ true
+    pub fitting : AreIndices known name indices
+    pub controls : All (λ index. is_among controlled index ≡ true) (index_sets indices)
+
+  -- what holds of what is used in a program without errors: of references and controls this, and of the rest that no error's condition does
+  abbrev pub IsSound : Known F → Use F → Type 0
+  IsSound known (reading standing controlled name suffix indices) = IsReading known standing controlled name suffix indices
+  IsSound known (ordinal standing controlled name) =
+      (is_index_set known.state name ≡ true) × (is_among controlled name ≡ true) × (is_ordered known name ≡ true)
+  IsSound known (cardinal standing name) = is_set_name known.state name ≡ true
+  IsSound known (controlling controlled sets) =
+      All (λ name. is_index_set known.state name ≡ true) sets × (is_controlled_twice controlled sets ≡ false) × (length sets ≤ 10)
+  IsSound known (assigning name suffix indices) =
+      (is_unknown known.state name ≡ false) × (may_be_assigned (kind_of known.state name) suffix ≡ true) × AreIndices known name indices
+  IsSound known (defining name indices) =
+      (is_unknown known.state name ≡ false) × (is_equation (kind_of known.state name) ≡ true) × AreIndices known name indices
+  IsSound known used = (kind : ErrorKind) → has_error known used kind ≡ false
+
+  -- the same of parts
+  abbrev pub AreSound : Known F → Uses F → Type 0
+  AreSound known uses = All (λ u. IsSound known u.1) uses
+
+  -- a statement stands after these in a program
+  abbrev pub StandsAfter : Program F → List (Stmt F) → Stmt F → Type 0
+  StandsAfter program before statement = (rest : List (Stmt F)) × (program.statements.items ≡ before ++ statement ∷ rest)
+
+  -- a program without errors: every statement's parts are sound, by what the statements before it declare
+  abbrev pub IsChecked : (F → Number) → Program F → List (List ℕ) → Type 0
+  IsChecked value program solvers =
+      (before : List (Stmt F)) (statement : Stmt F) → StandsAfter program before statement → AreSound (known_after value program solvers (sound before)) (statement_uses statement (known_after value program solvers (sound before)).state [])

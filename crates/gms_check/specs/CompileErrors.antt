@@ -1,0 +1,133 @@
+-- The compile errors of a program: for each statement the first by place, then by number. A loop with its body is one statement.
+-- Which conditions are errors stands in `Names`, `Kinds`, `Domains`, `Controls`, `Linearity` and `Solves`, each in a definition of the error's name.
+use Rattle.std.specs.Prelude.{ℕ, nat_lt, Bool, true, false, ◌&&◌, List, [], ◌∷◌, ◌++◌, length, map, flat_map, filter, Option, is_none, option_to_list, if◌then◌else◌}
+use Rattle.gq_number.specs.Number.{Number}
+use Rattle.gms_labels.specs.declared.place.Place.{Place}
+use Rattle.gms_ast.specs.declared.declaration.DeclKind.{DeclKind}
+use Rattle.gms_ast.specs.declared.declaration.Decl.{Decl}
+use Rattle.gms_ast.specs.declared.declaration.ModelDecl.{ModelDecl}
+use Rattle.gms_ast.specs.declared.program.Act.{Act}
+use Rattle.gms_ast.specs.declared.program.Act.TheVariants.{Declare, Model}
+use Rattle.gms_ast.specs.declared.program.Stmt.{Stmt}
+use Rattle.gms_ast.specs.declared.program.Program.{Program}
+use Rattle.gms_store.specs.State.{State}
+use Rattle.gms_store.specs.Declarations.{declare_model}
+use Rattle.gms_check.specs.declared.error.ErrorKind.{ErrorKind}
+use Rattle.gms_check.specs.declared.error.ErrorKind.TheVariants.{UnknownName, Redeclared, WrongKind, WrongArity, DomainOfSet, DomainOfLabel, Uncontrolled, ControlledTwice, NotOrdered, DynamicDomain, Nonlinear, Discrete, ModelType, NotDefined, DefinedTwice, Objective, UnknownSolver, OptionRange, Endogenous, Function, DataFault, Restart}
+use Rattle.gms_check.specs.declared.error.CompileError.{CompileError}
+use Rattle.gms_check.specs.Errors.{first_of}
+use Rattle.gms_check.specs.Uses.{Use, Uses}
+use Rattle.gms_check.specs.StatementUses.{statement_uses}
+use Rattle.gms_check.specs.DeclarationUses.{item_uses, kind_uses, model_uses}
+use Rattle.gms_check.specs.Past.{Past, Known, declared_names, is_among, is_defined, is_unordered, models_after, with_name, with_item, state_after}
+use Rattle.gms_check.specs.Above.{directly_above}
+use Rattle.gms_known.specs.DynamicSets.{dynamic_sets}
+use Rattle.gms_known.specs.Names.{is_equation, kind_of}
+use Rattle.gms_check.specs.Names.{unknown_name, redeclared}
+use Rattle.gms_check.specs.Kinds.{wrong_kind, discrete, wrong_function}
+use Rattle.gms_check.specs.Domains.{wrong_arity, domain_of_set, domain_of_label, dynamic_domain}
+use Rattle.gms_check.specs.Controls.{uncontrolled, controlled_twice, not_ordered}
+use Rattle.gms_check.specs.Linearity.{nonlinear, endogenous}
+use Rattle.gms_check.specs.Solves.{model_type, not_defined, defined_twice, objective, unknown_solver, option_range, data_fault}
+
+-- the errors that a check gives, in the order of their numbers
+abbrev pub checked_kinds : List ErrorKind
+checked_kinds =
+    UnknownName ∷ Redeclared ∷ WrongKind ∷ WrongArity ∷ DomainOfSet ∷ DomainOfLabel ∷ Uncontrolled ∷ ControlledTwice ∷ NotOrdered ∷ DynamicDomain ∷ Nonlinear ∷ Discrete ∷ ModelType ∷ NotDefined ∷ DefinedTwice ∷ Objective ∷ UnknownSolver ∷ OptionRange ∷ Endogenous ∷ Function ∷ DataFault ∷ []
+
+-- whether there is no error
+abbrev pub is_faultless : List CompileError → Bool
+is_faultless errors = is_none (first_of errors)
+
+module _ {F : Type 0} where
+  -- whether what is used has this error
+  abbrev pub has_error : Known F → Use F → ErrorKind → Bool
+  has_error known used UnknownName = unknown_name known used
+  has_error known used Redeclared = redeclared known used
+  has_error known used WrongKind = wrong_kind known used
+  has_error known used WrongArity = wrong_arity known used
+  has_error known used DomainOfSet = domain_of_set known used
+  has_error known used DomainOfLabel = domain_of_label known used
+  has_error known used Uncontrolled = uncontrolled known used
+  has_error known used ControlledTwice = controlled_twice known used
+  has_error known used NotOrdered = not_ordered known used
+  has_error known used DynamicDomain = dynamic_domain known used
+  has_error known used Nonlinear = nonlinear known used
+  has_error known used Discrete = discrete known used
+  has_error known used ModelType = model_type known used
+  has_error known used NotDefined = not_defined known used
+  has_error known used DefinedTwice = defined_twice known used
+  has_error known used Objective = objective known used
+  has_error known used UnknownSolver = unknown_solver known used
+  has_error known used OptionRange = option_range known used
+  has_error known used Endogenous = endogenous known used
+  has_error known used Function = wrong_function known used
+  has_error known used DataFault = data_fault known used
+  has_error known used Restart = false
+
+  -- the errors of what is used at a place
+  abbrev pub errors_at : Known F → Place × Use F → List CompileError
+  errors_at known (at, used) = map (λ kind. record { kind = kind; at = at }) (filter (has_error known used) checked_kinds)
+
+  -- the errors of parts
+  abbrev pub errors_of : Known F → Uses F → List CompileError
+  errors_of known uses = flat_map (errors_at known) uses
+
+  -- what is known in another state
+  abbrev pub known_in : Known F → State → Known F
+  known_in known state = record known { state = state }
+
+  -- what is known after a name of a declaration: its data are given where it has no error
+  abbrev pub known_after_item : Known F → DeclKind → Decl F → Known F
+  known_after_item known kind item =
+      known_in known (if is_faultless (errors_of known (item_uses known kind item)) then with_item known.value kind known.state item else with_name known.value kind known.state item)
+
+  -- the errors of the names of a declaration, each with what is known before it
+  abbrev pub declaration_errors : Known F → DeclKind → List (Decl F) → List CompileError
+  declaration_errors known kind [] = []
+  declaration_errors known kind (item ∷ items) =
+      errors_of known (item_uses known kind item) ++ declaration_errors (known_after_item known kind item) kind items
+
+  -- the errors of models, each with what is known before it
+  abbrev pub model_errors : Known F → List ModelDecl → List CompileError
+  model_errors known [] = []
+  model_errors known (model ∷ models) =
+      errors_of known (model_uses model) ++ model_errors (known_in known (declare_model known.state model.named.name)) models
+
+  -- the errors of an act of a statement
+  abbrev pub act_errors : Known F → Stmt F → Act F → List CompileError
+  act_errors known statement (Declare kind items) = errors_of known (kind_uses statement.at kind) ++ declaration_errors known kind items
+  act_errors known statement (Model models) = model_errors known models
+  act_errors known statement act = errors_of known (statement_uses statement known.state [])
+
+  -- the error of a statement, where it has one
+  abbrev pub statement_error : Known F → Stmt F → Option CompileError
+  statement_error known statement = first_of (act_errors known statement statement.act)
+
+  -- whether a name of a program has a property
+  abbrev pub of_program : Program F → (ℕ → Bool) → ℕ → Bool
+  of_program program property name = nat_lt name (length program.names) && property name
+
+  -- the names that statements of a program declare, in order
+  abbrev pub names_before : Program F → Past F → List ℕ
+  names_before program past = filter (of_program program (λ name. true)) (declared_names past)
+
+  -- the models that statements of a program declare, each with those of its equations that are equations
+  abbrev pub models_before : State → Program F → Past F → List (ℕ × List ℕ)
+  models_before state program past =
+      map (λ (model : ℕ × List ℕ). (model.0, filter (λ equation. is_equation (kind_of state equation)) model.1)) (filter (λ (model : ℕ × List ℕ). of_program program (λ name. true) model.0) (models_after [] past))
+
+  -- what is known before a statement of a program
+  abbrev pub known_after : (F → Number) → Program F → List (List ℕ) → Past F → Known F
+  known_after value program solvers past =
+      record { value = value; state = state_after value (length program.names) past; declared = names_before program past; above = directly_above (state_after value (length program.names) past) (names_before program past); assigned = of_program program (is_among (dynamic_sets program)); unordered = of_program program (is_unordered past); defined = of_program program (is_defined past); models = models_before (state_after value (length program.names) past) program past; solvers = solvers }
+
+  -- the errors of the statements that come after others
+  abbrev pub errors_after : (F → Number) → Program F → List (List ℕ) → Past F → List (Stmt F) → List CompileError
+  errors_after value program solvers past [] = []
+  errors_after value program solvers past (statement ∷ rest) =
+      option_to_list (statement_error (known_after value program solvers past) statement) ++ errors_after value program solvers (past ++ (statement, is_none (statement_error (known_after value program solvers past) statement)) ∷ []) rest
+
+  -- the compile errors of a program, with solvers of these names
+  abbrev pub compile_errors : (F → Number) → Program F → List (List ℕ) → List CompileError
+  compile_errors value program solvers = errors_after value program solvers [] program.statements.items

@@ -1,0 +1,60 @@
+-- Numbers of indices, and indices and labels against the domains of names.
+-- GAMS User's Guide, "Set Definition", domain checking; "Dynamic Sets". That a dynamic set is no domain is this project's own choice.
+use Rattle.std.specs.Prelude.{ℕ, zero, suc, Bool, true, false, not, ◌&&◌, ◌||◌, ◌==◌, ◌+◌, nat_lt, List, [], ◌∷◌, length, Option, Some, None, if◌then◌else◌}
+use Rattle.gms_ast.specs.Trees.{Indices, no_index, label, set, lagged}
+use Rattle.gms_store.specs.Declarations.{positions_of}
+use Rattle.gms_set.specs.declared.fault.SetError.TheVariants.{Outside}
+use Rattle.gms_check.specs.Uses.{Use, reading, controlling, assigning, defining, naming, bounding, placing, failing}
+use Rattle.gms_check.specs.Past.{Known, is_dynamic}
+use Rattle.gms_known.specs.Names.{positions}
+use Rattle.gms_check.specs.IndexList.{have_unfit_label, have_unfit_set}
+
+-- whether so many indices are another number than is due, or over 10
+abbrev pub is_wrong_count : ℕ → ℕ → Bool
+is_wrong_count due count = not (count == due) || nat_lt 10 count
+
+module _ {F : Type 0} where
+  -- how many indices there are
+  abbrev pub index_count : Indices F → ℕ
+  index_count no_index = 0
+  index_count (label n rest) = index_count rest + 1
+  index_count (set name rest) = index_count rest + 1
+  index_count (lagged name op at amount rest) = index_count rest + 1
+
+  -- WrongArity: there are more or fewer indices or parts than the name has positions, or more than 10; a control has more than 10 sets
+  abbrev pub wrong_arity : Known F → Use F → Bool
+  wrong_arity known (reading standing controlled name suffix indices) = is_wrong_count (length (positions known.state name)) (index_count indices)
+  wrong_arity known (assigning name suffix indices) = is_wrong_count (length (positions known.state name)) (index_count indices)
+  wrong_arity known (defining name indices) = is_wrong_count (length (positions known.state name)) (index_count indices)
+  wrong_arity known (controlling controlled sets) = nat_lt 10 (length sets)
+  wrong_arity known (naming kind name domain) = nat_lt 10 (length (positions_of kind domain))
+  wrong_arity known (placing due count) = is_wrong_count due count
+  wrong_arity known used = false
+
+  -- whether some index set does not fit its position of a name
+  abbrev pub has_unfit_set : Known F → ℕ → List (Option ℕ) → Indices F → Bool
+  has_unfit_set known name domain indices = have_unfit_set known.state known.declared known.above name domain indices
+
+  -- whether some label does not stand at its position of a name
+  abbrev pub has_unfit_label : Known F → ℕ → List (Option ℕ) → Indices F → Bool
+  has_unfit_label known name domain indices = have_unfit_label known.state known.declared name domain indices
+
+  -- DomainOfSet: a set stands at a position whose set it is not below
+  abbrev pub domain_of_set : Known F → Use F → Bool
+  domain_of_set known (reading standing controlled name suffix indices) = has_unfit_set known name (positions known.state name) indices
+  domain_of_set known (assigning name suffix indices) = has_unfit_set known name (positions known.state name) indices
+  domain_of_set known (defining name indices) = has_unfit_set known name (positions known.state name) indices
+  domain_of_set known used = false
+
+  -- DomainOfLabel: a label stands at a position whose set does not have it
+  abbrev pub domain_of_label : Known F → Use F → Bool
+  domain_of_label known (reading standing controlled name suffix indices) = has_unfit_label known name (positions known.state name) indices
+  domain_of_label known (assigning name suffix indices) = has_unfit_label known name (positions known.state name) indices
+  domain_of_label known (defining name indices) = has_unfit_label known name (positions known.state name) indices
+  domain_of_label known (failing Outside) = true
+  domain_of_label known used = false
+
+  -- DynamicDomain: a set that the program assigns stands in a domain
+  abbrev pub dynamic_domain : Known F → Use F → Bool
+  dynamic_domain known (bounding name) = is_dynamic known name
+  dynamic_domain known used = false

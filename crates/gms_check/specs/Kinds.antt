@@ -1,0 +1,107 @@
+-- Symbols, values and functions where their kind does not stand.
+-- GAMS User's Guide, "Data Manipulation"; "Variables", attributes; "Equations"; "Model and Solve Statements"; "Display". Which functions there are is this project's own choice.
+use Rattle.std.specs.Prelude.{ℕ, Bool, true, false, not, ◌&&◌, ◌||◌, ◌==◌, ◌+◌, nat_lt, List, [], ◌∷◌, length}
+use Rattle.std.specs.List.{list_any}
+use Rattle.gms_ast.specs.declared.expression.Function.{Function}
+use Rattle.gms_ast.specs.declared.expression.Function.TheVariants as function
+use Rattle.gms_ast.specs.declared.expression.Suffix.TheVariants as suffix
+use Rattle.gms_ast.specs.Trees.{Tree, number, reference, Parts, no_part, part, Indices, no_index}
+use Rattle.gms_store.specs.declared.kind.SymbolKind.{SymbolKind}
+use Rattle.gms_store.specs.declared.kind.SymbolKind.TheVariants as kind
+use Rattle.gms_check.specs.declared.standing.Standing.{Standing}
+use Rattle.gms_check.specs.Standing.{as_condition, may_stand, may_be_assigned}
+use Rattle.gms_check.specs.Uses.{Use, literal, truth, reading, ordinal, cardinal, calling, folding, controlling, stepping, multiplies, divides, raises, logic, assigning, defining, shifting, not_continuous, bounding, first_alias, second_alias, listing, solving, optimizing, showing, index_sets}
+use Rattle.gms_check.specs.Past.{Known}
+use Rattle.gms_known.specs.Names.{is_equation, is_index_set, is_model, is_set_name, is_unknown, kind_of, positions}
+use Rattle.gms_check.specs.OptionWords.{is_whole}
+
+-- whether a kind is that of a variable
+abbrev pub is_variable_kind : SymbolKind → Bool
+is_variable_kind kind.Variable = true
+is_variable_kind kind = false
+
+-- whether there are no indices
+abbrev pub is_bare : {F : Type 0} → Indices F → Bool
+is_bare no_index = true
+is_bare indices = false
+
+-- whether there are no positions
+abbrev pub is_without_positions : {X : Type 0} → List X → Bool
+is_without_positions [] = true
+is_without_positions (x ∷ xs) = false
+
+-- how many parts there are
+abbrev pub part_count : {F : Type 0} → Parts F → ℕ
+part_count no_part = 0
+part_count (part mark tree rest) = part_count rest + 1
+
+-- whether a function takes so many arguments; one that is left out takes none
+abbrev pub takes : Function → ℕ → Bool
+takes function.Abs count = count == 1
+takes function.Max count = nat_lt 1 count
+takes function.Min count = nat_lt 1 count
+takes function.Mod count = count == 2
+takes function.Sqr count = count == 1
+takes function.Power count = count == 2
+takes function.Round count = count == 1
+takes function.Floor count = count == 1
+takes function.Ceil count = count == 1
+takes function.Trunc count = count == 1
+takes function.Sign count = count == 1
+takes function.NotInProfile count = false
+
+-- whether a reference may be the amount of a lag on the left: a scalar. Of a variable without suffix another error speaks
+abbrev pub may_shift : SymbolKind → Bool → Bool
+may_shift kind.Parameter scalar = scalar
+may_shift kind.Variable scalar = true
+may_shift kind scalar = false
+
+module _ {F : Type 0} where
+  -- whether an amount of a lag on the left is a whole literal or a scalar
+  abbrev pub is_left_amount : Known F → Tree F → Bool
+  is_left_amount known (number n) = is_whole (known.value n)
+  is_left_amount known (reference at name suffix.None indices) =
+      may_shift (kind_of known.state name) (is_without_positions (positions known.state name) && is_bare indices)
+  is_left_amount known tree = false
+
+  -- whether some index is no one-dimensional set
+  abbrev pub has_wrong_set : Known F → List ℕ → Bool
+  has_wrong_set known names = list_any (λ name. not (is_index_set known.state name)) names
+
+  -- WrongKind: what does not stand there by its kind: a symbol by its suffix, a number or an infinity, `yes` and `no`; a set of several positions as an index, in a control or in a domain; on the left of an assignment an attribute of an equation, and an amount of a lag that is not a whole literal or a scalar
+  abbrev pub wrong_kind : Known F → Use F → Bool
+  wrong_kind known (literal standing) = not standing.numbers
+  wrong_kind known (truth standing) = not standing.membership
+  wrong_kind known (reading standing controlled name suffix indices) =
+      not (may_stand standing (kind_of known.state name) suffix) || has_wrong_set known (index_sets indices)
+  wrong_kind known (ordinal standing controlled name) = not standing.numbers || not (is_set_name known.state name)
+  wrong_kind known (cardinal standing name) = not standing.numbers || not (is_set_name known.state name)
+  wrong_kind known (calling standing function args) = not standing.numbers
+  wrong_kind known (folding standing op body) = not standing.numbers
+  wrong_kind known (controlling controlled sets) = has_wrong_set known sets
+  wrong_kind known (stepping standing multiplies earlier right) = false
+  wrong_kind known (stepping standing divides earlier right) = not standing.numbers
+  wrong_kind known (stepping standing raises earlier right) = not standing.numbers
+  wrong_kind known (logic standing) = not standing.numbers
+  wrong_kind known (assigning name suffix indices) =
+      not (may_be_assigned (kind_of known.state name) suffix) || has_wrong_set known (index_sets indices)
+  wrong_kind known (defining name indices) = not (is_equation (kind_of known.state name)) || has_wrong_set known (index_sets indices)
+  wrong_kind known (shifting amount) = not (is_left_amount known amount)
+  wrong_kind known (bounding name) = not (is_index_set known.state name)
+  wrong_kind known (first_alias first second) = not (is_unknown known.state first) && not (is_set_name known.state first)
+  wrong_kind known (second_alias first second) = not (is_unknown known.state second) && not (is_set_name known.state second)
+  wrong_kind known (listing name) = not (is_equation (kind_of known.state name))
+  wrong_kind known (solving name) = not (is_model (kind_of known.state name))
+  wrong_kind known (optimizing name) = not (is_variable_kind (kind_of known.state name))
+  wrong_kind known (showing name suffix) = not (may_stand as_condition (kind_of known.state name) suffix)
+  wrong_kind known used = false
+
+  -- Discrete: variables that are binary, integer or of a special ordered set
+  abbrev pub discrete : Known F → Use F → Bool
+  discrete known not_continuous = true
+  discrete known used = false
+
+  -- Function: a function that is left out, or that takes another number of arguments
+  abbrev pub wrong_function : Known F → Use F → Bool
+  wrong_function known (calling standing function args) = not (takes function (part_count args))
+  wrong_function known used = false

@@ -1,0 +1,60 @@
+-- Where variables stand, and which steps of an equation are not linear.
+-- GAMS User's Guide, "Equations"; "Model and Solve Statements", linear programs.
+use Rattle.std.specs.Prelude.{ℕ, Bool, true, false, not, ◌&&◌, ◌||◌, List}
+use Rattle.std.specs.List.{list_any}
+use Rattle.gms_ast.specs.declared.expression.Suffix.{Suffix}
+use Rattle.gms_ast.specs.declared.expression.Suffix.TheVariants as suffix
+use Rattle.gms_ast.specs.declared.expression.FoldOp.TheVariants.{Sum}
+use Rattle.gms_ast.specs.declared.expression.FoldOp.{FoldOp}
+use Rattle.gms_ast.specs.Trees.{Tree, reference, call, fold_over, negated, sum, product, power, guarded, Parts, no_part, part}
+use Rattle.gms_store.specs.State.{symbol_at}
+use Rattle.gms_check.specs.Uses.{Use, reading, showing, calling, folding, stepping, multiplies, divides, raises}
+use Rattle.gms_check.specs.Past.{Known}
+use Rattle.gms_check.specs.Names.{is_variable}
+
+-- whether a fold is a sum
+abbrev pub is_sum : FoldOp → Bool
+is_sum Sum = true
+is_sum op = false
+
+module _ {F : Type 0} where
+  -- whether a name by this suffix is a variable in an equation
+  abbrev pub is_variable_by : Known F → ℕ → Suffix → Bool
+  is_variable_by known name suffix.None = is_variable (symbol_at known.state name).content
+  is_variable_by known name suffix = false
+
+abbrev mutual
+  -- whether an expression has variables: one stands where it counts, so not in a condition, a relation, an operand of logic or a lag
+  pub has_variable : {F : Type 0} → Known F → Tree F → Bool
+  has_variable known (reference at name suffix indices) = is_variable_by known name suffix
+  has_variable known (call at function args) = have_variable known args
+  has_variable known (fold_over at op control body) = has_variable known body
+  has_variable known (negated operand) = has_variable known operand
+  has_variable known (sum parts) = have_variable known parts
+  has_variable known (product parts) = have_variable known parts
+  has_variable known (power parts) = have_variable known parts
+  has_variable known (guarded operand guards) = has_variable known operand
+  has_variable known tree = false
+
+  -- whether some part has variables
+  pub have_variable : {F : Type 0} → Known F → Parts F → Bool
+  have_variable known no_part = false
+  have_variable known (part mark tree rest) = has_variable known tree || have_variable known rest
+
+module _ {F : Type 0} where
+  -- Nonlinear: in an equation a step whose value is not linear in the variables: two operands with variables multiplied, a division by one, one raised or raising, and a function, prod, smin or smax of one
+  abbrev pub nonlinear : Known F → Use F → Bool
+  nonlinear known (stepping standing multiplies earlier right) =
+      standing.variables && (list_any (has_variable known) earlier && has_variable known right)
+  nonlinear known (stepping standing divides earlier right) = standing.variables && has_variable known right
+  nonlinear known (stepping standing raises earlier right) =
+      standing.variables && (list_any (has_variable known) earlier || has_variable known right)
+  nonlinear known (calling standing function args) = standing.variables && have_variable known args
+  nonlinear known (folding standing op body) = standing.variables && (not (is_sum op) && has_variable known body)
+  nonlinear known used = false
+
+  -- Endogenous: a variable without suffix is displayed, or stands where none may
+  abbrev pub endogenous : Known F → Use F → Bool
+  endogenous known (reading standing controlled name suffix indices) = not standing.variables && is_variable_by known name suffix
+  endogenous known (showing name suffix) = is_variable_by known name suffix
+  endogenous known used = false

@@ -1,0 +1,69 @@
+-- The words of options, and what they may be set to.
+-- GAMS User's Guide, "The Option Statement". The ranges, and the words that are accepted without effect, are this project's own choice.
+use Rattle.std.specs.Prelude.{ℕ, ℤ, pos, negsuc, Bool, true, false, not, ◌&&◌, ◌||◌, ◌==◌, nat_le, List, [], ◌∷◌, ◌++◌, codes, if◌then◌else◌}
+use Rattle.std.specs.List.{list_any}
+use Rattle.std.specs.Str.{str_eq_ignore_ascii_case}
+use Rattle.gq_number.specs.Number.{Number}
+use Rattle.gms_ast.specs.declared.program.Setting.{Setting}
+use Rattle.gms_ast.specs.declared.program.Setting.TheVariants as setting
+
+-- whether a word is one of some words, letter case ignored
+abbrev pub is_one_of : List (List ℕ) → List ℕ → Bool
+is_one_of words word = list_any (str_eq_ignore_ascii_case word) words
+
+-- the options that are set to a whole number up to 2,147,483,647
+abbrev pub counts : List (List ℕ)
+counts = codes "limrow" ∷ codes "limcol" ∷ codes "iterlim" ∷ []
+
+-- the options that are accepted with any value, without effect
+abbrev pub ignored : List (List ℕ)
+ignored =
+    codes "reslim" ∷ codes "optcr" ∷ codes "optca" ∷ codes "domlim" ∷ codes "bratio" ∷ codes "sysout" ∷ codes "solslack" ∷ codes "nlp" ∷ codes "mip" ∷ codes "rmip" ∷ codes "dnlp" ∷ codes "mcp" ∷ []
+
+-- the other options
+abbrev pub others : List (List ℕ)
+others = codes "decimals" ∷ codes "solprint" ∷ codes "lp" ∷ []
+
+-- whether a word is that of an option
+abbrev pub is_option : List ℕ → Bool
+is_option word = is_one_of (counts ++ others ++ ignored) word
+
+-- whether a whole number is from 0 to another
+abbrev pub is_up_to : ℕ → ℤ → Bool
+is_up_to most (pos n) = nat_le n most
+is_up_to most (negsuc n) = false
+
+-- whether a number is whole
+abbrev pub is_whole : Number → Bool
+is_whole x = x.denominator == 1
+
+-- whether a number is whole and from 0 to another
+abbrev pub is_whole_up_to : ℕ → Number → Bool
+is_whole_up_to most x = is_whole x && is_up_to most x.numerator
+
+module _ {F : Type 0} where
+  -- whether an option is set to `on` or `off`
+  abbrev pub is_switch : Setting F → Bool
+  is_switch (setting.Number at x) = false
+  is_switch (setting.Name word) = is_one_of (codes "on" ∷ codes "off" ∷ []) word.text
+
+  -- whether an option is set to a word
+  abbrev pub is_worded : Setting F → Bool
+  is_worded (setting.Number at x) = false
+  is_worded (setting.Name word) = true
+
+module _ {F : Type 0} (value : F → Number) where
+  -- whether an option is set to a whole number from 0 to another
+  abbrev pub is_count_up_to : ℕ → Setting F → Bool
+  is_count_up_to most (setting.Number at x) = is_whole_up_to most (value x)
+  is_count_up_to most (setting.Name word) = false
+
+  -- whether what an option is set to is within its range; a word that is no option has none
+  abbrev pub is_in_range : List ℕ → Setting F → Bool
+  is_in_range word setting =
+      if is_one_of counts word then is_count_up_to 2147483647 setting else if str_eq_ignore_ascii_case word (codes "decimals") then is_count_up_to 8 setting else if str_eq_ignore_ascii_case word (codes "solprint") then is_switch setting else if str_eq_ignore_ascii_case word (codes "lp") then is_worded setting else true
+
+-- whether an option is set to a word that is none of some names
+abbrev pub is_none_of : {F : Type 0} → List (List ℕ) → Setting F → Bool
+is_none_of names (setting.Number at x) = false
+is_none_of names (setting.Name word) = not (is_one_of names word.text)

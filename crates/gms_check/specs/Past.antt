@@ -1,0 +1,145 @@
+-- What the statements before a statement declare, define and give.
+-- GAMS User's Guide, "Set Definition", "Data Entry: Parameters, Scalars and Tables", "Equations", "Model and Solve Statements". That names of a statement with an error count as declared, and its data as not given, is this project's own rule.
+use Rattle.std.specs.Prelude.{ℕ, Bool, true, false, not, ◌&&◌, ◌==◌, nat_lt, List, [], ◌∷◌, ◌++◌, map, flat_map, filter, find, Option, Some, None, Result, Ok, Err, option_map, unwrap_or, if◌then◌else◌}
+use Rattle.std.specs.List.{fold, list_any}
+use Rattle.gq_number.specs.Number.{Number}
+use Rattle.gms_ast.specs.declared.word.Named.{Named}
+use Rattle.gms_ast.specs.declared.declaration.DeclKind.{DeclKind}
+use Rattle.gms_ast.specs.declared.declaration.DeclKind.TheVariants as declaring
+use Rattle.gms_ast.specs.declared.declaration.Decl.{Decl}
+use Rattle.gms_ast.specs.declared.declaration.Item.{Item}
+use Rattle.gms_ast.specs.declared.declaration.ModelDecl.{ModelDecl}
+use Rattle.gms_ast.specs.declared.program.Act.{Act}
+use Rattle.gms_ast.specs.declared.program.Act.TheVariants.{Declare, Alias, Define, Model}
+use Rattle.gms_ast.specs.declared.program.Stmt.{Stmt}
+use Rattle.gms_store.specs.State.{State, base_of}
+use Rattle.gms_store.specs.Declarations.{names_of, positions_of, declare, declared_by, blank_state}
+use Rattle.gms_set.specs.declared.fault.SetFault.{SetFault}
+use Rattle.gms_set.specs.Expansion.{Given, expanded}
+use Rattle.gms_known.specs.Data.{given_to, is_ascending, labels_of}
+
+-- statements in order, each with whether it has no error
+abbrev pub Past : Type 0 → Type 0
+Past F = List (Stmt F × Bool)
+
+-- ---- names
+
+-- the numbers of names
+abbrev pub numbers_of : List Named → List ℕ
+numbers_of names = map (λ (named : Named). named.name) names
+
+-- whether a name is one of these
+abbrev pub is_among : List ℕ → ℕ → Bool
+is_among names name = list_any (λ other. other == name) names
+
+-- the equations of a model: those that are listed, or all that are declared before; none where its statement has an error
+abbrev pub equations_listed : List ℕ → Bool → ModelDecl → List ℕ
+equations_listed declared true model = if model.all then declared else numbers_of model.equations
+equations_listed declared false model = []
+
+module _ {F : Type 0} where
+  -- the names that an act declares, in order
+  abbrev pub names_declared : Act F → List ℕ
+  names_declared (Declare kind items) = map (λ (item : Decl F). item.named.name) items
+  names_declared (Alias first second) = first.name ∷ second.name ∷ []
+  names_declared (Model models) = map (λ (model : ModelDecl). model.named.name) models
+  names_declared act = []
+
+  -- the names that the statements before declare, in order
+  abbrev pub declared_names : Past F → List ℕ
+  declared_names past = flat_map (λ p. names_declared p.0.act) past
+
+  -- ---- equations
+
+  -- the names that an act declares as equations, in order
+  abbrev pub equations_declared : Act F → List ℕ
+  equations_declared (Declare declaring.Equation items) = map (λ (item : Decl F). item.named.name) items
+  equations_declared act = []
+
+  -- whether an act defines an equation
+  abbrev pub defines : ℕ → Act F → Bool
+  defines name (Define equation indices condition left_at left side right_at right) = equation.name == name
+  defines name act = false
+
+  -- whether some statement before defines an equation, with an error or without
+  abbrev pub is_defined : Past F → ℕ → Bool
+  is_defined past name = list_any (λ p. defines name p.0.act) past
+
+  -- ---- models
+
+  -- the models that an act declares, each with its equations
+  abbrev pub models_in : List ℕ → Bool → Act F → List (ℕ × List ℕ)
+  models_in declared sound (Model models) = map (λ (model : ModelDecl). (model.named.name, equations_listed declared sound model)) models
+  models_in declared sound act = []
+
+  -- the models that statements declare, where these equations are declared before them
+  abbrev pub models_after : List ℕ → Past F → List (ℕ × List ℕ)
+  models_after declared [] = []
+  models_after declared (p ∷ past) = models_in declared p.1 p.0.act ++ models_after (declared ++ equations_declared p.0.act) past
+
+  -- ---- the order of a set's labels
+
+  -- whether an act gives a set its labels in another order than that of all labels
+  abbrev pub gives_unordered : ℕ → Act F → Bool
+  gives_unordered name (Declare declaring.Set items) = list_any (λ (item : Decl F). item.named.name == name && not (is_ascending (labels_of item.items))) items
+  gives_unordered name act = false
+
+  -- whether a statement without an error gives a set its labels in another order than that of all labels
+  abbrev pub is_unordered : Past F → ℕ → Bool
+  is_unordered past name = list_any (λ p. p.1 && gives_unordered name p.0.act) past
+
+module _ {F : Type 0} (value : F → Number) where
+  -- ---- the state
+
+  -- the state after the data of a name
+  abbrev pub with_data : State → ℕ → Result (Given F) SetFault → State
+  with_data state name (Ok given) = given_to value name state given
+  with_data state name (Err fault) = state
+
+  -- the state after a name was declared without its data
+  abbrev pub with_name : DeclKind → State → Decl F → State
+  with_name kind state item = declare kind (names_of item.domain) state item.named.name
+
+  -- the state after a name was declared with its data
+  abbrev pub with_item : DeclKind → State → Decl F → State
+  with_item kind state item =
+      with_data (with_name kind state item) item.named.name (expanded state (positions_of kind (names_of item.domain)) item.items)
+
+  -- the state after an act that has no error
+  abbrev pub after_act : State → Act F → State
+  after_act state (Declare kind items) = fold (with_item kind) state items
+  after_act state act = declared_by state act
+
+  -- the state after a statement: where it has an error its names are declared, and its data are not given
+  abbrev pub after_statement : State → Stmt F × Bool → State
+  after_statement state (statement, sound) = if sound then after_act state statement.act else declared_by state statement.act
+
+  -- the state that statements make of a state in which nothing is declared, of so many names
+  abbrev pub state_after : ℕ → Past F → State
+  state_after names past = fold after_statement (blank_state names) past
+
+-- What is known before a statement.
+pub record Known (F : Type 0) : Type 0 where
+  -- the numbers that values mean
+  pub value : F → Number
+  -- what the statements before declare and give, and within a declaration what the names before it do
+  pub state : State
+  -- the names that they declare, in order
+  pub declared : List ℕ
+  -- the set that a one-dimensional set is directly below
+  pub above : ℕ → Option ℕ
+  -- the sets that some statement of the program assigns
+  pub assigned : ℕ → Bool
+  -- the sets whose labels are given in another order than that of all labels
+  pub unordered : ℕ → Bool
+  -- the equations that the statements before define
+  pub defined : ℕ → Bool
+  -- the models that they declare, each with its equations
+  pub models : List (ℕ × List ℕ)
+  -- the names of the solvers
+  pub solvers : List (List ℕ)
+
+module _ {F : Type 0} where
+  -- whether a set is dynamic, an alias as its set
+  abbrev pub is_dynamic : Known F → ℕ → Bool
+  is_dynamic known name = known.assigned (base_of known.state name)

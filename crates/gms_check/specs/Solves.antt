@@ -1,0 +1,54 @@
+-- What a solve asks of its model, its word and its objective, and options and definitions that are wrong.
+-- GAMS User's Guide, "Equations"; "Model and Solve Statements"; "The Option Statement".
+use Rattle.std.specs.Prelude.{ℕ, Bool, true, false, not, ◌&&◌, codes}
+use Rattle.std.specs.List.{list_any}
+use Rattle.std.specs.Str.{str_eq_ignore_ascii_case}
+use Rattle.gms_store.specs.State.{symbol_at}
+use Rattle.gms_set.specs.declared.fault.SetError.TheVariants.{BadRange, Repeated, Full}
+use Rattle.gms_check.specs.Uses.{Use, defining, solving, method, optimizing, option_value, failing}
+use Rattle.gms_check.specs.Past.{Known}
+use Rattle.gms_store.specs.Declarations.{is_free}
+use Rattle.gms_known.specs.Names.{is_model, kind_of, positions}
+use Rattle.gms_known.specs.Facts.{equations_of}
+use Rattle.gms_check.specs.Kinds.{is_without_positions}
+use Rattle.gms_check.specs.OptionWords.{is_none_of, is_in_range}
+
+module _ {F : Type 0} where
+  -- ModelType: the word after `using` is not lp
+  abbrev pub model_type : Known F → Use F → Bool
+  model_type known (method word) = not (str_eq_ignore_ascii_case word (codes "lp"))
+  model_type known used = false
+
+  -- NotDefined: no statement before the solve defines an equation of the model
+  abbrev pub not_defined : Known F → Use F → Bool
+  not_defined known (solving name) =
+      is_model (kind_of known.state name) && list_any (λ equation. not (known.defined equation)) (equations_of known.models name)
+  not_defined known used = false
+
+  -- DefinedTwice: a statement before defines the equation
+  abbrev pub defined_twice : Known F → Use F → Bool
+  defined_twice known (defining name indices) = known.defined name
+  defined_twice known used = false
+
+  -- Objective: what is minimized or maximized has indices, or is not free
+  abbrev pub objective : Known F → Use F → Bool
+  objective known (optimizing name) =
+      not (is_free (symbol_at known.state name).content && is_without_positions (positions known.state name))
+  objective known used = false
+
+  -- UnknownSolver: `option lp` names no solver that there is
+  abbrev pub unknown_solver : Known F → Use F → Bool
+  unknown_solver known (option_value word setting) = str_eq_ignore_ascii_case word (codes "lp") && is_none_of known.solvers setting
+  unknown_solver known used = false
+
+  -- OptionRange: an option is set to what it does not take
+  abbrev pub option_range : Known F → Use F → Bool
+  option_range known (option_value word setting) = not (is_in_range known.value word setting)
+  option_range known used = false
+
+  -- DataFault: data with a range that is none, with an element twice, or with too many elements
+  abbrev pub data_fault : Known F → Use F → Bool
+  data_fault known (failing BadRange) = true
+  data_fault known (failing Repeated) = true
+  data_fault known (failing Full) = true
+  data_fault known used = false

@@ -1,0 +1,89 @@
+-- What the statements use, but for declarations of names and of models, whose parts are looked at one after another.
+-- GAMS User's Guide, "Data Manipulation", "Equations", "Model and Solve Statements", "Display", "Programming Flow Control Features".
+use Rattle.std.specs.Prelude.{ℕ, List, [], ◌∷◌, ◌++◌, map, flat_map, Option, option_map, if◌then◌else◌}
+use Rattle.gms_labels.specs.declared.place.Place.{Place}
+use Rattle.gms_ast.specs.declared.expression.Expr.{Expr}
+use Rattle.gms_ast.specs.declared.expression.Index.{Index}
+use Rattle.gms_ast.specs.declared.word.Word.{Word}
+use Rattle.gms_ast.specs.declared.program.Show.{Show}
+use Rattle.gms_ast.specs.declared.program.Show.TheVariants as show
+use Rattle.gms_ast.specs.declared.program.Setting.{Setting}
+use Rattle.gms_ast.specs.declared.program.Setting.TheVariants as setting
+use Rattle.gms_ast.specs.declared.program.Right.TheVariants.{Value}
+use Rattle.gms_ast.specs.declared.program.Stmt.{Stmt}
+use Rattle.gms_ast.specs.declared.program.Act.TheOpen.{Act-F, Stmt-F}
+use Rattle.gms_ast.specs.declared.program.Act.TheFolds.{fold-Stmt}
+use Rattle.gms_ast.specs.Trees.{Tree, Indices}
+use Rattle.gms_ast.specs.TreeView.{indices_of, tree_of, index_tree, control_tree}
+use Rattle.gms_store.specs.State.{State, symbol_at}
+use Rattle.gms_store.specs.Declarations.{is_set}
+use Rattle.gms_check.specs.declared.standing.Standing.{Standing}
+use Rattle.gms_check.specs.Standing.{as_number, as_side, as_members}
+use Rattle.gms_check.specs.Uses.{Use, Uses, assigning, defining, first_alias, second_alias, solving, method, optimizing, showing, option_word, option_value, sets_of, index_sets, uses, control_uses, shift_uses, condition_uses}
+
+-- where the right side of an assignment to a name stands
+abbrev pub right_standing : State → ℕ → Standing
+right_standing state name = if is_set (symbol_at state name).content then as_members else as_number
+
+-- what a statement uses, by what is declared and the sets that are controlled
+abbrev pub OfStatement : Type 0 → Type 0
+OfStatement F = State → List ℕ → Uses F
+
+-- what an act uses, by what is declared, the place of its statement and the sets that are controlled
+abbrev pub OfAct : Type 0 → Type 0
+OfAct F = State → Place → List ℕ → Uses F
+
+module _ {F : Type 0} where
+  -- indices as one tree
+  abbrev pub index_list : List (Index F) → Indices F
+  index_list indices = indices_of (map index_tree indices)
+
+  -- what is displayed
+  abbrev pub show_uses : Show → Uses F
+  show_uses (show.Text word) = []
+  show_uses (show.Symbol named suffix) = (named.at, showing named.name suffix) ∷ []
+
+  -- the place of what an option is set to
+  abbrev pub setting_place : Setting F → Place
+  setting_place (setting.Number at value) = at
+  setting_place (setting.Name word) = word.at
+
+  -- an option: its word, and what it is set to
+  abbrev pub option_uses : Word × Setting F → Uses F
+  option_uses (word, setting) = (word.at, option_word word.text) ∷ (setting_place setting, option_value word.text setting) ∷ []
+
+  -- the sets that are controlled behind a left side: those of loops, and its own
+  abbrev pub with_left : List ℕ → List (Index F) → List ℕ
+  with_left controlled indices = controlled ++ index_sets (index_list indices)
+
+  -- the amounts of a left side, and the condition behind it
+  abbrev pub left_uses : Place → List ℕ → List (Index F) → Option (Expr F) → Uses F
+  left_uses at controlled indices condition =
+      shift_uses controlled (index_list indices) ++ condition_uses at controlled (option_map tree_of condition)
+
+  -- one statement, with each statement of a loop's body already seen as what it uses
+  abbrev pub act_step : Act-F F (OfAct F) (OfStatement F) → OfAct F
+  act_step (Act-F.Declare kind items) state at controlled = []
+  act_step (Act-F.Alias first second) state at controlled =
+      (first.at, first_alias first.name second.name) ∷ (second.at, second_alias first.name second.name) ∷ []
+  act_step (Act-F.Assign target condition right_at (Value right)) state at controlled =
+      (target.at, assigning target.name target.suffix (index_list target.indices)) ∷ (left_uses at (with_left controlled target.indices) target.indices condition ++ uses (right_standing state target.name) right_at (with_left controlled target.indices) (tree_of right))
+  act_step (Act-F.Define equation indices condition left_at left side right_at right) state at controlled =
+      (equation.at, defining equation.name (index_list indices)) ∷ (left_uses at (with_left controlled indices) indices condition ++ (uses as_side left_at (with_left controlled indices) (tree_of left) ++ uses as_side right_at (with_left controlled indices) (tree_of right)))
+  act_step (Act-F.Model models) state at controlled = []
+  act_step (Act-F.Solve model word objective maximize) state at controlled =
+      (model.at, solving model.name) ∷ (word.at, method word.text) ∷ (objective.at, optimizing objective.name) ∷ []
+  act_step (Act-F.Display items) state at controlled = flat_map show_uses items
+  act_step (Act-F.Loop control body) state at controlled =
+      control_uses at controlled (control_tree control) ++ flat_map (λ statement. statement state (controlled ++ sets_of (control_tree control))) body.items
+  act_step (Act-F.Options settings) state at controlled = flat_map option_uses settings
+  act_step (Act-F.Abort condition items) state at controlled =
+      condition_uses at controlled (option_map tree_of condition) ++ flat_map show_uses items
+
+  -- a statement with its place
+  abbrev pub statement_step : Stmt-F F (OfAct F) (OfStatement F) → OfStatement F
+  statement_step statement state controlled = statement.act state statement.at controlled
+
+  -- what a statement uses, and with it what the statements of its body do
+  abbrev pub statement_uses : Stmt F → OfStatement F
+  statement_uses = fold-Stmt F (OfAct F) (OfStatement F) act_step statement_step

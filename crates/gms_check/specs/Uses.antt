@@ -1,0 +1,178 @@
+-- What a statement uses, part by part, each with its place: names, indices, sets that are controlled, steps, words.
+-- The place of a part is its own where the source gives it one, and else that of the smallest part around it.
+use Rattle.std.specs.Prelude.{ℕ, Bool, true, false, List, [], ◌∷◌, ◌++◌, map, flat_map, Option, Some, None}
+use Rattle.gms_labels.specs.declared.place.Place.{Place}
+use Rattle.gms_ast.specs.declared.expression.Suffix.{Suffix}
+use Rattle.gms_ast.specs.declared.expression.FoldOp.{FoldOp}
+use Rattle.gms_ast.specs.declared.expression.Function.{Function}
+use Rattle.gms_ast.specs.declared.declaration.DeclKind.{DeclKind}
+use Rattle.gms_ast.specs.declared.program.Setting.{Setting}
+use Rattle.gms_ast.specs.Trees.{Mark, plain, placed, signed, related, chosen, Tree, number, plus_infinity, not_available, yes, no, reference, place_in_set, size_of_set, call, fold_over, negated, sum, product, power, relation, not_so, all_of, one_of, guarded, Parts, no_part, part, Indices, no_index, label, set, lagged, Control, over, over_where}
+use Rattle.gms_set.specs.declared.fault.SetError.{SetError}
+use Rattle.gms_check.specs.declared.standing.Standing.{Standing}
+use Rattle.gms_check.specs.Standing.{as_number, as_condition, as_part, as_guarded, as_inner, as_denied}
+
+-- A step between two operands.
+pub data Operation : Type 0 where
+  multiplies : Operation
+  divides : Operation
+  raises : Operation
+
+-- What is used at a place. Names are numbers in the program's table.
+pub data Use (F : Type 0) : Type 0 where
+  -- a number, an infinity or NA
+  literal : Standing → Use F
+  -- `yes` or `no`
+  truth : Standing → Use F
+  -- a reference, where these sets are controlled: name, suffix and indices
+  reading : Standing → List ℕ → ℕ → Suffix → Indices F → Use F
+  -- `ord` of a set, where these sets are controlled
+  ordinal : Standing → List ℕ → ℕ → Use F
+  -- `card` of a set
+  cardinal : Standing → ℕ → Use F
+  -- a function of arguments
+  calling : Standing → Function → Parts F → Use F
+  -- a sum or the like, of this body
+  folding : Standing → FoldOp → Tree F → Use F
+  -- sets that a fold or a loop controls, where others are controlled already
+  controlling : List ℕ → List ℕ → Use F
+  -- a step: the operands before it, and its right operand
+  stepping : Standing → Operation → List (Tree F) → Tree F → Use F
+  -- relations, `and`, `or` and `xor`
+  logic : Standing → Use F
+  -- what an assignment assigns: name, suffix and indices
+  assigning : ℕ → Suffix → Indices F → Use F
+  -- an equation that is defined, by these indices
+  defining : ℕ → Indices F → Use F
+  -- the amount of a lag on the left of an assignment
+  shifting : Tree F → Use F
+  -- a name that is declared, with its domain
+  naming : DeclKind → ℕ → List (Option ℕ) → Use F
+  -- variables are declared whose values are not continuous
+  not_continuous : Use F
+  -- a set of a domain
+  bounding : ℕ → Use F
+  -- an item of data: how many positions its name has, and how many the item has
+  placing : ℕ → ℕ → Use F
+  -- an error of a list of data
+  failing : SetError → Use F
+  -- the first name of an alias, and the second
+  first_alias : ℕ → ℕ → Use F
+  -- the second name of an alias, after the first
+  second_alias : ℕ → ℕ → Use F
+  -- a model that is declared
+  modelling : ℕ → Use F
+  -- an equation that is listed in a model
+  listing : ℕ → Use F
+  -- a model that is solved
+  solving : ℕ → Use F
+  -- the word after `using`
+  method : List ℕ → Use F
+  -- the variable that is minimized or maximized
+  optimizing : ℕ → Use F
+  -- a symbol that is displayed, by a suffix
+  showing : ℕ → Suffix → Use F
+  -- the word of an option
+  option_word : List ℕ → Use F
+  -- what an option is set to
+  option_value : List ℕ → Setting F → Use F
+
+-- parts with their places
+abbrev pub Uses : Type 0 → Type 0
+Uses F = List (Place × Use F)
+
+-- the place of a part: its own, or that of what is around it
+abbrev pub place_of : Mark → Place → Place
+place_of (placed at) around = at
+place_of (signed at mark) around = at
+place_of mark around = around
+
+-- which step stands before a part of a product or a power
+abbrev pub operation_of : Mark → Operation
+operation_of (signed at true) = divides
+operation_of (signed at false) = multiplies
+operation_of mark = raises
+
+module _ {F : Type 0} where
+  -- the sets of a control
+  abbrev pub sets_of : Control F → List ℕ
+  sets_of (over sets) = sets
+  sets_of (over_where sets condition) = sets
+
+  -- the sets among indices, in order
+  abbrev pub index_sets : Indices F → List ℕ
+  index_sets no_index = []
+  index_sets (label n rest) = index_sets rest
+  index_sets (set name rest) = name ∷ index_sets rest
+  index_sets (lagged name op at amount rest) = name ∷ index_sets rest
+
+  -- the steps to the parts after some operands
+  abbrev pub later_steps : Standing → Place → List (Tree F) → Parts F → Uses F
+  later_steps standing around earlier no_part = []
+  later_steps standing around earlier (part mark tree rest) =
+      (place_of mark around, stepping standing (operation_of mark) earlier tree) ∷ later_steps standing around (earlier ++ tree ∷ []) rest
+
+  -- the steps of a product or a power: one to each part but the first
+  abbrev pub steps : Standing → Place → Parts F → Uses F
+  steps standing around no_part = []
+  steps standing around (part mark tree rest) = later_steps standing around (tree ∷ []) rest
+
+abbrev mutual
+  -- what an expression uses, where it stands so, at a place around it, under these controlled sets
+  pub uses : {F : Type 0} → Standing → Place → List ℕ → Tree F → Uses F
+  uses standing around controlled (number n) = (around, literal standing) ∷ []
+  uses standing around controlled plus_infinity = (around, literal standing) ∷ []
+  uses standing around controlled not_available = (around, literal standing) ∷ []
+  uses standing around controlled yes = (around, truth standing) ∷ []
+  uses standing around controlled no = (around, truth standing) ∷ []
+  uses standing around controlled (reference at name suffix indices) =
+      (at, reading standing controlled name suffix indices) ∷ amount_uses controlled indices
+  uses standing around controlled (place_in_set at name) = (at, ordinal standing controlled name) ∷ []
+  uses standing around controlled (size_of_set at name) = (at, cardinal standing name) ∷ []
+  uses standing around controlled (call at function args) =
+      (at, calling standing function args) ∷ part_uses (as_inner standing) at controlled args
+  uses standing around controlled (fold_over at op control body) =
+      (at, folding standing op body) ∷ (control_uses at controlled control ++ uses (as_inner standing) at (controlled ++ sets_of control) body)
+  uses standing around controlled (negated operand) = uses (as_part standing) around controlled operand
+  uses standing around controlled (sum parts) = part_uses (as_part standing) around controlled parts
+  uses standing around controlled (product parts) = part_uses (as_part standing) around controlled parts ++ steps standing around parts
+  uses standing around controlled (power parts) = part_uses (as_part standing) around controlled parts ++ steps standing around parts
+  uses standing around controlled (relation parts) = (around, logic standing) ∷ part_uses as_number around controlled parts
+  uses standing around controlled (not_so operand) = uses (as_denied standing) around controlled operand
+  uses standing around controlled (all_of parts) = (around, logic standing) ∷ part_uses as_condition around controlled parts
+  uses standing around controlled (one_of parts) = (around, logic standing) ∷ part_uses as_condition around controlled parts
+  uses standing around controlled (guarded operand guards) =
+      uses (as_guarded standing) around controlled operand ++ part_uses as_condition around controlled guards
+
+  -- what the parts of a node use, one after another
+  pub part_uses : {F : Type 0} → Standing → Place → List ℕ → Parts F → Uses F
+  part_uses standing around controlled no_part = []
+  part_uses standing around controlled (part mark tree rest) =
+      uses standing (place_of mark around) controlled tree ++ part_uses standing around controlled rest
+
+  -- what the amounts of lags use
+  pub amount_uses : {F : Type 0} → List ℕ → Indices F → Uses F
+  amount_uses controlled no_index = []
+  amount_uses controlled (label n rest) = amount_uses controlled rest
+  amount_uses controlled (set name rest) = amount_uses controlled rest
+  amount_uses controlled (lagged name op at amount rest) = uses as_number at controlled amount ++ amount_uses controlled rest
+
+  -- what a control uses: its sets, and its condition under them
+  pub control_uses : {F : Type 0} → Place → List ℕ → Control F → Uses F
+  control_uses at controlled (over sets) = (at, controlling controlled sets) ∷ []
+  control_uses at controlled (over_where sets condition) =
+      (at, controlling controlled sets) ∷ uses as_condition at (controlled ++ sets) condition
+
+module _ {F : Type 0} where
+  -- what the amounts of lags on the left of an assignment use
+  abbrev pub shift_uses : List ℕ → Indices F → Uses F
+  shift_uses controlled no_index = []
+  shift_uses controlled (label n rest) = shift_uses controlled rest
+  shift_uses controlled (set name rest) = shift_uses controlled rest
+  shift_uses controlled (lagged name op at amount rest) =
+      (at, shifting amount) ∷ (uses as_number at controlled amount ++ shift_uses controlled rest)
+
+  -- what a condition uses, where there is one
+  abbrev pub condition_uses : Place → List ℕ → Option (Tree F) → Uses F
+  condition_uses at controlled None = []
+  condition_uses at controlled (Some condition) = uses as_condition at controlled condition

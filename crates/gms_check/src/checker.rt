@@ -1,0 +1,117 @@
+//! The check of a program, statement by statement.
+ghost use Rattle.std.specs.Prelude.{◌≡◌, [], ◌∷◌, ◌++◌, map, not, None, Some, option_to_list, string_bytes, IfOk, OnOk};
+ghost use Rattle.gms_known.specs.Facts.{first_facts};
+ghost use Rattle.gms_check.specs.Checking.{faulted, seen};
+ghost use Rattle.gms_check.specs.CompileErrors.{compile_errors};
+ghost use Rattle.gms_check.specs.Errors.{sooner};
+
+use crate::error::{CompileError, ErrorKind};
+use gms_ast::Program;
+use gms_known::Known;
+use gms_labels::Place;
+use gq_field::ExactField;
+use std::alloc::{AllocError, Global};
+
+/// The compile errors of a program, with solvers of these names: at most one of each statement, in order.
+///
+/// The error of a statement is the first by place, and at one place the one with the least number. A loop with its body is
+/// one statement. A name is declared by the first statement that declares it, with an error or without; the data of a
+/// statement with an error are not given. The program is accepted exactly where there is no error. GAMS User's Guide, "Set
+/// Definition", "Data Manipulation", "Equations", "Model and Solve Statements".
+pub fn check<F: ExactField>(
+    alloc: Global,
+    program: &Program<F>,
+    solvers: &[String],
+) -> Result<Vec<CompileError>, AllocError>
+    ensures { IfOk result (λ errors. errors.items ≡ compile_errors F.value program.now (map string_bytes solvers.now)) }
+{
+    let mut checker = Checker::new(alloc, program, solvers)?;
+    let mut errors = Vec::new(alloc);
+    for statement in &program.statements {
+        let error = checker.statement(statement)?;
+        put_last(&mut errors, error)?;
+    }
+    Ok(errors)
+}
+
+/// Puts an error last among others, where there is one.
+fn put_last(errors: &mut Vec<CompileError>, error: Option<CompileError>) -> Result<(), AllocError>
+    ensures { OnOk result (errors.new.items ≡ errors.old.items ++ option_to_list error) }
+{
+    if let Some(error) = error {
+        errors.push(error)?;
+    }
+    Ok(())
+}
+
+/// A check that is going on: what is known, the sets that are controlled here, and the first error of the statement so far.
+#[derive(Drop)]
+pub struct Checker<'s, F: ExactField> {
+    /// Where memory is taken from.
+    pub alloc: Global,
+    /// The names of the solvers.
+    pub solvers: &'s [String],
+    /// What is known.
+    pub known: Known<F>,
+    /// The sets that are controlled.
+    pub controlled: Vec<u32>,
+    /// The first error of the statement so far.
+    pub first: Option<CompileError>,
+}
+
+impl<'s, F: ExactField> Checker<'s, F> {
+    /// A check at the beginning of a program.
+    pub fn new(
+        alloc: Global,
+        program: &Program<F>,
+        solvers: &'s [String],
+    ) -> Result<Checker<'s, F>, AllocError>
+        ensures { IfOk result (λ checker. seen checker
+            ≡ record { facts = first_facts program.now; solvers = map string_bytes solvers.now; controlled = []; first = None }) }
+    {
+        let known = Known::new(alloc, program)?;
+        Ok(Checker {
+            alloc,
+            solvers,
+            known,
+            controlled: Vec::new(alloc),
+            first: None,
+        })
+    }
+
+    /// Remembers an error, where none comes before it.
+    pub fn report(&mut self, kind: ErrorKind, at: Place)
+        ensures { seen self.new ≡ record (seen self.old) { first = sooner (seen self.old).first (Some (record { kind = kind; at = at })) } }
+    {
+        let error = CompileError { kind, at };
+        self.first = Some(error.or_earlier(self.first));
+    }
+
+    /// Remembers an error where something does not hold.
+    pub fn require(&mut self, holds: bool, kind: ErrorKind, at: Place)
+        ensures { seen self.new ≡ faulted (seen self.old) at ((not holds, kind) ∷ []) }
+    {
+        if !holds {
+            self.report(kind, at);
+        }
+    }
+
+    /// The first error so far, which is forgotten.
+    pub fn take_first(&mut self) -> Option<CompileError>
+        ensures first { result ≡ (seen self.old).first }
+        ensures forgotten { seen self.new ≡ record (seen self.old) { first = None } }
+    {
+        let first = self.first;
+        self.first = None;
+        first
+    }
+
+    /// Remembers an error that was found before, where there is one and none comes before it.
+    pub fn merge(&mut self, before: Option<CompileError>)
+        ensures { seen self.new ≡ record (seen self.old) { first = sooner before (seen self.old).first } }
+    {
+        if let Some(error) = before {
+            self.first = Some(error.or_earlier(self.first));
+        }
+    }
+}

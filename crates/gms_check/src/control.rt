@@ -1,0 +1,73 @@
+//! The check of sets: those that folds and loops control, and those of `ord` and `card`.
+ghost use Rattle.std.specs.Prelude.{◌≡◌, ◌++◌, [], ◌∷◌, not, IfOk, OnOk};
+ghost use Rattle.gms_known.specs.Names.{is_unknown};
+ghost use Rattle.gms_check.specs.Checking.{faulted, noted, seen, with_controlled};
+ghost use Rattle.gms_check.specs.Controls.{is_controlled_twice};
+ghost use Rattle.gms_check.specs.Uses.{cardinal, controlling, ordinal};
+ghost use Rattle.gms_check.specs.declared.error.ErrorKind.TheVariants.{UnknownName};
+
+use crate::checker::Checker;
+use crate::error::ErrorKind;
+use crate::indices::{MOST, has_unknown, has_wrong_set, is_controlled};
+use crate::standing::Standing;
+use gms_labels::Place;
+use gq_field::ExactField;
+use std::alloc::AllocError;
+
+impl<'s, F: ExactField> Checker<'s, F> {
+    /// Checks that a name is declared.
+    pub fn require_known(&mut self, name: u32, at: Place)
+        ensures { seen self.new ≡ faulted (seen self.old) at ((is_unknown (seen self.old).facts.state name, UnknownName) ∷ []) }
+    {
+        let known = !self.known.is_unknown(name);
+        self.require(known, ErrorKind::UnknownName, at);
+    }
+
+    /// Checks sets that are to be controlled, and controls them.
+    pub fn control_sets(&mut self, sets: &[u32], at: Place) -> Result<(), AllocError>
+        ensures { OnOk result
+            (seen self.new ≡ with_controlled (noted F.value (seen self.old) ((at, controlling (seen self.old).controlled sets.now) ∷ [])) sets.now) }
+    {
+        let unknown = has_unknown(&self.known, sets);
+        let wrong = has_wrong_set(&self.known, sets);
+        let twice = self.push_sets(sets)?;
+        self.require(!unknown, ErrorKind::UnknownName, at);
+        self.require(!wrong, ErrorKind::WrongKind, at);
+        self.require(sets.len() <= MOST, ErrorKind::WrongArity, at);
+        self.require(!twice, ErrorKind::ControlledTwice, at);
+        Ok(())
+    }
+
+    /// Controls sets. The answer is whether one of them is controlled already.
+    fn push_sets(&mut self, sets: &[u32]) -> Result<bool, AllocError>
+        ensures twice { IfOk result (λ twice. twice ≡ is_controlled_twice (seen self.old).controlled sets.now) }
+        ensures controlled { OnOk result (seen self.new ≡ with_controlled (seen self.old) sets.now) }
+    {
+        let mut twice = false;
+        for set in sets {
+            twice = twice || is_controlled(&self.controlled, *set);
+            self.controlled.push(*set)?;
+        }
+        Ok(twice)
+    }
+
+    /// Checks `ord` of a set.
+    pub fn ordinal(&mut self, standing: Standing, at: Place, set: u32)
+        ensures { seen self.new ≡ noted F.value (seen self.old) ((at, ordinal standing (seen self.old).controlled set) ∷ []) }
+    {
+        let controlled = is_controlled(&self.controlled, set);
+        let ordered = self.known.is_ordered(set);
+        self.cardinal(standing, at, set);
+        self.require(controlled, ErrorKind::Uncontrolled, at);
+        self.require(ordered, ErrorKind::NotOrdered, at);
+    }
+
+    /// Checks `card` of a set.
+    pub fn cardinal(&mut self, standing: Standing, at: Place, set: u32)
+        ensures { seen self.new ≡ noted F.value (seen self.old) ((at, cardinal standing set) ∷ []) }
+    {
+        let stands = standing.numbers && self.known.is_set(set);
+        self.require_known(set, at);
+        self.require(stands, ErrorKind::WrongKind, at);
+    }
+}

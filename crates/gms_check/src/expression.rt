@@ -1,0 +1,346 @@
+//! The check of expressions: what stands in them, and which steps are not linear.
+ghost use Rattle.std.specs.Prelude.{◌≡◌, ◌++◌, ◌∷◌, [], ◌&&◌, not, IfOk, OnOk};
+ghost use Rattle.gms_ast.specs.TreeView.{control_tree, tree_of};
+ghost use Rattle.gms_check.specs.Checking.{faulted, known_of, noted, seen, with_controlled};
+ghost use Rattle.gms_check.specs.Kinds.{takes};
+ghost use Rattle.gms_check.specs.Linearity.{has_variable, have_variable, is_sum};
+ghost use Rattle.gms_check.specs.PartLists.{chosen_list, in_no_place, placed_list, plain_list, related_list, signed_list, step_curved, step_faults, step_wrong};
+ghost use Rattle.gms_check.specs.Standing.{as_condition, as_inner, as_number, as_part};
+ghost use Rattle.gms_check.specs.StatementUses.{index_list};
+ghost use Rattle.gms_check.specs.declared.error.ErrorKind.TheVariants.{Nonlinear};
+ghost use Rattle.gms_check.specs.Uses.{amount_uses, calling, control_uses, part_uses, sets_of, steps, uses};
+
+use crate::checker::Checker;
+use crate::error::ErrorKind;
+use crate::standing::Standing;
+use gms_ast::{Control, Expr, FoldOp, Function, Index, Named, RelOp};
+use gms_labels::Place;
+use gq_field::ExactField;
+use std::alloc::AllocError;
+
+/// A step between two operands.
+#[derive(Clone, Copy, Debug, PartialEq, Eq)]
+pub enum Operation {
+    /// The right operand multiplies.
+    Multiplies,
+    /// The right operand divides.
+    Divides,
+    /// The right operand is an exponent.
+    Raises,
+}
+
+impl<'s, F: ExactField> Checker<'s, F> {
+    /// Checks an expression that stands so, with a place around it. The answer is whether it has variables.
+    #[cycle(expression)]
+    pub fn expression(
+        &mut self,
+        e: &Expr<F>,
+        standing: Standing,
+        around: Place,
+    ) -> Result<bool, AllocError>
+        ensures noted { OnOk result (seen self.new ≡ noted F.value (seen self.old) (uses standing around (seen self.old).controlled (tree_of e.now))) }
+        ensures variable { IfOk result (λ variable. variable ≡ has_variable (known_of F.value (seen self.old)) (tree_of e.now)) }
+    {
+        match e {
+            Expr::Number(_) | Expr::PlusInf | Expr::Na => {
+                self.require(standing.numbers, ErrorKind::WrongKind, around);
+                Ok(false)
+            }
+            Expr::Yes | Expr::No => {
+                self.require(standing.membership, ErrorKind::WrongKind, around);
+                Ok(false)
+            }
+            Expr::Ref {
+                at,
+                name,
+                suffix,
+                indices,
+            } => {
+                let named = Named {
+                    at: *at,
+                    name: *name,
+                };
+                let variable = self.reference(standing, named, *suffix, indices)?;
+                self.amounts(indices)?;
+                Ok(variable)
+            }
+            Expr::Ord { at, set } => {
+                self.ordinal(standing, *at, *set);
+                Ok(false)
+            }
+            Expr::Card { at, set } => {
+                self.cardinal(standing, *at, *set);
+                Ok(false)
+            }
+            Expr::Call { at, function, args } => self.call(standing, *at, *function, args),
+            Expr::Neg(operand) => self.expression(operand, standing.part(), around),
+            Expr::Plus(parts) => self.sum(parts, standing),
+            Expr::Times(parts) => self.product(parts, standing),
+            Expr::Power(parts) => self.power(parts, standing),
+            Expr::Relate(parts) => {
+                self.require(standing.numbers, ErrorKind::WrongKind, around);
+                self.relations(parts, around)?;
+                Ok(false)
+            }
+            Expr::Not(operand) => {
+                let _operand = self.expression(operand, standing.denied(), around)?;
+                Ok(false)
+            }
+            Expr::And(parts) => {
+                self.require(standing.numbers, ErrorKind::WrongKind, around);
+                let _parts = self.expressions(parts, Standing::CONDITION, around)?;
+                Ok(false)
+            }
+            Expr::Or(parts) => {
+                self.require(standing.numbers, ErrorKind::WrongKind, around);
+                self.choice(parts, around)?;
+                Ok(false)
+            }
+            Expr::Guard { operand, guards } => {
+                let variable = self.expression(operand, standing.guarded(), around)?;
+                let _guards = self.expressions(guards, Standing::CONDITION, around)?;
+                Ok(variable)
+            }
+            Expr::Fold {
+                at,
+                op,
+                control,
+                body,
+            } => {
+                self.require(standing.numbers, ErrorKind::WrongKind, *at);
+                let outer = self.controlled.len();
+                self.control(control, *at)?;
+                let variable = self.expression(body, standing.inner(), *at)?;
+                self.controlled.truncate(outer);
+                self.fold_step(standing, *op, variable, *at);
+                Ok(variable)
+            }
+        }
+    }
+
+    /// Checks expressions that stand alike. The answer is whether one has variables.
+    #[cycle(expression)]
+    fn expressions(
+        &mut self,
+        parts: &[Expr<F>],
+        standing: Standing,
+        around: Place,
+    ) -> Result<bool, AllocError>
+        ensures noted { OnOk result (seen self.new ≡ noted F.value (seen self.old) (part_uses standing around (seen self.old).controlled (plain_list parts.now))) }
+        ensures variable { IfOk result (λ variable. variable ≡ have_variable (known_of F.value (seen self.old)) (plain_list parts.now)) }
+    {
+        let mut variable = false;
+        for part in parts {
+            variable |= self.expression(part, standing, around)?;
+        }
+        Ok(variable)
+    }
+
+    /// Checks the amounts of lags.
+    #[cycle(expression)]
+    fn amounts(&mut self, indices: &[Index<F>]) -> Result<(), AllocError>
+        ensures { OnOk result (seen self.new ≡ noted F.value (seen self.old) (amount_uses (seen self.old).controlled (index_list indices.now))) }
+    {
+        for index in indices {
+            if let Index::Set { lag, .. } = index
+                && let Some((_op, at, amount)) = lag
+            {
+                let _variable = self.expression(amount, Standing::NUMBER, *at)?;
+            }
+        }
+        Ok(())
+    }
+
+    /// Checks a call of a function.
+    #[cycle(expression)]
+    fn call(
+        &mut self,
+        standing: Standing,
+        at: Place,
+        function: Function,
+        args: &[Expr<F>],
+    ) -> Result<bool, AllocError>
+        ensures noted { OnOk result (seen self.new
+            ≡ noted F.value (seen self.old) ((at, calling standing function (plain_list args.now)) ∷ part_uses (as_inner standing) at (seen self.old).controlled (plain_list args.now))) }
+        ensures variable { IfOk result (λ variable. variable ≡ have_variable (known_of F.value (seen self.old)) (plain_list args.now)) }
+    {
+        self.require(standing.numbers, ErrorKind::WrongKind, at);
+        self.require(takes(function, args.len()), ErrorKind::Function, at);
+        let variable = self.expressions(args, standing.inner(), at)?;
+        self.require(!(standing.variables && variable), ErrorKind::Nonlinear, at);
+        Ok(variable)
+    }
+
+    /// Checks the sets that a fold or a loop controls, and its condition under them. They stay controlled.
+    #[cycle(expression)]
+    pub fn control(&mut self, control: &Control<F>, at: Place) -> Result<(), AllocError>
+        ensures { OnOk result (seen self.new
+            ≡ with_controlled (noted F.value (seen self.old) (control_uses at (seen self.old).controlled (control_tree control.now))) (sets_of (control_tree control.now))) }
+    {
+        self.control_sets(control.sets.as_slice(), at)?;
+        if let Some(condition) = &control.condition {
+            let _variable = self.expression(condition, Standing::CONDITION, at)?;
+        }
+        Ok(())
+    }
+
+    /// Checks the parts of a sum.
+    #[cycle(expression)]
+    fn sum(
+        &mut self,
+        parts: &[(Place, bool, Expr<F>)],
+        standing: Standing,
+    ) -> Result<bool, AllocError>
+        ensures noted { OnOk result (seen self.new ≡ noted F.value (seen self.old) (part_uses (as_part standing) in_no_place (seen self.old).controlled (signed_list parts.now))) }
+        ensures variable { IfOk result (λ variable. variable ≡ have_variable (known_of F.value (seen self.old)) (signed_list parts.now)) }
+    {
+        let mut variable = false;
+        for (at, _, part) in parts {
+            variable |= self.expression(part, standing.part(), *at)?;
+        }
+        Ok(variable)
+    }
+
+    /// Checks the parts of a product and its steps.
+    #[cycle(expression)]
+    fn product(
+        &mut self,
+        parts: &[(Place, bool, Expr<F>)],
+        standing: Standing,
+    ) -> Result<bool, AllocError>
+        ensures noted { OnOk result (seen self.new
+            ≡ noted F.value (seen self.old) (part_uses (as_part standing) in_no_place (seen self.old).controlled (signed_list parts.now) ++ steps standing in_no_place (signed_list parts.now))) }
+        ensures variable { IfOk result (λ variable. variable ≡ have_variable (known_of F.value (seen self.old)) (signed_list parts.now)) }
+    {
+        let mut earlier = false;
+        for (i, (at, divides, part)) in parts.iter().enumerate() {
+            let right = self.expression(part, standing.part(), *at)?;
+            if i > 0 {
+                let operation = if *divides {
+                    Operation::Divides
+                } else {
+                    Operation::Multiplies
+                };
+                self.step(standing, operation, earlier, right, *at);
+            }
+            earlier |= right;
+        }
+        Ok(earlier)
+    }
+
+    /// Checks the parts of a power and its steps.
+    #[cycle(expression)]
+    fn power(&mut self, parts: &[(Place, Expr<F>)], standing: Standing) -> Result<bool, AllocError>
+        ensures noted { OnOk result (seen self.new
+            ≡ noted F.value (seen self.old) (part_uses (as_part standing) in_no_place (seen self.old).controlled (placed_list parts.now) ++ steps standing in_no_place (placed_list parts.now))) }
+        ensures variable { IfOk result (λ variable. variable ≡ have_variable (known_of F.value (seen self.old)) (placed_list parts.now)) }
+    {
+        let mut earlier = false;
+        for (i, (at, part)) in parts.iter().enumerate() {
+            let right = self.expression(part, standing.part(), *at)?;
+            if i > 0 {
+                self.step(standing, Operation::Raises, earlier, right, *at);
+            }
+            earlier |= right;
+        }
+        Ok(earlier)
+    }
+
+    /// Checks the parts of relations.
+    #[cycle(expression)]
+    fn relations(&mut self, parts: &[(RelOp, Expr<F>)], around: Place) -> Result<(), AllocError>
+        ensures { OnOk result (seen self.new ≡ noted F.value (seen self.old) (part_uses as_number around (seen self.old).controlled (related_list parts.now))) }
+    {
+        for (_, part) in parts {
+            let _variable = self.expression(part, Standing::NUMBER, around)?;
+        }
+        Ok(())
+    }
+
+    /// Checks the parts of a choice.
+    #[cycle(expression)]
+    fn choice(&mut self, parts: &[(bool, Expr<F>)], around: Place) -> Result<(), AllocError>
+        ensures { OnOk result (seen self.new ≡ noted F.value (seen self.old) (part_uses as_condition around (seen self.old).controlled (chosen_list parts.now))) }
+    {
+        for (_, part) in parts {
+            let _variable = self.expression(part, Standing::CONDITION, around)?;
+        }
+        Ok(())
+    }
+
+    /// Checks the step of a fold, whose body has variables or not.
+    fn fold_step(&mut self, standing: Standing, op: FoldOp, variable: bool, at: Place)
+        ensures { seen self.new ≡ faulted (seen self.old) at ((standing.variables && (not (is_sum op) && variable), Nonlinear) ∷ []) }
+    {
+        let linear = is_linear_fold(op, variable);
+        self.require_linear(standing, linear, at);
+    }
+
+    /// Checks a step at its right operand, where the operands before it and it have variables or not.
+    fn step(
+        &mut self,
+        standing: Standing,
+        operation: Operation,
+        earlier: bool,
+        right: bool,
+        at: Place,
+    )
+        ensures { seen self.new ≡ faulted (seen self.old) at (step_faults standing operation earlier right) }
+    {
+        let stands = may_step(standing, operation);
+        let linear = is_linear_step(operation, earlier, right);
+        self.require(stands, ErrorKind::WrongKind, at);
+        self.require_linear(standing, linear, at);
+    }
+
+    /// Checks that what stands in an equation is linear.
+    fn require_linear(&mut self, standing: Standing, linear: bool, at: Place)
+        ensures { seen self.new ≡ faulted (seen self.old) at ((standing.variables && not linear, Nonlinear) ∷ []) }
+    {
+        let curved = standing.variables && !linear;
+        self.require(!curved, ErrorKind::Nonlinear, at);
+    }
+}
+
+/// Whether a fold of a body with variables or without is linear.
+fn is_linear_fold(op: FoldOp, variable: bool) -> bool
+    ensures { not result ≡ (not (is_sum op) && variable) }
+{
+    match op {
+        FoldOp::Sum => true,
+        _ => !variable,
+    }
+}
+
+/// Whether operands stand in a step by their kind.
+fn may_step(standing: Standing, operation: Operation) -> bool
+    ensures { not result ≡ step_wrong standing operation }
+{
+    match operation {
+        Operation::Multiplies => true,
+        Operation::Divides | Operation::Raises => standing.numbers,
+    }
+}
+
+/// Whether a step is linear, where the operands before it and the right one have variables or not.
+fn is_linear_step(operation: Operation, earlier: bool, right: bool) -> bool
+    ensures { not result ≡ step_curved operation earlier right }
+{
+    match operation {
+        Operation::Multiplies => !(earlier && right),
+        Operation::Divides => !right,
+        Operation::Raises => !(earlier || right),
+    }
+}
+
+/// Whether a function takes so many arguments. One that is left out takes none.
+fn takes(function: Function, count: usize) -> bool
+    ensures { result ≡ takes function count }
+{
+    match function {
+        Function::Max | Function::Min => count > 1,
+        Function::Mod | Function::Power => count == 2,
+        Function::NotInProfile => false,
+        _ => count == 1,
+    }
+}

@@ -1,0 +1,152 @@
+//! Questions on the indices of a reference, and on the sets among them.
+ghost use Rattle.std.specs.Prelude.{◌≡◌, ℕ, List, drop, not, IfOk};
+ghost use Rattle.std.specs.List.{list_any};
+ghost use Rattle.gms_known.specs.Entries.{above_of};
+ghost use Rattle.gms_known.specs.Facts.{is_ordered, names};
+ghost use Rattle.gms_known.specs.Names.{is_index_set, is_unknown, positions};
+ghost use Rattle.gms_check.specs.Controls.{lagged_sets};
+ghost use Rattle.gms_check.specs.Domains.{is_wrong_count};
+ghost use Rattle.gms_check.specs.IndexList.{have_unfit_label, have_unfit_set};
+ghost use Rattle.gms_check.specs.Past.{is_among};
+ghost use Rattle.gms_check.specs.StatementUses.{index_list};
+ghost use Rattle.gms_check.specs.Uses.{index_sets};
+
+use gms_ast::Index;
+use gms_known::Known;
+use gq_field::ExactField;
+use std::alloc::{AllocError, Global};
+
+/// How many sets a control has at most, and how many indices a reference.
+pub const MOST: usize = 10;
+
+/// Whether so many indices are another number than is due, or over 10.
+pub fn is_wrong_count(due: usize, count: usize) -> bool
+    ensures { result ≡ is_wrong_count due count }
+{
+    count != due || count > MOST
+}
+
+/// The sets among indices, in order.
+pub fn index_sets<F>(alloc: Global, indices: &[Index<F>]) -> Result<Vec<u32>, AllocError>
+    ensures { IfOk result (λ sets. sets.items ≡ index_sets (index_list indices.now)) }
+{
+    let mut sets = Vec::new(alloc);
+    for index in indices {
+        if let Index::Set { name, .. } = index {
+            sets.push(*name)?;
+        }
+    }
+    Ok(sets)
+}
+
+/// The sets among indices that have a lag, in order.
+pub fn lagged_sets<F>(alloc: Global, indices: &[Index<F>]) -> Result<Vec<u32>, AllocError>
+    ensures { IfOk result (λ sets. sets.items ≡ lagged_sets (index_list indices.now)) }
+{
+    let mut sets = Vec::new(alloc);
+    for index in indices {
+        if let Index::Set { name, lag } = index
+            && lag.is_some()
+        {
+            sets.push(*name)?;
+        }
+    }
+    Ok(sets)
+}
+
+/// Whether some of these names is not declared.
+pub fn has_unknown<F: ExactField>(known: &Known<F>, names: &[u32]) -> bool
+    ensures { result ≡ list_any (is_unknown known.now.state) names.now }
+{
+    for name in names {
+        if known.is_unknown(*name) {
+            return true;
+        }
+    }
+    false
+}
+
+/// Whether some of these names is not that of a one-dimensional set.
+pub fn has_wrong_set<F: ExactField>(known: &Known<F>, names: &[u32]) -> bool
+    ensures { result ≡ list_any (λ name. not (is_index_set known.now.state name)) names.now }
+{
+    for name in names {
+        if !known.is_index_set(*name) {
+            return true;
+        }
+    }
+    false
+}
+
+/// Whether some of these sets is not ordered.
+pub fn has_unordered<F: ExactField>(known: &Known<F>, sets: &[u32]) -> bool
+    ensures { result ≡ list_any (λ set. not (is_ordered known.now set)) sets.now }
+{
+    for set in sets {
+        if !known.is_ordered(*set) {
+            return true;
+        }
+    }
+    false
+}
+
+/// Whether a set is among some that are controlled.
+pub fn is_controlled(controlled: &[u32], set: u32) -> bool
+    ensures { result ≡ is_among controlled.now set }
+{
+    for other in controlled {
+        if *other == set {
+            return true;
+        }
+    }
+    false
+}
+
+/// Whether some of these sets is none of those that are controlled.
+pub fn has_uncontrolled(controlled: &[u32], sets: &[u32]) -> bool
+    ensures { result ≡ list_any (λ set. not (is_among controlled.now set)) sets.now }
+{
+    for set in sets {
+        if !is_controlled(controlled, *set) {
+            return true;
+        }
+    }
+    false
+}
+
+/// Whether some index set does not fit its position of a name.
+pub fn has_unfit_set<F: ExactField>(known: &Known<F>, name: u32, indices: &[Index<F>]) -> bool
+    ensures { result ≡ have_unfit_set known.now.state (names known.now) (above_of known.now.declared) name (positions known.now.state name) (index_list indices.now) }
+{
+    for (place, index) in indices.iter().enumerate() {
+        if let Index::Set { name: set, .. } = index
+            && let Some(position) = known.position(name, place)
+            && !known.fits(name, position, *set)
+        {
+            return true;
+        }
+    }
+    false
+}
+
+/// Whether some label does not stand at its position of a name.
+pub fn has_unfit_label<F: ExactField>(
+    alloc: Global,
+    known: &Known<F>,
+    name: u32,
+    indices: &[Index<F>],
+) -> Result<bool, AllocError>
+    ensures { IfOk result (λ unfit. unfit ≡ have_unfit_label known.now.state (names known.now) name (positions known.now.state name) (index_list indices.now)) }
+{
+    for (place, index) in indices.iter().enumerate() {
+        if let Index::Label(label) = index
+            && let Some(position) = known.position(name, place)
+        {
+            let holds = known.holds(alloc, name, position, *label)?;
+            if !holds {
+                return Ok(true);
+            }
+        }
+    }
+    Ok(false)
+}

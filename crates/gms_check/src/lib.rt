@@ -1,0 +1,23 @@
+//! The check of a program: its compile errors, and the state in which an accepted program begins.
+#![tactic(auto)]
+
+mod checker;
+mod control;
+mod declaration;
+mod error;
+mod expression;
+mod indices;
+mod kinds;
+mod laws;
+mod loading;
+mod option;
+mod reference;
+mod solving;
+mod standing;
+mod statement;
+mod target;
+
+pub use checker::check;
+pub use error::{CompileError, ErrorKind};
+pub use laws::checked_laws;
+pub use loading::load;

@@ -1,0 +1,112 @@
+//! The check of references: names, suffixes and indices.
+ghost use Rattle.std.specs.Prelude.{◌≡◌, [], ◌∷◌, flat_map, IfOk, OnOk};
+ghost use Rattle.gms_check.specs.Checking.{faulted, known_of, noted, seen};
+ghost use Rattle.gms_check.specs.Faults.{index_faults};
+ghost use Rattle.gms_check.specs.Linearity.{is_variable_by};
+ghost use Rattle.gms_check.specs.StatementUses.{index_list, show_uses};
+ghost use Rattle.gms_check.specs.Uses.{reading, showing};
+
+use crate::checker::Checker;
+use crate::error::ErrorKind;
+use crate::indices::{
+    has_uncontrolled, has_unfit_label, has_unfit_set, has_unknown, has_unordered, has_wrong_set,
+    index_sets, is_wrong_count, lagged_sets,
+};
+use crate::kinds::is_variable;
+use crate::standing::Standing;
+use gms_ast::{Index, Named, Show, Suffix};
+use gms_labels::Place;
+use gq_field::ExactField;
+use std::alloc::AllocError;
+
+impl<'s, F: ExactField> Checker<'s, F> {
+    /// Checks a reference but for the amounts of its lags. The answer is whether it is a variable without suffix.
+    pub fn reference(
+        &mut self,
+        standing: Standing,
+        named: Named,
+        suffix: Suffix,
+        indices: &[Index<F>],
+    ) -> Result<bool, AllocError>
+        ensures noted { OnOk result (seen self.new
+            ≡ noted F.value (seen self.old) ((named.at, reading standing (seen self.old).controlled named.name suffix (index_list indices.now)) ∷ [])) }
+        ensures variable { IfOk result (λ variable. variable ≡ is_variable_by (known_of F.value (seen self.old)) named.name suffix) }
+    {
+        let kind = self.known.kind(named.name);
+        let variable = self.is_variable(named.name, suffix);
+        let sets = index_sets(self.alloc, indices)?;
+        let uncontrolled = has_uncontrolled(&self.controlled, &sets);
+        self.named(named, standing.admits(kind, suffix), indices)?;
+        self.require(!uncontrolled, ErrorKind::Uncontrolled, named.at);
+        let stands = standing.variables || !variable;
+        self.require(stands, ErrorKind::Endogenous, named.at);
+        Ok(variable)
+    }
+
+    /// Whether a name by this suffix is a variable in an equation.
+    fn is_variable(&self, name: u32, suffix: Suffix) -> bool
+        ensures { result ≡ is_variable_by (known_of F.value (seen self.now)) name suffix }
+    {
+        match suffix {
+            Suffix::None => is_variable(self.known.kind(name)),
+            _ => false,
+        }
+    }
+
+    /// Checks a name that stands by its kind or not, and its indices against its positions.
+    pub fn named(
+        &mut self,
+        named: Named,
+        stands: bool,
+        indices: &[Index<F>],
+    ) -> Result<(), AllocError>
+        ensures { OnOk result (seen self.new
+            ≡ faulted (seen self.old) named.at (index_faults (known_of F.value (seen self.old)) named.name stands (index_list indices.now))) }
+    {
+        let sets = index_sets(self.alloc, indices)?;
+        let lagged = lagged_sets(self.alloc, indices)?;
+        let unknown = self.known.is_unknown(named.name) || has_unknown(&self.known, &sets);
+        let wrong = !stands || has_wrong_set(&self.known, &sets);
+        let miscounted = is_wrong_count(self.known.position_count(named.name), indices.len());
+        let unfit = has_unfit_set(&self.known, named.name, indices);
+        let outside = has_unfit_label(self.alloc, &self.known, named.name, indices)?;
+        let unordered = has_unordered(&self.known, &lagged);
+        self.require(!unknown, ErrorKind::UnknownName, named.at);
+        self.require(!wrong, ErrorKind::WrongKind, named.at);
+        self.require(!miscounted, ErrorKind::WrongArity, named.at);
+        self.require(!unfit, ErrorKind::DomainOfSet, named.at);
+        self.require(!outside, ErrorKind::DomainOfLabel, named.at);
+        self.require(!unordered, ErrorKind::NotOrdered, named.at);
+        Ok(())
+    }
+
+    /// Checks what is displayed.
+    pub fn shows(&mut self, items: &[Show])
+        ensures { seen self.new ≡ noted F.value (seen self.old) (flat_map show_uses items.now) }
+    {
+        for item in items {
+            self.show(item);
+        }
+    }
+
+    /// Checks one thing that is displayed.
+    fn show(&mut self, item: &Show)
+        ensures { seen self.new ≡ noted F.value (seen self.old) (show_uses item.now) }
+    {
+        if let Show::Symbol { named, suffix } = item {
+            self.symbol(*named, *suffix);
+        }
+    }
+
+    /// Checks a symbol that is displayed.
+    fn symbol(&mut self, named: Named, suffix: Suffix)
+        ensures { seen self.new ≡ noted F.value (seen self.old) ((named.at, showing named.name suffix) ∷ []) }
+    {
+        let kind = self.known.kind(named.name);
+        let variable = self.is_variable(named.name, suffix);
+        let stands = Standing::CONDITION.admits(kind, suffix);
+        self.require_known(named.name, named.at);
+        self.require(stands, ErrorKind::WrongKind, named.at);
+        self.require(!variable, ErrorKind::Endogenous, named.at);
+    }
+}

@@ -1,0 +1,145 @@
+//! The check of left sides: what is assigned or defined, the amounts of its lags, and the sets that it controls.
+ghost use Rattle.std.specs.Prelude.{◌≡◌, ◌∷◌, ◌&&◌, [], option_map, OnOk};
+ghost use Rattle.gms_ast.specs.TreeView.{tree_of};
+ghost use Rattle.gms_check.specs.Checking.{known_of, noted, seen, with_controlled};
+ghost use Rattle.gms_known.specs.Names.{kind_of, positions};
+ghost use Rattle.gms_check.specs.Kinds.{is_left_amount, is_without_positions, may_shift};
+ghost use Rattle.gms_check.specs.OptionWords.{is_whole};
+ghost use Rattle.gms_check.specs.StatementUses.{index_list};
+ghost use Rattle.gms_check.specs.Standing.{as_number};
+ghost use Rattle.gms_check.specs.Uses.{assigning, condition_uses, defining, index_sets, listing, shift_uses, shifting, uses};
+
+use crate::checker::Checker;
+use crate::error::ErrorKind;
+use crate::indices::index_sets;
+use crate::kinds::is_equation;
+use crate::standing::{Standing, may_be_assigned};
+use gms_ast::{Expr, Index, Named, Suffix, Target};
+use gms_labels::Place;
+use gms_store::SymbolKind;
+use gq_field::ExactField;
+use std::alloc::AllocError;
+
+impl<'s, F: ExactField> Checker<'s, F> {
+    /// Checks what an assignment assigns, but for the amounts of its lags.
+    pub fn target(&mut self, target: &Target<F>) -> Result<(), AllocError>
+        ensures { OnOk result (seen self.new
+            ≡ noted F.value (seen self.old) ((target.now.at, assigning target.now.name target.now.suffix (index_list target.now.indices)) ∷ [])) }
+    {
+        let kind = self.known.kind(target.name);
+        let stands = may_be_assigned(kind, target.suffix);
+        let named = Named {
+            at: target.at,
+            name: target.name,
+        };
+        self.named(named, stands, target.indices.as_slice())?;
+        Ok(())
+    }
+
+    /// Checks an equation that is defined.
+    pub fn defined_equation(
+        &mut self,
+        equation: Named,
+        indices: &[Index<F>],
+    ) -> Result<(), AllocError>
+        ensures { OnOk result (seen self.new
+            ≡ noted F.value (seen self.old) ((equation.at, defining equation.name (index_list indices.now)) ∷ [])) }
+    {
+        let stands = is_equation(self.known.kind(equation.name));
+        let defined = self.known.is_defined(equation.name);
+        self.named(equation, stands, indices)?;
+        self.require(!defined, ErrorKind::DefinedTwice, equation.at);
+        Ok(())
+    }
+
+    /// Checks an equation that is listed in a model.
+    pub fn listed_equation(&mut self, named: Named)
+        ensures { seen self.new ≡ noted F.value (seen self.old) ((named.at, listing named.name) ∷ []) }
+    {
+        let equation = is_equation(self.known.kind(named.name));
+        self.require_known(named.name, named.at);
+        self.require(equation, ErrorKind::WrongKind, named.at);
+    }
+
+    /// Controls the sets among the indices of a left side.
+    pub fn control_indices(&mut self, indices: &[Index<F>]) -> Result<(), AllocError>
+        ensures { OnOk result (seen self.new ≡ with_controlled (seen self.old) (index_sets (index_list indices.now))) }
+    {
+        let sets = index_sets(self.alloc, indices)?;
+        for set in &sets {
+            self.controlled.push(*set)?;
+        }
+        Ok(())
+    }
+
+    /// Checks the amounts of lags on the left.
+    pub fn left_amounts(&mut self, indices: &[Index<F>]) -> Result<(), AllocError>
+        ensures { OnOk result (seen self.new ≡ noted F.value (seen self.old) (shift_uses (seen self.old).controlled (index_list indices.now))) }
+    {
+        for index in indices {
+            if let Index::Set { lag, .. } = index
+                && let Some((_op, at, amount)) = lag
+            {
+                self.left_amount(amount, *at)?;
+            }
+        }
+        Ok(())
+    }
+
+    /// Checks an amount of a lag on the left: a whole literal or a scalar.
+    fn left_amount(&mut self, amount: &Expr<F>, at: Place) -> Result<(), AllocError>
+        ensures { OnOk result (seen self.new
+            ≡ noted F.value (seen self.old) ((at, shifting (tree_of amount.now)) ∷ uses as_number at (seen self.old).controlled (tree_of amount.now))) }
+    {
+        let stands = self.is_left_amount(amount);
+        self.require(stands, ErrorKind::WrongKind, at);
+        let _variable = self.expression(amount, Standing::NUMBER, at)?;
+        Ok(())
+    }
+
+    /// Whether an amount is a whole literal or a scalar. A variable without suffix is let pass: another error speaks of it.
+    fn is_left_amount(&self, amount: &Expr<F>) -> bool
+        ensures { result ≡ is_left_amount (known_of F.value (seen self.now)) (tree_of amount.now) }
+    {
+        match amount {
+            Expr::Number(value) => is_whole(*value),
+            Expr::Ref {
+                name,
+                suffix,
+                indices,
+                ..
+            } => matches!(suffix, Suffix::None) && self.may_shift(*name, indices.is_empty()),
+            _ => false,
+        }
+    }
+
+    /// Whether a name without suffix, with indices or bare, is that of a scalar or of a variable.
+    fn may_shift(&self, name: u32, bare: bool) -> bool
+        ensures { result ≡ may_shift (kind_of (seen self.now).facts.state name) (is_without_positions (positions (seen self.now).facts.state name) && bare) }
+    {
+        match self.known.kind(name) {
+            SymbolKind::Parameter => self.known.position_count(name) == 0 && bare,
+            SymbolKind::Variable => true,
+            _ => false,
+        }
+    }
+
+    /// Checks a condition, where there is one.
+    pub fn condition(&mut self, condition: &Option<Expr<F>>, at: Place) -> Result<(), AllocError>
+        ensures { OnOk result (seen self.new
+            ≡ noted F.value (seen self.old) (condition_uses at (seen self.old).controlled (option_map tree_of condition.now))) }
+    {
+        if let Some(condition) = condition {
+            let _variable = self.expression(condition, Standing::CONDITION, at)?;
+        }
+        Ok(())
+    }
+}
+
+/// Whether a number is whole.
+pub fn is_whole<F: ExactField>(value: F) -> bool
+    ensures { result ≡ is_whole (F.value value) }
+{
+    let (_, denominator) = value.parts();
+    denominator == 1
+}
