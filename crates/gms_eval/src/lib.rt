@@ -10,8 +10,6 @@ mod leading;
 mod references;
 mod steps;
 mod stop;
-#[cfg(test)]
-mod tests;
 mod walk;
 
 pub use binding::Binding;

@@ -11,5 +11,3 @@ pub use memory::MemHost;
 pub use real::RealHost;
 pub use spool::Spool;
 
-#[cfg(test)]
-mod tests;

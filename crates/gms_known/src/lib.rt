@@ -7,8 +7,6 @@ mod known;
 mod marks;
 mod model;
 mod order;
-#[cfg(test)]
-mod tests;
 
 pub use data::{Data, are_ascending, positions, put_data};
 pub use known::Known;

@@ -10,8 +10,6 @@ mod mode;
 mod mode_change;
 mod piece;
 mod place;
-#[cfg(test)]
-mod tests;
 mod token;
 
 pub use fault::{LexFault, LexFaultOrMemory};

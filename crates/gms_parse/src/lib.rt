@@ -13,8 +13,6 @@ mod source;
 mod spelling;
 mod statement;
 mod table;
-#[cfg(test)]
-mod tests;
 
 pub use fault::{SourceError, SourceFault, SourceFaultOrMemory};
 pub use source::parse;

@@ -13,8 +13,6 @@ mod read;
 mod reader;
 mod reference;
 mod spelling;
-#[cfg(test)]
-mod tests;
 mod word;
 
 pub use fault::{SyntaxError, SyntaxFault, SyntaxFaultOrMemory};

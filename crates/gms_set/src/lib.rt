@@ -7,8 +7,6 @@ mod items;
 mod outside;
 mod product;
 mod ranges;
-#[cfg(test)]
-mod tests;
 
 pub use fault::{SetError, SetFault, SetFaultOrMemory};
 pub use items::expand;

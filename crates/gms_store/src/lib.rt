@@ -10,8 +10,6 @@ mod laws;
 mod settings;
 mod store;
 mod symbol;
-#[cfg(test)]
-mod tests;
 
 pub use kind::SymbolKind;
 pub use laws::write_laws;

@@ -9,8 +9,6 @@ mod label;
 mod number;
 mod stretch;
 mod tables;
-#[cfg(test)]
-mod tests;
 mod word;
 
 pub use entry::{Entry, TableLine};

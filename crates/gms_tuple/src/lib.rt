@@ -3,8 +3,6 @@
 
 mod merge;
 mod set;
-#[cfg(test)]
-mod tests;
 mod tree;
 mod tuple;
 

@@ -9,8 +9,6 @@ mod powers;
 mod products;
 mod roundings;
 mod sums;
-#[cfg(test)]
-mod tests;
 
 pub use extended::Ext;
 pub use fault::ExtendedFault;

@@ -9,8 +9,6 @@ mod half;
 mod product;
 mod rounding;
 mod sum;
-#[cfg(test)]
-mod tests;
 mod tiny;
 
 pub use field::{ExactField, Limit};

@@ -13,7 +13,7 @@ use Rattle.lp_core.specs.Feasible.{bound_value}
 use Rattle.lp_core.specs.Proofs.{row_sums}
 use Rattle.lp_core.specs.StandardForm.{Shift, Standard, StandardRow, of_row, point_of, dual_by_sense, changed_back, shift_of, numbered, spread, base, column_at, rows_by_sense, bound_rows, directed, objective_of, columns_of, variables_of, standard_form, width, count_by_bounds, count_by_sense, reduced_by_bounds, duals_from, reduced_from, multiplier, Last, levels_back, duals_back, reduced_back, farkas_back, ray_back}
 use Rattle.lp_std.specs.Pieces.{shifted_over, rows_over, bounds_over}
-use Rattle.lp_bland.specs.Numbers.{column_numbers, row_numbers, lp_numbers}
+use Rattle.lp_core.specs.Numbers.{column_numbers, row_numbers, lp_numbers}
 
 -- a number means itself
 abbrev pub itself : Number → Number

@@ -16,7 +16,7 @@ use Rattle.lp_core.specs.Steps.{AllFit, standard_steps, optimal_steps, infeasibl
 use Rattle.lp_core.specs.Answers.{NothingImproves, IsUnlimited, Leads, EndsSo, NoneCrosses, AnswersCrossed, AnswersStopped, IsAnswer, last_of, last_along}
 use Rattle.lp_std.specs.Last.{IsDictionaryOf}
 use Rattle.lp_std.proofs.Ends.{optimal_proved, infeasible_proved, unbounded_proved, point_feasible}
-use Rattle.lp_bland.specs.Numbers.{lp_numbers, end_numbers, answer_numbers}
+use Rattle.lp_core.specs.Numbers.{lp_numbers, end_numbers, answer_numbers}
 use Rattle.lp_bland.specs.Ends.{IsRefused}
 use Rattle.lp_bland.proofs.Naturality.{itself, form_same, levels_same, row_sums_same, duals_same, farkas_same, reduced_same, ray_same}
 use Rattle.lp_bland.proofs.SameSteps.{standard_steps_same, optimal_steps_same, infeasible_steps_same, unbounded_steps_same, interrupted_steps_same}

@@ -6,8 +6,6 @@ mod bland;
 mod entering;
 mod laws;
 mod narrow;
-#[cfg(test)]
-mod tests;
 mod walk;
 mod widen;
 

@@ -6,7 +6,7 @@ ghost use Rattle.gq_frac.specs.Frac.{frac_value};
 ghost use Rattle.gq_field.specs.Fits.{fits};
 ghost use Rattle.lp_core.specs.Feasible.{bound_value};
 ghost use Rattle.lp_bland.specs.declared.narrow.Wide.TheVariants as kinds;
-ghost use Rattle.lp_bland.specs.Numbers.{entries_numbers, column_numbers, row_numbers, lp_numbers, ColumnIsWithin, RowIsWithin, IsWithin};
+ghost use Rattle.lp_core.specs.Numbers.{entries_numbers, column_numbers, row_numbers, lp_numbers, ColumnIsWithin, RowIsWithin, IsWithin};
 ghost use Rattle.lp_bland.specs.Narrowing.{Narrows};
 
 use gq_field::Half;

@@ -2,7 +2,7 @@
 ghost use Rattle.std.specs.Prelude.{◌≡◌, IfOk, map};
 ghost use Rattle.gq_field.specs.Values.{half_value};
 ghost use Rattle.gq_frac.specs.Frac.{frac_value};
-ghost use Rattle.lp_bland.specs.Numbers.{end_numbers, answer_numbers};
+ghost use Rattle.lp_core.specs.Numbers.{end_numbers, answer_numbers};
 
 use gq_field::Half;
 use gq_frac::{Frac, widen};

@@ -5,7 +5,5 @@ mod bound;
 mod columns;
 mod partial;
 mod rows;
-#[cfg(test)]
-mod tests;
 
 pub use bound::dual_bound;

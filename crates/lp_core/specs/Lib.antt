@@ -8,3 +8,4 @@ pub mod StandardForm
 pub mod Dictionary
 pub mod Steps
 pub mod Answers
+pub mod Numbers

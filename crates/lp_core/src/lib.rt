@@ -8,12 +8,12 @@ mod laws;
 mod program;
 mod sequence;
 mod shape;
-#[cfg(test)]
-mod tests;
 
 pub use answer::{Answer, End, Pivot, Rule, StepName};
 pub use feasibility::feasible_at;
 pub use laws::{crossed_bounds, farkas, unbounded_ray, weak_duality};
 pub use program::{Column, Lp, Row, Sense};
 pub use sequence::Sequence;
-pub use shape::well_formed;
+pub use shape::{
+    MOST_COLUMNS, MOST_ROWS, count_bounds, count_variables, rows_by_sense, well_formed,
+};

@@ -10,10 +10,10 @@ use lp_form::Key;
 use std::cmp::Ordering;
 
 /// The most rows of a standard form.
-const MOST_ROWS: usize = 1500;
+pub const MOST_ROWS: usize = 1500;
 
 /// The most variables of a standard form, slacks not counted.
-const MOST_COLUMNS: usize = 3000;
+pub const MOST_COLUMNS: usize = 3000;
 
 /// Whether two keys are the same.
 fn is_same(key: &Key, other: &Key) -> bool
@@ -106,8 +106,8 @@ fn have_entries<F: ExactField>(rows: &[Row<F>], columns: usize) -> bool
     true
 }
 
-/// How many rows of the standard form a row has.
-fn rows_by_sense(sense: Sense) -> usize
+/// How many rows of the standard form a row has: an equation two, an inequality one, a row without a sense none.
+pub fn rows_by_sense(sense: Sense) -> usize
     ensures { result ≡ rows_of_sense sense }
 {
     match sense {
@@ -149,8 +149,8 @@ fn variables_by_bounds<F>(column: &Column<F>) -> usize
     }
 }
 
-/// How many columns have two bounds, or the greatest `usize`.
-fn count_bounds<F>(columns: &[Column<F>]) -> usize
+/// How many rows of the standard form the bounds of columns have, one for each column with two bounds; the greatest `usize` where there are more.
+pub fn count_bounds<F>(columns: &[Column<F>]) -> usize
     ensures { result ≡ min (sum_by (λ column. rows_of_bounds column.lower column.upper) columns.now) (2 ^ 64 - 1) }
 {
     let mut count: usize = 0;
@@ -160,8 +160,9 @@ fn count_bounds<F>(columns: &[Column<F>]) -> usize
     count
 }
 
-/// How many variables of the standard form columns have, or the greatest `usize`.
-fn count_variables<F>(columns: &[Column<F>]) -> usize
+/// How many variables of the standard form columns have, two for each column without bounds and one for each other; the greatest `usize` where
+/// there are more.
+pub fn count_variables<F>(columns: &[Column<F>]) -> usize
     ensures { result ≡ min (sum_by (λ column. variables_of_bounds column.lower column.upper) columns.now) (2 ^ 64 - 1) }
 {
     let mut count: usize = 0;

@@ -8,7 +8,5 @@ mod fault;
 mod first;
 mod last;
 mod row;
-#[cfg(test)]
-mod tests;
 
 pub use dict::Dict;

@@ -3,7 +3,7 @@ use Rattle.std.specs.Prelude.{IfSome}
 use Rattle.gq_field.specs.Values.{half_value}
 use Rattle.gq_frac.specs.Frac.{frac_value}
 use Rattle.lp_core.specs.declared.answer.Rule.TheVariants as by
-use Rattle.lp_bland.specs.Numbers.{lp_numbers}
+use Rattle.lp_core.specs.Numbers.{lp_numbers}
 use Rattle.lp_bland.proofs.Programs.{well_formed_same}
 use Rattle.lp_bland.proofs.Widened.{widened}
 use Rattle.lp_bland.proofs.bland.answer_over_half.Goals as goal

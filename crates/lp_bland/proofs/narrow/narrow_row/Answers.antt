@@ -5,7 +5,7 @@ use Rattle.gq_field.specs.Fits.{fits}
 use Rattle.gq_field.specs.Values.{half_value}
 use Rattle.gq_frac.specs.declared.frac.Frac.{Frac}
 use Rattle.gq_frac.specs.Frac.{frac_value}
-use Rattle.lp_bland.specs.Numbers.{entries_numbers, row_numbers, RowIsWithin}
+use Rattle.lp_core.specs.Numbers.{entries_numbers, row_numbers, RowIsWithin}
 use Rattle.lp_bland.proofs.Narrowed.{narrows_whole}
 use Rattle.lp_bland.proofs.narrow.narrow_row.Goals as goal
 
