@@ -10,4 +10,3 @@ pub use host::{Failed, Host};
 pub use memory::MemHost;
 pub use real::RealHost;
 pub use spool::Spool;
-
