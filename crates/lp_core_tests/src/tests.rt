@@ -1,7 +1,10 @@
 //! What no clause says: points of programs that were worked out by hand.
 use gms_tuple::Tuple;
 use gq_field::{ExactField, Tiny};
-use lp_core::{Column, Lp, Row, Sense, Sequence, StepName, feasible_at, well_formed};
+use lp_core::{
+    Column, Lp, Row, Sense, Sequence, StepName, count_bounds, count_variables, feasible_at,
+    rows_by_sense, well_formed,
+};
 use lp_form::Key;
 use std::alloc::{AllocError, Global};
 use std::test::Fail;
@@ -141,5 +144,18 @@ fn as_many_rows_as_there_may_be(rt: HostRuntime) -> Result<(), Fail> {
         lp.rows = Sequence::new(rows);
         assert_eq!(rt; well_formed(&lp), wanted, "at {count}");
     }
+    Ok(())
+}
+
+#[test]
+fn counts_of_a_standard_form(rt: HostRuntime) -> Result<(), Fail> {
+    let lp = program(rt.alloc())?;
+    assert_eq!(rt; rows_by_sense(Sense::E), 2);
+    assert_eq!(rt; rows_by_sense(Sense::L), 1);
+    assert_eq!(rt; rows_by_sense(Sense::G), 1);
+    assert_eq!(rt; rows_by_sense(Sense::N), 0);
+    // x alone has two bounds, and y has none
+    assert_eq!(rt; count_bounds(lp.columns.as_slice()), 1);
+    assert_eq!(rt; count_variables(lp.columns.as_slice()), 4);
     Ok(())
 }
