@@ -1,10 +1,17 @@
 //! Texts of elements.
-ghost use Rattle.std.specs.Prelude.{◌≡◌, ◌<◌, ◌++◌, All, length, map, IfOk, OnOk, string_bytes};
+ghost use Rattle.std.specs.Prelude.{◌≡◌, ◌++◌, map, IfOk, OnOk, string_bytes};
 ghost use Rattle.gms_fmt.specs.ElementTexts.{text_of, joined_by, element_text, dotted_text};
 
 use gms_labels::Labels;
 use gms_tuple::Tuple;
 use std::alloc::{AllocError, Global};
+
+/// The text of this number in a table, as it was first written, and the empty text where the table ends before.
+pub fn text_of(table: &Labels, n: u32) -> &str
+    ensures { result.now ≡ text_of table.now n }
+{
+    if n < table.len() { table.text(n) } else { "" }
+}
 
 /// Appends the labels of a tuple, with a text between each and the next.
 fn push_labels(
@@ -13,7 +20,6 @@ fn push_labels(
     between: &str,
     into: &mut String,
 ) -> Result<(), AllocError>
-    requires { All (λ label. label < length labels.now) t.now }
     ensures { OnOk result (string_bytes into.new ≡ string_bytes into.old ++ joined_by between.now (map (text_of labels.now) t.now)) }
 {
     let mut first = true;
@@ -21,13 +27,14 @@ fn push_labels(
         if !first {
             into.push_str(between)?;
         }
-        into.push_str(labels.text(*label))?;
+        into.push_str(text_of(labels, *label))?;
         first = false;
     }
     Ok(())
 }
 
-/// The text of an element: `x`, or with labels `x(a,b)`. Names and labels are as they were first written.
+/// The text of an element: `x`, or with labels `x(a,b)`. Names and labels are as they were first written; a number behind its table has the
+/// empty text.
 pub fn element(
     alloc: Global,
     names: &Labels,
@@ -35,11 +42,9 @@ pub fn element(
     name: u32,
     t: &Tuple,
 ) -> Result<String, AllocError>
-    requires name { name < length names.now }
-    requires labels { All (λ label. label < length labels.now) t.now }
     ensures { IfOk result (λ text. string_bytes text ≡ element_text names.now labels.now name t.now) }
 {
-    let mut text = String::from_str(alloc, names.text(name))?;
+    let mut text = String::from_str(alloc, text_of(names, name))?;
     if !t.as_slice().is_empty() {
         text.push_str("(")?;
         push_labels(labels, t, ",", &mut text)?;
@@ -48,9 +53,9 @@ pub fn element(
     Ok(text)
 }
 
-/// The text of a tuple: its labels with dots between them, as `a.b`. Labels are as they were first written.
+/// The text of a tuple: its labels with dots between them, as `a.b`. Labels are as they were first written; a number behind the table has the
+/// empty text.
 pub fn dotted(alloc: Global, labels: &Labels, t: &Tuple) -> Result<String, AllocError>
-    requires { All (λ label. label < length labels.now) t.now }
     ensures { IfOk result (λ text. string_bytes text ≡ dotted_text labels.now t.now) }
 {
     let mut text = String::new(alloc);

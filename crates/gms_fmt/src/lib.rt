@@ -7,4 +7,4 @@ mod elements;
 mod tests;
 
 pub use columns::{left, right};
-pub use elements::{dotted, element};
+pub use elements::{dotted, element, text_of};

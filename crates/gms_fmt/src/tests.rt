@@ -1,5 +1,5 @@
 //! What no clause says: that the calls succeed with ample memory.
-use crate::{dotted, element, left, right};
+use crate::{dotted, element, left, right, text_of};
 use gms_labels::Labels;
 use gms_tuple::Tuple;
 use std::alloc::{AllocError, Global};
@@ -21,6 +21,15 @@ fn texts_of_elements(alloc: Global) -> Result<[String; 4], Fail> {
         dotted(alloc, &labels, &both)?,
         dotted(alloc, &labels, &none)?,
     ])
+}
+
+#[test]
+fn texts_of_a_table(rt: HostRuntime) -> Result<(), Fail> {
+    let mut names = Labels::new(rt.alloc());
+    let x = names.enter(rt.alloc(), "Cap")?;
+    assert_eq!(rt; text_of(&names, x), "Cap");
+    assert_eq!(rt; text_of(&names, 7), "");
+    Ok(())
 }
 
 #[test]

@@ -1,5 +1,4 @@
-use Rattle.std.proofs.Common.{◌≡◌, ◌∙◌, ap, sym, arith, ◌<◌, nat_eq, false, true, get_or, length, []}
-use Rattle.std.proofs.lemmas.Option.{get_or_from_slice_get}
+use Rattle.std.proofs.Common.{◌≡◌, ◌∙◌, ap, sym, arith, ◌<◌, nat_eq, false, true, get_or, length}
 use Rattle.std.proofs.lemmas.List.{append_assoc}
 use Rattle.std.proofs.lemmas.Bool.Decides.{nat_tests}
 use Rattle.gms_fmt.specs.ElementTexts.{text_of}
@@ -10,7 +9,7 @@ use Rattle.gms_fmt.proofs.elements.push_labels.Goals.{then-not-first+in_ok-push_
 pub loop-label-preserved : goal.loop-label-preserved
 loop-label-preserved c =
     let within : c.loop-label.label-index < length c.args.t.now = rw (← c.as_slice-label-items.ensures.value) (omega arith) in
-    let text : c.text.result.now ≡ text_of c.args.labels.now (get_or c.args.t.now c.loop-label.label-index 0) = sym (get_or_from_slice_get c.args.labels.now (get_or c.as_slice-label-items.result.now c.loop-label.label-index 0) c.text.result.now [] c.text.ensures.value) ∙ ap (λ t. text_of c.args.labels.now (get_or t c.loop-label.label-index 0)) c.as_slice-label-items.ensures.value in
+    let text : c.text_of.result.now ≡ text_of c.args.labels.now (get_or c.args.t.now c.loop-label.label-index 0) = c.text_of.ensures ∙ ap (λ t. text_of c.args.labels.now (get_or t c.loop-label.label-index 0)) c.as_slice-label-items.ensures.value in
     elim c.if-not-first.branch [
       | then-not-first+in_ok-push_str w ↦
           let behind : false ≡ nat_eq c.loop-label.label-index 0 = sym w.if-not-first.true ∙ c.loop-label.invariant.1 in (
