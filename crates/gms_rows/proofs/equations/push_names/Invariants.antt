@@ -1,0 +1,7 @@
+use Rattle.std.proofs.Common.{◌≡◌, ℕ, List, ◌++◌, map, take}
+use Rattle.gms_rows.specs.Rows.{each_once}
+use Rattle.gms_rows.proofs.equations.push_names.Given as goal
+
+abbrev pub invariant-loop-item : goal.invariant-loop-item
+invariant-loop-item g l =
+    (before : List ℕ) → l.initial.names.items ≡ each_once before → l.names.items ≡ each_once (before ++ map (λ item. item.named.name) (take l.item-index l.items))

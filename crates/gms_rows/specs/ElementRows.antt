@@ -1,0 +1,48 @@
+-- The row of an element of the sets of a definition (GAMS User's Guide, "Equations", "Conditional Equations").
+use Rattle.std.specs.Prelude.{◌≡◌, ℕ, Bool, true, List, [], Option, Some, None, Ok}
+use Rattle.gq_number.specs.Number.{Number}
+use Rattle.gms_ast.specs.Trees.{Tree}
+use Rattle.gms_store.specs.State.{State}
+use Rattle.gms_tuple.specs.TupleSet.{has}
+use Rattle.gms_eval.specs.Answers.{in_order}
+use Rattle.gms_eval.specs.Bindings.{Pairs, controlled}
+use Rattle.gms_eval.specs.Domain.{elements}
+use Rattle.gms_eval.specs.Faults.{Answer, ◌and_then◌}
+use Rattle.gms_eval.specs.Holds.{holds}
+use Rattle.gms_eval.specs.References.{tuple_of}
+use Rattle.gms_eval.specs.Value.{labels}
+use Rattle.gms_rows.specs.Plain.{ArePlain}
+use Rattle.gms_rows.specs.Rows.{Definition, FormRow, each_once, sets_among, sense_of, row_form}
+use Rattle.gms_rows.specs.Walks.{AreInOrder}
+
+-- the sets over which a definition goes
+abbrev pub sets_of : {F : Type 0} → Definition F → List ℕ
+sets_of d = each_once (sets_among d.indices)
+
+-- the binding of an element
+abbrev pub bound_to : {F : Type 0} → Definition F → List ℕ → Pairs
+bound_to d element = controlled [] (sets_of d) element
+
+-- the indices of a definition are labels and sets without lags, and the members of these sets are in order and have one label each
+pub record HasPlainSets {F : Type 0} (state : State) (d : Definition F) : Type 0 where
+  pub plain : ArePlain state d.indices
+  pub ordered : AreInOrder state (sets_of d)
+
+module _ {F : Type 0} (number_of : F → Number) (limit : ℕ) (state : State) where
+  -- whether a condition holds for an element, where there is one
+  abbrev pub holds_for : Pairs → Option (Tree F) → Answer Bool
+  holds_for binding None = Ok true
+  holds_for binding (Some condition) = holds number_of limit state binding condition
+
+  -- the tuple of the row that an element has
+  abbrev pub tuple_at : Definition F → List ℕ → Answer (Option (List ℕ))
+  tuple_at d element = in_order (labels number_of limit state (bound_to d element) d.indices) and_then λ those. Ok (tuple_of those)
+
+  -- A row of a definition is that of an element whose condition holds.
+  pub record IsRowOf (d : Definition F) (row : FormRow) (element : List ℕ) : Type 0 where
+    pub there : has (elements state (sets_of d)) element ≡ true
+    pub holds : holds_for (bound_to d element) d.condition ≡ Ok true
+    pub equation : row.key.symbol ≡ d.equation
+    pub tuple : tuple_at d element ≡ Ok (Some row.key.tuple)
+    pub sense : row.sense ≡ sense_of d.side
+    pub form : row_form number_of limit state d (bound_to d element) ≡ Ok row.form

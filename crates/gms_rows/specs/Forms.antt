@@ -1,0 +1,96 @@
+-- Affine forms over exact numbers, and steps on them: on the constants, and on the numbers of each element (Chvatal, "Linear Programming",
+-- chapter 1).
+use Rattle.std.specs.Prelude.{ℕ, pos, Bool, not, List, [], ◌∷◌, ◌++◌, map, find, Option, Some, None, unwrap_or, Result, Ok, Err, if◌then◌else◌}
+use Rattle.std.specs.FinMap as finite
+use Rattle.gq_number.specs.Number.{Number, whole}
+use Rattle.gms_labels.specs.declared.place.Place.{Place}
+use Rattle.gms_store.specs.State.{same_number}
+use Rattle.gq_extended.specs.Extended.{Extended, number}
+use Rattle.gms_eval.specs.Bindings.{Pairs}
+use Rattle.gms_eval.specs.Faults.{Answer, faulted}
+use Rattle.gms_eval.specs.declared.stop.StopKind.TheVariants.{Limit}
+use Rattle.lp_form.specs.declared.key.Key.{Key}
+use Rattle.lp_form.specs.Keys.{key_cmp}
+use Rattle.lp_form.specs.Affine.{Affine}
+use Rattle.lp_form.specs.Forms.{Step, sum_step, difference_step, product_step, quotient_step}
+
+-- A constant, and a number that is not 0 for each of finitely many elements of variables, in the order of keys.
+pub record Form : Type 0 where
+  pub constant : Number
+  pub numbers : finite.FinMap key_cmp Number
+
+-- keys with their numbers
+abbrev pub keyed : {F : Type 0} → (F → Number) → List Key → List F → List (Key × Number)
+keyed value [] numbers = []
+keyed value (key ∷ keys) [] = []
+keyed value (key ∷ keys) (x ∷ numbers) = (key, value x) ∷ keyed value keys numbers
+
+-- the form that one of the code shows
+abbrev pub form_in : {F : Type 0} → (F → Number) → Affine F → Form
+form_in value form =
+    record { constant = value form.constant; numbers = finite.from_entries {R = key_cmp} (keyed value form.keys form.numbers) }
+
+-- the form of a constant alone
+abbrev pub constant_form : Number → Form
+constant_form x = record { constant = x; numbers = finite.empty }
+
+-- the form of one element of a variable
+abbrev pub column_form : Key → Form
+column_form key = record { constant = whole (pos 0); numbers = finite.insert finite.empty key (whole (pos 1)) }
+
+-- the number of an element, 0 where it is not there
+abbrev pub number_of_key : Form → Key → Number
+number_of_key form key = unwrap_or (finite.get form.numbers key) (whole (pos 0))
+
+-- whether a number is not 0
+abbrev pub is_not_zero : Number → Bool
+is_not_zero x = not (same_number x (whole (pos 0)))
+
+-- the numbers of keys, those that are 0 left out
+abbrev pub numbers_at : (Key → Number) → List Key → finite.FinMap key_cmp Number
+numbers_at number_at keys =
+    let all = finite.from_entries {R = key_cmp} (map (λ key. (key, number_at key)) keys) in
+    finite.retain_keys all (λ key. is_not_zero (number_at key))
+
+-- the keys of two forms, in order and each once
+abbrev pub keys_of_two : Form → Form → List Key
+keys_of_two a b = finite.keys (finite.from_entries {R = key_cmp} (finite.entries a.numbers ++ finite.entries b.numbers))
+
+-- The form that steps give on a constant and at keys, or the first key, before which the constant comes, at which the step does not fit.
+abbrev pub entrywise : Step → (Key → Step) → List Key → Result Form (Option Key)
+entrywise constant at keys =
+    if not constant.fits then Err None else
+    elim (find (λ key. not (at key).fits) keys) [
+      | Some key ↦ Err (Some key)
+      | None ↦ Ok (record { constant = constant.number; numbers = numbers_at (λ key. (at key).number) keys })
+    ]
+
+-- a step on the constants of two forms, and on their numbers at each key
+abbrev pub entries_of_two : (Number → Number → Step) → Form → Form → Result Form (Option Key)
+entries_of_two step a b =
+    entrywise (step a.constant b.constant) (λ key. step (number_of_key a key) (number_of_key b key)) (keys_of_two a b)
+
+-- a step on the constant of a form and a number, and on the form's number at each key and that number
+abbrev pub entries_by : (Number → Number → Step) → Form → Number → Result Form (Option Key)
+entries_by step a x = entrywise (step a.constant x) (λ key. step (number_of_key a key) x) (finite.keys a.numbers)
+
+-- the number of a form that a step is on: the constant, or that of a key
+abbrev pub entry_of : Form → Option Key → Extended
+entry_of form None = number form.constant
+entry_of form (Some key) = number (number_of_key form key)
+
+-- the form of steps at a place, or the fault Limit with the numbers of the step that does not fit
+abbrev pub where_fits : Place → Pairs → (Option Key → Extended) → (Option Key → Extended) → Result Form (Option Key) → Answer Form
+where_fits at binding left right (Ok form) = Ok form
+where_fits at binding left right (Err key) = Err (faulted Limit at binding (left key) (right key))
+
+module _ (limit : ℕ) (at : Place) (binding : Pairs) where
+  -- the sum of two forms, or their difference
+  abbrev pub sum_of : Bool → Form → Form → Answer Form
+  sum_of subtracts a b =
+      where_fits at binding (entry_of a) (entry_of b) (entries_of_two (if subtracts then difference_step limit else sum_step limit) a b)
+
+  -- a form times a number, or over one that is not 0
+  abbrev pub scaled : Bool → Form → Number → Answer Form
+  scaled divides a x =
+      where_fits at binding (entry_of a) (λ key. number x) (entries_by (if divides then quotient_step limit else product_step limit) a x)

@@ -1,0 +1,7 @@
+pub mod Affine
+pub mod ElementRows
+pub mod Forms
+pub mod Plain
+pub mod ProgramLp
+pub mod Rows
+pub mod Walks

@@ -1,0 +1,162 @@
+-- The rows of a model: one for each equation of the model and each element of the domain of its definition (GAMS User's Guide, "Equations",
+-- "Model and Solve Statements").
+use Rattle.std.specs.Prelude.{ℕ, true, not, ◌==◌, List, [], ◌∷◌, ◌++◌, map, flat_map, filter, Option, Some, None, option_map, Ok, if◌then◌else◌}
+use Rattle.gms_labels.specs.declared.place.Place.{Place}
+use Rattle.gq_number.specs.Number.{Number}
+use Rattle.gms_ast.specs.declared.word.Named.{Named}
+use Rattle.gms_ast.specs.declared.declaration.DeclKind.TheVariants as declaring
+use Rattle.gms_ast.specs.declared.declaration.Decl.{Decl}
+use Rattle.gms_ast.specs.declared.declaration.ModelDecl.{ModelDecl}
+use Rattle.gms_ast.specs.declared.program.Side.{Side}
+use Rattle.gms_ast.specs.declared.program.Side.TheVariants as side
+use Rattle.gms_ast.specs.declared.program.Act.{Act}
+use Rattle.gms_ast.specs.declared.program.Act.TheVariants.{Declare, Model, Define}
+use Rattle.gms_ast.specs.declared.program.Stmt.{Stmt}
+use Rattle.gms_ast.specs.TreeView.{tree_of, index_tree, indices_of}
+use Rattle.gms_ast.specs.Trees as tree
+use Rattle.gms_store.specs.State.{State}
+use Rattle.gms_eval.specs.Answers.{in_order}
+use Rattle.gms_eval.specs.Bindings.{Pairs, controlled}
+use Rattle.gms_eval.specs.Faults.{Answer, ◌and_then◌}
+use Rattle.gms_eval.specs.References.{tuple_of}
+use Rattle.gms_eval.specs.Value.{labels, domain, control_over}
+use Rattle.lp_core.specs.declared.program.Sense.{Sense}
+use Rattle.lp_core.specs.declared.program.Sense.TheVariants as sense
+use Rattle.lp_form.specs.declared.key.Key.{Key}
+use Rattle.gms_rows.specs.Forms.{Form, sum_of}
+use Rattle.gms_rows.specs.Affine.{affine}
+
+-- ---- equations
+
+-- numbers, each where it stands first
+abbrev pub each_once : List ℕ → List ℕ
+each_once [] = []
+each_once (n ∷ ns) = n ∷ filter (λ m. not (m == n)) (each_once ns)
+
+-- The definition of an equation.
+pub record Definition (F : Type 0) : Type 0 where
+  pub equation : ℕ
+  -- the place of its statement
+  pub at : Place
+  pub indices : tree.Indices F
+  pub condition : Option (tree.Tree F)
+  pub left_at : Place
+  pub left : tree.Tree F
+  pub side : Side
+  pub right_at : Place
+  pub right : tree.Tree F
+
+-- the equations of a declared model: those that are listed, or all that were declared before
+abbrev pub listed : List ℕ → ModelDecl → List ℕ
+listed declared model = if model.all then declared else each_once (map (λ (equation : Named). equation.name) model.equations)
+
+-- the equations of the first of these models that has a name
+abbrev pub found : List ℕ → ℕ → List ModelDecl → Option (List ℕ)
+found declared name [] = None
+found declared name (model ∷ models) = if model.named.name == name then Some (listed declared model) else found declared name models
+
+module _ {F : Type 0} where
+  -- the equations that an act declares, in order
+  abbrev pub declared_by : Act F → List ℕ
+  declared_by (Declare declaring.Equation items) = map (λ (item : Decl F). item.named.name) items
+  declared_by act = []
+
+  -- the definition that a statement is
+  abbrev pub defined_at : Place → Act F → List (Definition F)
+  defined_at at (Define equation indices condition left_at left side right_at right) =
+      record {
+        equation = equation.name;
+        at = at;
+        indices = indices_of (map index_tree indices);
+        condition = option_map tree_of condition;
+        left_at = left_at;
+        left = tree_of left;
+        side = side;
+        right_at = right_at;
+        right = tree_of right;
+      } ∷ []
+  defined_at at act = []
+
+  -- the definitions of a program
+  abbrev pub definitions : List (Stmt F) → List (Definition F)
+  definitions statements = flat_map (λ (s : Stmt F). defined_at s.at s.act) statements
+
+  -- the models that a statement declares
+  abbrev pub models_of : Act F → List ModelDecl
+  models_of (Model models) = models
+  models_of act = []
+
+  -- the equations of a model, by its first declaration, where these equations were declared before
+  abbrev pub equations_from : List ℕ → ℕ → List (Stmt F) → List ℕ
+  equations_from declared name [] = []
+  equations_from declared name (s ∷ statements) =
+      elim (found (each_once declared) name (models_of s.act)) [
+        | Some equations ↦ equations
+        | None ↦ equations_from (declared ++ declared_by s.act) name statements
+      ]
+
+  -- the equations of a model, in order
+  abbrev pub equations_of : List (Stmt F) → ℕ → List ℕ
+  equations_of statements name = equations_from [] name statements
+
+  -- the definition of an equation, where it has one
+  abbrev pub definition_of : List (Definition F) → ℕ → List (Definition F)
+  definition_of [] name = []
+  definition_of (d ∷ ds) name = if d.equation == name then d ∷ [] else definition_of ds name
+
+  -- ---- rows
+
+  -- the sets among indices, in order
+  abbrev pub sets_among : tree.Indices F → List ℕ
+  sets_among tree.no_index = []
+  sets_among (tree.label label rest) = sets_among rest
+  sets_among (tree.set set rest) = set ∷ sets_among rest
+  sets_among (tree.lagged set op at amount rest) = set ∷ sets_among rest
+
+-- How the sum of a row and its right side compare.
+abbrev pub sense_of : Side → Sense
+sense_of side.E = sense.E
+sense_of side.L = sense.L
+sense_of side.G = sense.G
+sense_of side.N = sense.N
+
+-- A row: an element of an equation, how its sides compare, and the form of the left side less the right one.
+pub record FormRow : Type 0 where
+  pub key : Key
+  pub sense : Sense
+  pub form : Form
+
+-- the rows that are there
+abbrev pub those_there : List (Option FormRow) → List FormRow
+those_there [] = []
+those_there (None ∷ rest) = those_there rest
+those_there (Some row ∷ rest) = row ∷ those_there rest
+
+module _ {F : Type 0} (number_of : F → Number) (limit : ℕ) (state : State) where
+  -- the form of a row under a binding; the step between the two sides stands at the right one
+  abbrev pub row_form : Definition F → Pairs → Answer Form
+  row_form d binding =
+      affine number_of limit state d.left_at binding d.left and_then λ left.
+      affine number_of limit state d.right_at binding d.right and_then λ right.
+      sum_of limit d.right_at binding true left right
+
+  -- the row of an element, where the element is there
+  abbrev pub row_under : Definition F → Pairs → Answer (Option FormRow)
+  row_under d binding =
+      in_order (labels number_of limit state binding d.indices) and_then λ those.
+      elim (tuple_of those) [
+        | None ↦ Ok None
+        | Some t ↦ row_form d binding and_then λ form. Ok (Some (record { key = record { symbol = d.equation; tuple = t }; sense = sense_of d.side; form = form }))
+      ]
+
+  -- the rows of a definition: one for each element of its domain, and no other
+  abbrev pub rows_of : Definition F → Answer (List FormRow)
+  rows_of d =
+      let sets = each_once (sets_among d.indices) in
+      domain number_of limit state [] d.at (control_over sets d.condition) and_then λ elements.
+      in_order (map (λ element. row_under d (controlled [] sets element)) elements) and_then λ rows. Ok (those_there rows)
+
+  -- the rows of a model, equation by equation, or the first fault
+  abbrev pub rows_of_model : List (Stmt F) → ℕ → Answer (List FormRow)
+  rows_of_model statements model =
+      in_order (map rows_of (flat_map (definition_of (definitions statements)) (equations_of statements model))) and_then λ rows. Ok (flat_map (λ some. some) rows)

@@ -1,0 +1,183 @@
+//! The equations of a model, and their definitions.
+ghost use Rattle.std.specs.Prelude.{◌≡◌, ℕ, List, ◌++◌, map, option_map, IfOk, OnOk};
+ghost use Rattle.gms_rows.specs.Rows.{each_once, listed, found, declared_by, models_of, defined_at, definition_of, definitions, equations_of};
+ghost use Rattle.gms_rows.specs.Walks.{with_once, found_in};
+
+use gms_ast::{Act, Decl, DeclKind, Expr, Index, ModelDecl, Program, Side, Stmt};
+use gms_labels::Place;
+use gq_field::ExactField;
+use std::alloc::{AllocError, Global};
+
+/// The definition of an equation.
+#[derive(Drop)]
+pub(crate) struct Definition<'s, F> {
+    /// The equation.
+    pub(crate) equation: u32,
+    /// The place of its statement.
+    pub(crate) at: Place,
+    /// Its indices.
+    pub(crate) indices: &'s [Index<F>],
+    /// The condition, where there is one.
+    pub(crate) condition: Option<&'s Expr<F>>,
+    /// The place of the left side.
+    pub(crate) left_at: Place,
+    /// The left side.
+    pub(crate) left: &'s Expr<F>,
+    /// How the sides relate.
+    pub(crate) side: Side,
+    /// The place of the right side.
+    pub(crate) right_at: Place,
+    /// The right side.
+    pub(crate) right: &'s Expr<F>,
+}
+
+/// The definition of an equation that a statement is.
+fn definition_at<F: ExactField>(statement: &Stmt<F>, name: u32) -> Option<Definition<'_, F>>
+    ensures { definition_of (defined_at statement.now.at statement.now.act) name ≡ found_in result }
+{
+    match &statement.act {
+        Act::Define {
+            equation,
+            indices,
+            condition,
+            left_at,
+            left,
+            side,
+            right_at,
+            right,
+        } => {
+            if equation.name != name {
+                return None;
+            }
+            Some(Definition {
+                equation: equation.name,
+                at: statement.at,
+                indices: indices.as_slice(),
+                condition: condition.as_ref(),
+                left_at: *left_at,
+                left,
+                side: *side,
+                right_at: *right_at,
+                right,
+            })
+        }
+        _ => None,
+    }
+}
+
+/// The definition of an equation: the first that the program has.
+pub(crate) fn find_definition<F: ExactField>(
+    program: &Program<F>,
+    name: u32,
+) -> Option<Definition<'_, F>>
+    ensures { definition_of (definitions program.now.statements.items) name ≡ found_in result }
+{
+    for statement in &program.statements {
+        if let Some(definition) = definition_at(statement, name) {
+            return Some(definition);
+        }
+    }
+    None
+}
+
+/// Adds a name at the end of others, where it is not among them.
+pub(crate) fn push_once(names: &mut Vec<u32>, name: u32) -> Result<(), AllocError>
+    ensures { OnOk result (names.new.items ≡ with_once names.old.items name) }
+{
+    for other in names.as_slice() {
+        if *other == name {
+            return Ok(());
+        }
+    }
+    names.push(name)?;
+    Ok(())
+}
+
+/// The equations of a model: those that are listed, each where it stands first, or all that were declared before it.
+fn listed(alloc: Global, model: &ModelDecl, declared: &[u32]) -> Result<Vec<u32>, AllocError>
+    ensures { IfOk result (λ equations. equations.items ≡ listed declared.now model.now) }
+{
+    if model.all {
+        return Vec::from_slice(alloc, declared);
+    }
+    let mut names = Vec::new(alloc);
+    for equation in model.equations.as_slice() {
+        push_once(&mut names, equation.name)?;
+    }
+    Ok(names)
+}
+
+/// The equations of the first of these models that has a name.
+fn found(
+    alloc: Global,
+    models: &[ModelDecl],
+    name: u32,
+    declared: &[u32],
+) -> Result<Option<Vec<u32>>, AllocError>
+    ensures { IfOk result (λ equations. option_map (λ those. those.items) equations ≡ found declared.now name models.now) }
+{
+    for model in models {
+        if model.named.name == name {
+            return Ok(Some(listed(alloc, model, declared)?));
+        }
+    }
+    Ok(None)
+}
+
+/// The equations of the model that an act declares under a name, if it does.
+fn found_by<F: ExactField>(
+    alloc: Global,
+    act: &Act<F>,
+    name: u32,
+    declared: &[u32],
+) -> Result<Option<Vec<u32>>, AllocError>
+    ensures { IfOk result (λ equations. option_map (λ those. those.items) equations ≡ found declared.now name (models_of act.now)) }
+{
+    match act {
+        Act::Model { models } => found(alloc, models.as_slice(), name, declared),
+        _ => Ok(None),
+    }
+}
+
+/// Adds the names that are declared, each once.
+fn push_names<F: ExactField>(names: &mut Vec<u32>, items: &[Decl<F>]) -> Result<(), AllocError>
+    ensures { (before : List ℕ) → names.old.items ≡ each_once before →
+        OnOk result (names.new.items ≡ each_once (before ++ map (λ item. item.named.name) items.now)) }
+{
+    for item in items {
+        push_once(names, item.named.name)?;
+    }
+    Ok(())
+}
+
+/// Adds the equations that an act declares, each once.
+fn push_declared<F: ExactField>(names: &mut Vec<u32>, act: &Act<F>) -> Result<(), AllocError>
+    ensures { (before : List ℕ) → names.old.items ≡ each_once before →
+        OnOk result (names.new.items ≡ each_once (before ++ declared_by act.now)) }
+{
+    match act {
+        Act::Declare {
+            kind: DeclKind::Equation,
+            items,
+        } => push_names(names, items.as_slice()),
+        _ => Ok(()),
+    }
+}
+
+/// The equations of a model, in order, by its first declaration. GAMS User's Guide, "Model and Solve Statements".
+pub fn equations_of<F: ExactField>(
+    alloc: Global,
+    program: &Program<F>,
+    model: u32,
+) -> Result<Vec<u32>, AllocError>
+    ensures { IfOk result (λ equations. equations.items ≡ equations_of program.now.statements.items model) }
+{
+    let mut declared: Vec<u32> = Vec::new(alloc);
+    for statement in &program.statements {
+        if let Some(equations) = found_by(alloc, &statement.act, model, &declared)? {
+            return Ok(equations);
+        }
+        push_declared(&mut declared, &statement.act)?;
+    }
+    Ok(Vec::new(alloc))
+}

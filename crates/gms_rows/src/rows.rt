@@ -1,0 +1,124 @@
+//! The rows of an equation.
+ghost use Rattle.std.specs.Prelude.{◌≡◌, ◌∷◌, [], ◌++◌, map, Ok, option_map, IfOk, OnOk};
+ghost use Rattle.gms_ast.specs.TreeView.{index_tree, indices_of};
+ghost use Rattle.gms_eval.specs.Faults.{◌and_then◌};
+ghost use Rattle.gms_eval.specs.Gives.{Gives};
+ghost use Rattle.gms_rows.specs.Rows.{each_once, sets_among, sense_of, those_there, row_under, rows_of};
+ghost use Rattle.gms_rows.specs.Walks.{definition_in, form_row_in, AreInOrder, HaveOrder};
+
+use crate::equations::{Definition, push_once};
+use crate::form_row::FormRow;
+use crate::linear::affine;
+use crate::steps::add;
+use gms_ast::{Index, Side};
+use gms_eval::{Binding, StopOrMemory, domain_over, tuple_of};
+use gms_store::Store;
+use gq_field::ExactField;
+use lp_core::Sense;
+use lp_form::Key;
+use std::alloc::{AllocError, Global};
+
+/// The sets among indices, each once, in order.
+fn sets_of<F: ExactField>(alloc: Global, indices: &[Index<F>]) -> Result<Vec<u32>, AllocError>
+    ensures { IfOk result (λ sets. sets.items ≡ each_once (sets_among (indices_of (map index_tree indices.now)))) }
+{
+    let mut sets: Vec<u32> = Vec::new(alloc);
+    for index in indices {
+        match index {
+            Index::Set { name, .. } => push_once(&mut sets, *name)?,
+            Index::Label(_) => {}
+        }
+    }
+    Ok(sets)
+}
+
+/// How the sum of a row and its right side compare.
+fn sense_of(side: Side) -> Sense
+    ensures { result ≡ sense_of side }
+{
+    match side {
+        Side::E => Sense::E,
+        Side::L => Sense::L,
+        Side::G => Sense::G,
+        Side::N => Sense::N,
+    }
+}
+
+/// The row of an element of an equation, where the element is there.
+fn row<F: ExactField>(
+    alloc: Global,
+    store: &Store<F>,
+    definition: &Definition<'_, F>,
+    b: &Binding,
+) -> Result<Option<FormRow<F>>, StopOrMemory<F>>
+    ensures { Gives F.value (option_map (form_row_in F.value)) result (row_under F.value F.limit store.now (definition_in definition.now) b.now) }
+{
+    let Some(tuple) = tuple_of(alloc, store, definition.indices, b)? else {
+        return Ok(None);
+    };
+    let left = affine(alloc, store, definition.left, definition.left_at, b)?;
+    let right = affine(alloc, store, definition.right, definition.right_at, b)?;
+    let form = add(alloc, left, &right, true, definition.right_at, b)?;
+    Ok(Some(FormRow {
+        key: Key {
+            symbol: definition.equation,
+            tuple,
+        },
+        sense: sense_of(definition.side),
+        form,
+    }))
+}
+
+/// Adds a row, where it is there.
+fn push_row<F: ExactField>(
+    rows: &mut Vec<FormRow<F>>,
+    row: Option<FormRow<F>>,
+) -> Result<(), AllocError>
+    ensures { OnOk result (map (form_row_in F.value) rows.new.items
+        ≡ map (form_row_in F.value) rows.old.items ++ those_there (option_map (form_row_in F.value) row ∷ [])) }
+{
+    if let Some(row) = row {
+        rows.push(row)?;
+    }
+    Ok(())
+}
+
+/// Looks at the members of sets, which the store keeps in order.
+fn look_at<F: ExactField>(store: &Store<F>, sets: &[u32])
+    ensures { AreInOrder store.now sets.now }
+{
+    for set in sets {
+        let _members = store.members(*set);
+    }
+}
+
+/// Adds the rows of an equation, one for each element of its domain.
+pub(crate) fn push_rows<F: ExactField>(
+    alloc: Global,
+    store: &Store<F>,
+    definition: &Definition<'_, F>,
+    rows: &mut Vec<FormRow<F>>,
+) -> Result<(), StopOrMemory<F>>
+    ensures rows { Gives F.value (λ _. map (form_row_in F.value) rows.new.items) result
+        (rows_of F.value F.limit store.now (definition_in definition.now) and_then λ those. Ok (map (form_row_in F.value) rows.old.items ++ those)) }
+    ensures ordered { OnOk result (HaveOrder store.now (definition_in definition.now ∷ [])) }
+{
+    let none = Binding::new(alloc);
+    let sets = sets_of(alloc, definition.indices)?;
+    look_at(store, &sets);
+    let elements = domain_over(
+        alloc,
+        store,
+        &sets,
+        definition.condition,
+        definition.at,
+        &none,
+    )?;
+    let mut inner = none.copy(alloc)?;
+    for element in &elements {
+        inner.control(0, &sets, element.as_slice())?;
+        let row = row(alloc, store, definition, &inner)?;
+        push_row(rows, row)?;
+    }
+    Ok(())
+}

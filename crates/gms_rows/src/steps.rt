@@ -1,0 +1,145 @@
+//! The steps on forms, with the faults of a run.
+ghost use Rattle.std.specs.Prelude.{◌≡◌, OnErr, true, false, if◌then◌else◌};
+ghost use Rattle.std.specs.Result.{result_map_both};
+ghost use Rattle.gq_extended.specs.Extended.{number};
+ghost use Rattle.gq_extended.specs.Meaning.{extended};
+ghost use Rattle.lp_form.specs.Forms.{sum_step, difference_step};
+ghost use Rattle.gms_eval.specs.Gives.{Gives};
+ghost use Rattle.gms_rows.specs.Affine.{times_number};
+ghost use Rattle.gms_rows.specs.Forms.{form_in, entry_of, entries_of_two, sum_of, scaled};
+ghost use Rattle.gms_rows.specs.Walks.{Told, ShowsFault};
+
+use gms_eval::{Binding, StopKind, StopOrMemory};
+use gms_labels::Place;
+use gq_extended::Ext;
+use gq_field::ExactField;
+use lp_form::{Form, FormFault, Key};
+use std::alloc::Global;
+
+/// The number of a form that a step is on: the constant, or that of a key.
+fn entry<F: ExactField>(form: &Form<F>, key: &Option<Key>) -> Ext<F>
+    ensures { extended F.value result ≡ entry_of (form_in F.value form.now) key.now }
+{
+    let _ = form.keys();
+    match key {
+        None => Ext::Number(form.offset()),
+        Some(key) => Ext::Number(form.get(key)),
+    }
+}
+
+/// The stop of a step on two forms that does not fit.
+fn of_two<F: ExactField>(
+    alloc: Global,
+    fault: FormFault,
+    left: &Form<F>,
+    right: &Form<F>,
+    at: Place,
+    b: &Binding,
+) -> StopOrMemory<F>
+    ensures { ShowsFault F.value at b.now (entry_of (form_in F.value left.now)) (entry_of (form_in F.value right.now)) fault result }
+{
+    match fault {
+        FormFault::Memory => StopOrMemory::Memory,
+        FormFault::Limit(key) => {
+            let left = entry(left, &key);
+            let right = entry(right, &key);
+            StopOrMemory::at_step(alloc, StopKind::Limit, at, left, right, b)
+        }
+    }
+}
+
+/// Adds another form, or subtracts it. After a fault the form is as it was.
+fn increase<F: ExactField>(
+    alloc: Global,
+    form: &mut Form<F>,
+    other: &Form<F>,
+    subtracts: bool,
+) -> Result<(), FormFault>
+    ensures value { Told F.value (result_map_both (λ _. form.new) (λ fault. fault) result)
+        (entries_of_two (if subtracts then difference_step F.limit else sum_step F.limit) (form_in F.value form.old) (form_in F.value other.now)) }
+    ensures unchanged { OnErr result (form.new ≡ form.old) }
+{
+    let _ = form.keys();
+    let _ = other.keys();
+    if !subtracts {
+        return form.add_assign(alloc, other);
+    }
+    let negated = other.scale(alloc, F::one().neg())?;
+    form.add_assign(alloc, &negated)
+}
+
+/// The sum of two forms, or their difference, entry by entry. `Limit` at the place where one does not fit.
+pub(crate) fn add<F: ExactField>(
+    alloc: Global,
+    left: Form<F>,
+    right: &Form<F>,
+    subtracts: bool,
+    at: Place,
+    b: &Binding,
+) -> Result<Form<F>, StopOrMemory<F>>
+    ensures { Gives F.value (form_in F.value) result (sum_of F.limit at b.now subtracts (form_in F.value left) (form_in F.value right.now)) }
+{
+    let mut sum = left;
+    match increase(alloc, &mut sum, right, subtracts) {
+        Ok(()) => Ok(sum),
+        Err(fault) => Err(of_two(alloc, fault, &sum, right, at, b)),
+    }
+}
+
+/// A form times a number, entry by entry. `Limit` at the place where a product does not fit.
+pub(crate) fn scale<F: ExactField>(
+    alloc: Global,
+    form: &Form<F>,
+    x: F,
+    at: Place,
+    b: &Binding,
+) -> Result<Form<F>, StopOrMemory<F>>
+    ensures { Gives F.value (form_in F.value) result (scaled F.limit at b.now false (form_in F.value form.now) (F.value x)) }
+{
+    let _ = form.keys();
+    match form.scale(alloc, x) {
+        Ok(product) => Ok(product),
+        Err(fault) => Err(with_number(alloc, fault, form, x, at, b)),
+    }
+}
+
+/// A form over a number, entry by entry. `Divide` at the place where the number is 0, `Limit` where a quotient does not fit.
+pub(crate) fn divide<F: ExactField>(
+    alloc: Global,
+    form: &Form<F>,
+    x: F,
+    at: Place,
+    b: &Binding,
+) -> Result<Form<F>, StopOrMemory<F>>
+    ensures { Gives F.value (form_in F.value) result (times_number F.limit b.now true at (form_in F.value form.now) (F.value x)) }
+{
+    if x.is_zero() {
+        let left = Ext::Number(form.offset());
+        return Err(StopOrMemory::at_step(alloc, StopKind::Divide, at, left, Ext::Number(x), b));
+    }
+    let _ = form.keys();
+    match form.divide(alloc, x) {
+        Ok(quotient) => Ok(quotient),
+        Err(fault) => Err(with_number(alloc, fault, form, x, at, b)),
+    }
+}
+
+/// The stop of a step on a form and a number that does not fit.
+fn with_number<F: ExactField>(
+    alloc: Global,
+    fault: FormFault,
+    form: &Form<F>,
+    x: F,
+    at: Place,
+    b: &Binding,
+) -> StopOrMemory<F>
+    ensures { ShowsFault F.value at b.now (entry_of (form_in F.value form.now)) (λ _. number (F.value x)) fault result }
+{
+    match fault {
+        FormFault::Memory => StopOrMemory::Memory,
+        FormFault::Limit(key) => {
+            let left = entry(form, &key);
+            StopOrMemory::at_step(alloc, StopKind::Limit, at, left, Ext::Number(x), b)
+        }
+    }
+}
