@@ -1,8 +1,10 @@
 //! The program `gams25`: its words, the real files and standard output, and the exit status.
 #![tactic(auto)]
 
-use gms_host::RealHost;
+use gms_host::{Host, RealHost};
 use gms_run::run;
+use lp_bland::Bland;
+use lp_slot::LpSolver;
 use std::alloc::{AllocError, Global};
 use std::env;
 use std::io::{self, ErrorKind};
@@ -27,13 +29,25 @@ fn words(rt: &(impl Env + AllocGlobal), alloc: Global) -> io::Result<Vec<String>
     Ok(words)
 }
 
+/// Runs the words over a host with the solver by Bland's rule, and tells the exit status.
+fn run_with_bland<H: Host>(
+    alloc: Global,
+    words: &[String],
+    host: &mut H,
+) -> Result<u8, AllocError> {
+    let mut solvers: Vec<Box<dyn LpSolver>> = Vec::new(alloc);
+    solvers.push(Box::new(alloc, Bland::new(alloc))?)?;
+    let ended = run(alloc, words, host, &mut solvers)?;
+    Ok(ended.status)
+}
+
 fn main(rt: HostRuntime) -> ExitCode {
     let alloc = rt.alloc();
     let Ok(words) = words(&rt, alloc) else {
         return ExitCode::from(OUT_OF_MEMORY);
     };
-    match run(alloc, words.as_slice(), &mut RealHost::new(rt)) {
-        Ok(ended) => ExitCode::from(ended.status),
+    match run_with_bland(alloc, words.as_slice(), &mut RealHost::new(rt)) {
+        Ok(status) => ExitCode::from(status),
         Err(AllocError) => ExitCode::from(OUT_OF_MEMORY),
     }
 }

@@ -133,3 +133,9 @@ module _ {F : Type 0} (v : F → Number) where
       let there : is_among keys key ≡ true = true_from_ne_false (is_among keys key) (λ out. both_ways (steps.at key).fits g.2 (outside key out).1) in
       entrywise-stops steps.constant steps.at keys key g.0 (find-first (λ key. (steps.at key).fits) key keys ordered there g.1 g.2)
   told steps keys (Err fault.Memory) ordered outside g = tt
+
+-- forms with the same constant and the same number at each key show the same
+pub shown-same : {F : Type 0} (v : F → Number) (a b : Affine F) → IsForm v a → IsForm v b → v a.constant ≡ v b.constant → ((key : Key) → coefficient v a key ≡ coefficient v b key) → form_in v a ≡ form_in v b
+shown-same v a b form other constant same =
+    let numbers : (form_in v a).numbers ≡ (form_in v b).numbers = finite.same_map key_cmp-total key_cmp-Equal (form_in v a).numbers (form_in v b).numbers (λ q. get-form v a q form ∙ ap unless_zero (same q) ∙ sym (get-form v b q other)) in
+    λ i. record { constant = constant i; numbers = numbers i }

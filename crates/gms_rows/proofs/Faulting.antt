@@ -13,7 +13,9 @@ use Rattle.lp_form.specs.declared.key.Key.{Key}
 use Rattle.lp_form.specs.declared.fault.FormFault.{FormFault}
 use Rattle.lp_form.specs.declared.fault.FormFault.TheVariants as fault
 use Rattle.gms_rows.specs.Affine.{times_number}
-use Rattle.gms_rows.specs.Forms.{Form, is_not_zero, where_fits, scaled}
+use Rattle.lp_form.specs.Affine.{Affine}
+use Rattle.lp_sum.specs.Sums.{IsKept}
+use Rattle.gms_rows.specs.Forms.{Form, form_in, entry_of, is_not_zero, where_fits, scaled}
 use Rattle.gms_rows.specs.Walks.{Told, ShowsFault}
 use Rattle.gms_rows.proofs.Entries.{not_zero-true, not_zero-zero}
 
@@ -39,3 +41,10 @@ module _ (limit : ℕ) (b : Pairs) (at : Place) (form : Form) where
   -- a product
   pub times-some : (x : Number) → times_number limit b false at form x ≡ scaled limit at b false form x
   times-some x = refl
+
+module _ {F : Type 0} (v : F → Number) (at : Place) (b : Pairs) (right : Option Key → Extended) where
+  -- a sum that is kept after a fault of a step shows what it was
+  pub shows-kept : (before now : Affine F) (fault : FormFault) (stop : StopOrMemory F) → IsKept before now fault → ShowsFault v at b (entry_of (form_in v now)) right fault stop → ShowsFault v at b (entry_of (form_in v before)) right fault stop
+  shows-kept before now (fault.Limit key) stop kept shows =
+      subst (λ a. ShowsFault v at b (entry_of (form_in v a)) right (fault.Limit key) stop) kept shows
+  shows-kept before now fault.Memory stop kept shows = shows

@@ -17,3 +17,4 @@ pub mod Domains
 pub mod RowKeys
 pub mod ModelKeys
 pub mod RowLaws
+mod Lags

@@ -1,6 +1,6 @@
 -- The rows of a model: one for each equation of the model and each element of the domain of its definition (GAMS User's Guide, "Equations",
 -- "Model and Solve Statements").
-use Rattle.std.specs.Prelude.{ℕ, true, not, ◌==◌, List, [], ◌∷◌, ◌++◌, map, flat_map, filter, Option, Some, None, option_map, Ok, if◌then◌else◌}
+use Rattle.std.specs.Prelude.{ℕ, Bool, true, false, not, ◌==◌, List, [], ◌∷◌, ◌++◌, map, flat_map, filter, Option, Some, None, option_map, Ok, if◌then◌else◌}
 use Rattle.gms_labels.specs.declared.place.Place.{Place}
 use Rattle.gq_number.specs.Number.{Number}
 use Rattle.gms_ast.specs.declared.word.Named.{Named}
@@ -61,10 +61,17 @@ module _ {F : Type 0} where
   declared_by (Declare declaring.Equation items) = map (λ (item : Decl F). item.named.name) items
   declared_by act = []
 
-  -- the definition that a statement is
+  -- whether an index has a lag
+  abbrev pub has_lag : tree.Indices F → Bool
+  has_lag tree.no_index = false
+  has_lag (tree.label label rest) = has_lag rest
+  has_lag (tree.set set rest) = has_lag rest
+  has_lag (tree.lagged set op at amount rest) = true
+
+  -- the definition that a statement is; no definition of a program has a lag among its indices, and what had one would define nothing
   abbrev pub defined_at : Place → Act F → List (Definition F)
   defined_at at (Define equation indices condition left_at left side right_at right) =
-      record {
+      if has_lag (indices_of (map index_tree indices)) then [] else record {
         equation = equation.name;
         at = at;
         indices = indices_of (map index_tree indices);

@@ -1,6 +1,8 @@
 //! The equations of a model, and their definitions.
 ghost use Rattle.std.specs.Prelude.{◌≡◌, ℕ, List, ◌++◌, map, option_map, IfOk, OnOk};
-ghost use Rattle.gms_rows.specs.Rows.{each_once, listed, found, declared_by, models_of, defined_at, definition_of, definitions, equations_of};
+ghost use Rattle.gms_ast.specs.Trees.{no_index};
+ghost use Rattle.gms_ast.specs.TreeView.{index_tree, indices_of};
+ghost use Rattle.gms_rows.specs.Rows.{each_once, listed, found, declared_by, models_of, has_lag, defined_at, definition_of, definitions, equations_of};
 ghost use Rattle.gms_rows.specs.Walks.{with_once, found_in};
 
 use gms_ast::{Act, Decl, DeclKind, Expr, Index, ModelDecl, Program, Side, Stmt};
@@ -31,6 +33,28 @@ pub(crate) struct Definition<'s, F> {
     pub(crate) right: &'s Expr<F>,
 }
 
+/// Whether an index has a lag.
+fn is_lagged<F: ExactField>(index: &Index<F>) -> bool
+    ensures { result ≡ has_lag (index_tree index.now no_index) }
+{
+    match index {
+        Index::Set { lag: Some(_), .. } => true,
+        Index::Set { lag: None, .. } | Index::Label(_) => false,
+    }
+}
+
+/// Whether one of these indices has a lag. None of a definition has.
+fn has_lag<F: ExactField>(indices: &[Index<F>]) -> bool
+    ensures { result ≡ has_lag (indices_of (map index_tree indices.now)) }
+{
+    for index in indices {
+        if is_lagged(index) {
+            return true;
+        }
+    }
+    false
+}
+
 /// The definition of an equation that a statement is.
 fn definition_at<F: ExactField>(statement: &Stmt<F>, name: u32) -> Option<Definition<'_, F>>
     ensures { definition_of (defined_at statement.now.at statement.now.act) name ≡ found_in result }
@@ -46,7 +70,7 @@ fn definition_at<F: ExactField>(statement: &Stmt<F>, name: u32) -> Option<Defini
             right_at,
             right,
         } => {
-            if equation.name != name {
+            if equation.name != name || has_lag(indices.as_slice()) {
                 return None;
             }
             Some(Definition {

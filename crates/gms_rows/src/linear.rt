@@ -8,7 +8,7 @@ ghost use Rattle.gms_rows.specs.Forms.{form_in};
 ghost use Rattle.gms_rows.specs.Walks.{operand_in, parts_in, part_meant};
 
 use crate::operand::{Operand, formed, negated};
-use crate::steps::{add, scale};
+use crate::steps::{add, add_to, finished, scale};
 use crate::variables::has_variables;
 use gms_ast::{Control, Expr, Index};
 use gms_eval::{Binding, StopOrMemory, all_hold, domain, tuple_of, value};
@@ -17,6 +17,7 @@ use gms_store::Store;
 use gq_extended::Ext;
 use gq_field::ExactField;
 use lp_form::{Form, Key};
+use lp_sum::FormSum;
 use std::alloc::Global;
 
 /// The affine form of an expression in a state, where its controlled sets stand for the labels of a binding: a constant, and a number for
@@ -130,15 +131,16 @@ fn total<F: ExactField>(
     ensures { Gives F.value (form_in F.value) result (total_form F.value F.limit store.now at b.now (control_tree control.now) (tree_of body.now)) }
 {
     let elements = domain(alloc, store, control, at, b)?;
-    let mut total = Form::constant(alloc, F::zero());
+    let mut total = FormSum::new(alloc);
     let mut inner = b.copy(alloc)?;
     for element in &elements {
         inner.control(b.len(), control.sets.as_slice(), element.as_slice())?;
         let part = operand(alloc, store, body, at, &inner)?;
         let form = part.into_form(alloc, at, &inner)?;
-        total = add(alloc, total, &form, false, at, b)?;
+        add_to(alloc, &mut total, &form, at, b)?;
     }
-    Ok(total)
+    let sum = finished(alloc, total)?;
+    Ok(sum)
 }
 
 /// What a sum means, from the left: a value while no part has variables.

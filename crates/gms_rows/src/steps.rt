@@ -1,5 +1,5 @@
 //! The steps on forms, with the faults of a run.
-ghost use Rattle.std.specs.Prelude.{◌≡◌, OnErr, true, false, if◌then◌else◌};
+ghost use Rattle.std.specs.Prelude.{◌≡◌, IfOk, OnErr, true, false, if◌then◌else◌};
 ghost use Rattle.std.specs.Result.{result_map_both};
 ghost use Rattle.gq_extended.specs.Extended.{number};
 ghost use Rattle.gq_extended.specs.Meaning.{extended};
@@ -14,7 +14,8 @@ use gms_labels::Place;
 use gq_extended::Ext;
 use gq_field::ExactField;
 use lp_form::{Form, FormFault, Key};
-use std::alloc::Global;
+use lp_sum::FormSum;
+use std::alloc::{AllocError, Global};
 
 /// The number of a form that a step is on: the constant, or that of a key.
 fn entry<F: ExactField>(form: &Form<F>, key: &Option<Key>) -> Ext<F>
@@ -84,6 +85,66 @@ pub(crate) fn add<F: ExactField>(
         Ok(()) => Ok(sum),
         Err(fault) => Err(of_two(alloc, fault, &sum, right, at, b)),
     }
+}
+
+/// The number of a growing sum that a step is on: the constant, or that of a key.
+fn entry_of_sum<F: ExactField>(sum: &FormSum<F>, key: &Option<Key>) -> Ext<F>
+    ensures { extended F.value result ≡ entry_of (form_in F.value sum.now) key.now }
+{
+    let constant = sum.offset();
+    match key {
+        None => Ext::Number(constant),
+        Some(key) => Ext::Number(sum.get(key)),
+    }
+}
+
+/// The stop of a step on a growing sum and a form that does not fit.
+fn of_sum<F: ExactField>(
+    alloc: Global,
+    fault: FormFault,
+    sum: &FormSum<F>,
+    form: &Form<F>,
+    at: Place,
+    b: &Binding,
+) -> StopOrMemory<F>
+    ensures { ShowsFault F.value at b.now (entry_of (form_in F.value sum.now)) (entry_of (form_in F.value form.now)) fault result }
+{
+    match fault {
+        FormFault::Memory => StopOrMemory::Memory,
+        FormFault::Limit(key) => {
+            let left = entry_of_sum(sum, &key);
+            let right = entry(form, &key);
+            StopOrMemory::at_step(alloc, StopKind::Limit, at, left, right, b)
+        }
+    }
+}
+
+/// Adds a form to a growing sum, entry by entry. `Limit` at the place where a step does not fit.
+pub(crate) fn add_to<F: ExactField>(
+    alloc: Global,
+    sum: &mut FormSum<F>,
+    form: &Form<F>,
+    at: Place,
+    b: &Binding,
+) -> Result<(), StopOrMemory<F>>
+    ensures { Gives F.value (form_in F.value) (result_map_both (λ _. sum.new) (λ stop. stop) result) (sum_of F.limit at b.now false (form_in F.value sum.old) (form_in F.value form.now)) }
+{
+    let _ = sum.offset();
+    let _ = form.keys();
+    match sum.add_assign(alloc, form) {
+        Ok(()) => Ok(()),
+        Err(fault) => Err(of_sum(alloc, fault, sum, form, at, b)),
+    }
+}
+
+/// The form that a growing sum is.
+pub(crate) fn finished<F: ExactField>(alloc: Global, sum: FormSum<F>) -> Result<Form<F>, AllocError>
+    ensures { IfOk result (λ form. form_in F.value form ≡ form_in F.value sum) }
+{
+    let _ = sum.offset();
+    let form = sum.into_form(alloc)?;
+    let _ = form.keys();
+    Ok(form)
 }
 
 /// A form times a number, entry by entry. `Limit` at the place where a product does not fit.

@@ -1,1 +1,1 @@
-pub mod Unindexed
+pub mod Indexed

@@ -2,4 +2,8 @@
 #![tactic(auto)]
 
 #[cfg(test)]
+mod sides;
+#[cfg(test)]
+mod source;
+#[cfg(test)]
 mod tests;

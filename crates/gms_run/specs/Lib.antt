@@ -1,6 +1,4 @@
-pub mod Run
-pub mod ListingText
-pub mod CommandLine
-pub mod Transfers
 pub mod Answers
 pub mod Outside
+pub mod Steps
+pub mod Transfers

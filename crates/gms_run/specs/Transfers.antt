@@ -2,7 +2,7 @@
 use Rattle.std.specs.Prelude.{◌≡◌, ℕ, ◌+◌, true, List, take, drop, Some, IfSome}
 use Rattle.gms_host.specs.Meaning.{Meaning}
 use Rattle.gms_host.specs.Rules.{CountsStay, SameCounts, Precise}
-use Rattle.gms_scalar_lex.specs.Tokens.{most_bytes}
+use Rattle.gms_lex.specs.Tokens.{most_bytes}
 
 -- a reliable host counted no fault
 abbrev pub SteadyCounts : Meaning → Meaning → Type 0

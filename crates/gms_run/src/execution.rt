@@ -1,197 +1,174 @@
-//! The run of a program: values of products, assignments, displays, and the first fault.
-ghost use Rattle.std.specs.Prelude.{◌≡◌, ◌++◌, ℕ, List, [], map, IfOk, IfErr, IsErr, OnOk, flat_map, slice_set, slice_index_or};
-ghost use Rattle.std.specs.Result.{result_map_both};
-ghost use Rattle.gq_field.specs.Values.{half_value};
-ghost use Rattle.gms_run.specs.Run.{scalar_value, factor_value, limit_at, step_value, sum_value, product_value, expression_value, shown_by, run_of};
-ghost use Rattle.gms_run.specs.ListingText.{shown_text};
+//! The execution of a program, whose listing goes out statement by statement.
+ghost use Rattle.std.specs.Prelude.{◌≡◌, ◌<◌, ◌^◌, ◌++◌, [], true, length, map, IfOk, OnOk, IsErrOf};
+ghost use Rattle.std.specs.List.{All};
+ghost use Rattle.gq_frac.specs.Frac.{frac_value};
+ghost use Rattle.lp_core.specs.Numbers.{answer_numbers};
+ghost use Rattle.gms_event.specs.EventView.{events_in};
+ghost use Rattle.gms_exec.specs.Dimensions.{AreOneDimensional};
+ghost use Rattle.gms_exec.specs.Run.{of_statement};
+ghost use Rattle.gms_exec.specs.Walks.{AreKept};
+ghost use Rattle.gms_list.specs.Conditions.{IsListable};
+ghost use Rattle.gms_list.specs.ListingText.{events_text};
+ghost use Rattle.gms_check.specs.CompileErrors.{compile_errors};
+ghost use Rattle.gms_check.specs.Loaded.{loaded};
+ghost use Rattle.gms_host.specs.Meaning.{Rose};
+ghost use Rattle.gms_host.specs.Rules.{Steady, Precise};
+ghost use Rattle.gms_host.specs.Spooling.{WritesFront};
+ghost use Rattle.gms_run.specs.Answers.{number_limit, course_of};
+ghost use Rattle.gms_run.specs.Outside.{Streams, RunsTo, ComesToRest, shown_by};
+ghost use Rattle.gms_run.specs.Steps.{IsListed};
 
-use crate::listing;
-use gms_labels::Place;
-use gms_scalar_lex::Name;
-use gms_scalar_parse::{Expression, Factor, Operator, Product, Program, Sign, Statement};
-use gq_field::{ExactField, Half, Limit};
+use crate::outlet::Outlet;
+use crate::status::Status;
+use gms_ast::{Program, Stmt};
+use gms_check::load;
+use gms_eval::{Binding, StopOrMemory};
+use gms_event::Event;
+use gms_exec::step;
+use gms_host::{Failed, Host};
+use gms_list::Listing;
+use gms_store::Store;
+use gq_frac::Frac;
+use lp_core::Answer;
+use lp_slot::LpSolver;
 use std::alloc::{AllocError, Global};
-use thiserror::Error;
 
-/// An execution error.
-#[derive(Clone, Copy, Debug, Error)]
-pub(crate) enum Fault {
-    /// A value does not fit under the limit of the field.
-    #[error("a value does not fit under the limit")]
-    Limit,
-    /// A division by 0.
-    #[error("a division by 0")]
-    Divide,
+/// A run that came to its end.
+#[derive(Drop)]
+pub(crate) struct Finish {
+    /// How it ended.
+    pub(crate) status: Status,
+    /// Its last state.
+    pub(crate) store: Store<Frac>,
 }
 
-/// An execution error and where it is.
-#[derive(Clone, Copy)]
-pub(crate) struct Stop {
-    pub(crate) fault: Fault,
-    pub(crate) at: Place,
-}
-
-/// The value of the scalar at a place.
-fn value_at(values: &[Half], place: usize) -> Half
-    ensures { half_value result ≡ scalar_value (map half_value values.now) place }
-{
-    match values.get(place) {
-        Some(value) => *value,
-        None => Half::zero(),
-    }
-}
-
-/// The name of the scalar at a place.
-fn name_at(names: &[Name], place: usize) -> &[u8]
-    ensures { result.now ≡ slice_index_or names.now place [] }
-{
-    match names.get(place) {
-        Some(name) => name.as_bytes(),
-        None => &[],
-    }
-}
-
-fn factor(values: &[Half], factor: Factor) -> Half
-    ensures { half_value result ≡ factor_value (map half_value values.now) factor }
-{
-    match factor {
-        Factor::Number(value) => value,
-        Factor::Scalar(place) => value_at(values, place),
-    }
-}
-
-/// The value of a step, or `Limit` at its place.
-fn checked(at: Place, value: Result<Half, Limit>) -> Result<Half, Stop>
-    ensures ok { IfOk result (λ x. value ≡ Ok x) }
-    ensures err { IfErr result (λ stop. (stop ≡ limit_at at) × IsErr value) }
-{
-    match value {
-        Ok(value) => Ok(value),
-        Err(_) => Err(Stop {
-            fault: Fault::Limit,
-            at,
-        }),
-    }
-}
-
-/// `x` over `y`.
-fn quotient(at: Place, x: Half, y: Half) -> Result<Half, Stop>
-    ensures { result_map_both half_value (λ stop. stop) result ≡ step_value Operator.Divide at (half_value x) (half_value y) }
-{
-    if y.is_zero() {
-        return Err(Stop {
-            fault: Fault::Divide,
-            at,
-        });
-    }
-    checked(at, x.div(y))
-}
-
-/// `x` times `y`, or `x` over `y`.
-fn step(operator: Operator, at: Place, x: Half, y: Half) -> Result<Half, Stop>
-    ensures { result_map_both half_value (λ stop. stop) result ≡ step_value operator at (half_value x) (half_value y) }
-{
-    match operator {
-        Operator::Times => checked(at, x.mul(y)),
-        Operator::Divide => quotient(at, x, y),
-    }
-}
-
-/// `x` plus `y`, or `x` less `y`.
-fn sum(sign: Sign, at: Place, x: Half, y: Half) -> Result<Half, Stop>
-    ensures { result_map_both half_value (λ stop. stop) result ≡ sum_value sign at (half_value x) (half_value y) }
-{
-    match sign {
-        Sign::Plus => checked(at, x.add(y)),
-        Sign::Minus => checked(at, x.sub(y)),
-    }
-}
-
-/// The value of a product, from left to right, or its first fault.
-fn product(values: &[Half], product: &Product) -> Result<Half, Stop>
-    ensures { result_map_both half_value (λ stop. stop) result ≡ product_value (map half_value values.now) product.now }
-{
-    let mut value = factor(values, product.first);
-    for next in product.steps.as_slice() {
-        let operand = next.operand.sign.apply(factor(values, next.operand.factor));
-        value = step(next.operator, next.operand.at, value, operand)?;
-    }
-    Ok(value)
-}
-
-/// The value of an expression, from left to right, or its first fault.
-fn expression(values: &[Half], expression: &Expression) -> Result<Half, Stop>
-    ensures { result_map_both half_value (λ stop. stop) result ≡ expression_value (map half_value values.now) expression.now }
-{
-    let mut value = expression.sign.apply(product(values, &expression.first)?);
-    for term in expression.terms.as_slice() {
-        let operand = product(values, &term.product)?;
-        value = sum(term.sign, term.product.at, value, operand)?;
-    }
-    Ok(value)
-}
-
-/// Gives the scalar at a place a value.
-fn put(values: &mut [Half], place: usize, value: Half)
-    ensures { map half_value values.new ≡ slice_set (map half_value values.old) place (half_value value) }
-{
-    if place < values.len() {
-        values[place] = value;
-    }
-}
-
-/// Adds the lines of a display.
-fn display(
+/// Lists what a statement showed.
+fn list_events(
     alloc: Global,
-    listing: &mut Vec<u8>,
-    line: u32,
-    names: &[Name],
-    values: &[Half],
-    items: &[usize],
+    program: &Program<Frac>,
+    events: &[Event<Frac>],
+    answers: &[Answer<Frac>],
+    listing: &mut Listing,
 ) -> Result<(), AllocError>
-    ensures { OnOk result (listing.new.items ≡ listing.old.items
-        ++ flat_map shown_text (shown_by names.now (map half_value values.now) line items.now)) }
+    requires { All (IsListable frac_value answers.now) events.now }
+    ensures { OnOk result (listing.new ≡ listing.old ++ events_text program.now.names program.now.labels number_limit (map (answer_numbers frac_value) answers.now) (events_in frac_value events.now)) }
 {
-    for place in items {
-        listing::shown(
-            alloc,
-            listing,
-            line,
-            name_at(names, *place),
-            value_at(values, *place),
-        )?;
+    for event in events {
+        listing.event(alloc, program, event, answers)?;
     }
     Ok(())
 }
 
-/// Runs the program and adds the lines of what it shows. The answer is the fault that stopped it, if one did.
-pub(crate) fn execute(
+/// Executes a statement that no loop holds, and lists what it shows and the fault that stops it. Answers whether the run goes on.
+fn statement(
     alloc: Global,
-    listing: &mut Vec<u8>,
-    program: &Program,
-) -> Result<Option<Stop>, AllocError>
-    ensures shown { OnOk result (listing.new.items ≡ listing.old.items ++ flat_map shown_text (run_of program.now).shown) }
-    ensures stopped { IfOk result (λ stopped. stopped ≡ (run_of program.now).stopped) }
+    store: &mut Store<Frac>,
+    program: &Program<Frac>,
+    s: &Stmt<Frac>,
+    solvers: &mut Vec<Box<dyn LpSolver>>,
+    answers: &mut Vec<Answer<Frac>>,
+    listing: &mut Listing,
+) -> Result<bool, AllocError>
+    requires few { length solvers.old.items < 2 ^ 32 }
+    requires settings { AreKept (length solvers.old.items) store.old.settings }
+    requires plain { AreOneDimensional store.old program.now.statements.items }
+    ensures listed { IfOk result (λ goes_on. IsListed goes_on (of_statement frac_value number_limit (record { program = program.now; solvers = map name solvers.old.items }) s.now []) program.now (map rule solvers.old.items)
+        (record { state = store.old; answers = answers.old.items; paths = map paths solvers.old.items }) (record { state = store.new; answers = answers.new.items; paths = map paths solvers.new.items }) listing.old listing.new) }
+    ensures names { OnOk result (map name solvers.new.items ≡ map name solvers.old.items) }
+    ensures rules { OnOk result (map rule solvers.new.items ≡ map rule solvers.old.items) }
+    ensures settings { OnOk result (AreKept (length solvers.old.items) store.new.settings) }
+    ensures plain { OnOk result (AreOneDimensional store.new program.now.statements.items) }
 {
-    let names = program.names.as_slice();
-    let mut values = Vec::from_slice(alloc, program.values.as_slice())?;
-    for statement in program.statements.as_slice() {
-        match statement {
-            Statement::Assign { target, value } => match expression(values.as_slice(), value) {
-                Ok(value) => put(values.as_mut_slice(), *target, value),
-                Err(stop) => return Ok(Some(stop)),
-            },
-            Statement::Display { line, names: items } => {
-                display(
-                    alloc,
-                    listing,
-                    *line,
-                    names,
-                    values.as_slice(),
-                    items.as_slice(),
-                )?;
-            }
+    let none = Binding::new(alloc);
+    let mut events = Vec::new(alloc);
+    match step(
+        alloc,
+        store,
+        program,
+        s,
+        &none,
+        solvers,
+        answers,
+        &mut events,
+    ) {
+        Ok(()) => {
+            list_events(alloc, program, &events, answers, listing)?;
+            Ok(true)
+        }
+        Err(StopOrMemory::Memory) => Err(AllocError),
+        Err(StopOrMemory::Stop(stop)) => {
+            list_events(alloc, program, &events, answers, listing)?;
+            listing.event(alloc, program, &Event::Fault(stop), answers)?;
+            Ok(false)
         }
     }
-    Ok(None)
+}
+
+/// Executes the statements of a program from its first state on. What a statement shows goes out before the next one is executed; after a
+/// failed write none is.
+fn statements<H: Host>(
+    alloc: Global,
+    host: &mut H,
+    store: &mut Store<Frac>,
+    program: &Program<Frac>,
+    solvers: &mut Vec<Box<dyn LpSolver>>,
+    answers: &mut Vec<Answer<Frac>>,
+    outlet: &mut Outlet,
+) -> Result<Status, Failed>
+    requires open { (H.meaning host.old).writing ≡ true }
+    requires few { length solvers.old.items < 2 ^ 32 }
+    requires begins { store.old ≡ loaded frac_value program.now }
+    requires settings { AreKept (length solvers.old.items) store.old.settings }
+    requires plain { AreOneDimensional store.old program.now.statements.items }
+    requires none { answers.old.items ≡ [] }
+    ensures ends { IfOk result (λ status. RunsTo status (record { solvers = map name solvers.old.items; rules = map rule solvers.old.items; answers = answers.new.items; paths_before = map paths solvers.old.items; paths_after = map paths solvers.new.items }) program.now) }
+    ensures last { OnOk result ((course_of (record { solvers = map name solvers.old.items; rules = map rule solvers.old.items; answers = answers.new.items; paths_before = map paths solvers.old.items; paths_after = map paths solvers.new.items }) program.now).state ≡ store.new) }
+    ensures shown { OnOk result (Streams (H.meaning host.old) (H.meaning host.new) outlet.old.spool (outlet.old.listing ++ shown_by (record { solvers = map name solvers.old.items; rules = map rule solvers.old.items; answers = answers.new.items; paths_before = map paths solvers.old.items; paths_after = map paths solvers.new.items }) program.now) (outlet.new.spool ++ outlet.new.listing)) }
+    ensures failed { IsErrOf result Failed.Fault → WritesFront (H.meaning host.old) (H.meaning host.new) (outlet.old.spool ++ outlet.old.listing ++ shown_by (record { solvers = map name solvers.old.items; rules = map rule solvers.old.items; answers = answers.new.items; paths_before = map paths solvers.old.items; paths_after = map paths solvers.new.items }) program.now) }
+    ensures rests { IsErrOf result Failed.Fault → ComesToRest (record { solvers = map name solvers.old.items; rules = map rule solvers.old.items; answers = answers.new.items; paths_before = map paths solvers.old.items; paths_after = map paths solvers.new.items }) program.now }
+    ensures fault { IsErrOf result Failed.Fault → Rose (H.meaning host.old).write_faults (H.meaning host.new).write_faults }
+    ensures steady { Steady (H.meaning host.old) (H.meaning host.new) result }
+    ensures precise { OnOk result (Precise (H.meaning host.old) (H.meaning host.new)) }
+    ensures kept { OnOk result ((map name solvers.new.items ≡ map name solvers.old.items) × (map rule solvers.new.items ≡ map rule solvers.old.items)) }
+    ensures kept_failed { IsErrOf result Failed.Fault → (map name solvers.new.items ≡ map name solvers.old.items) × (map rule solvers.new.items ≡ map rule solvers.old.items) }
+{
+    for s in &program.statements {
+        let listing = &mut outlet.listing;
+        let goes_on = statement(alloc, store, program, s, solvers, answers, listing)?;
+        outlet.pass(host)?;
+        if !goes_on {
+            return Ok(Status::Execution);
+        }
+    }
+    Ok(Status::Done)
+}
+
+/// Executes an accepted program from its first state on. What a statement shows goes out before the next one is executed; after a failed
+/// write none is.
+pub(crate) fn execute<H: Host>(
+    alloc: Global,
+    host: &mut H,
+    program: &Program<Frac>,
+    solvers: &mut Vec<Box<dyn LpSolver>>,
+    answers: &mut Vec<Answer<Frac>>,
+    outlet: &mut Outlet,
+) -> Result<Finish, Failed>
+    requires open { (H.meaning host.old).writing ≡ true }
+    requires few { length solvers.old.items < 2 ^ 32 }
+    requires accepted { compile_errors frac_value program.now (map name solvers.old.items) ≡ [] }
+    requires none { answers.old.items ≡ [] }
+    ensures ends { IfOk result (λ finish. RunsTo finish.status (record { solvers = map name solvers.old.items; rules = map rule solvers.old.items; answers = answers.new.items; paths_before = map paths solvers.old.items; paths_after = map paths solvers.new.items }) program.now) }
+    ensures last { IfOk result (λ finish. (course_of (record { solvers = map name solvers.old.items; rules = map rule solvers.old.items; answers = answers.new.items; paths_before = map paths solvers.old.items; paths_after = map paths solvers.new.items }) program.now).state ≡ finish.store) }
+    ensures shown { OnOk result (Streams (H.meaning host.old) (H.meaning host.new) outlet.old.spool (outlet.old.listing ++ shown_by (record { solvers = map name solvers.old.items; rules = map rule solvers.old.items; answers = answers.new.items; paths_before = map paths solvers.old.items; paths_after = map paths solvers.new.items }) program.now) (outlet.new.spool ++ outlet.new.listing)) }
+    ensures failed { IsErrOf result Failed.Fault → WritesFront (H.meaning host.old) (H.meaning host.new) (outlet.old.spool ++ outlet.old.listing ++ shown_by (record { solvers = map name solvers.old.items; rules = map rule solvers.old.items; answers = answers.new.items; paths_before = map paths solvers.old.items; paths_after = map paths solvers.new.items }) program.now) }
+    ensures rests { IsErrOf result Failed.Fault → ComesToRest (record { solvers = map name solvers.old.items; rules = map rule solvers.old.items; answers = answers.new.items; paths_before = map paths solvers.old.items; paths_after = map paths solvers.new.items }) program.now }
+    ensures fault { IsErrOf result Failed.Fault → Rose (H.meaning host.old).write_faults (H.meaning host.new).write_faults }
+    ensures steady { Steady (H.meaning host.old) (H.meaning host.new) result }
+    ensures precise { OnOk result (Precise (H.meaning host.old) (H.meaning host.new)) }
+    ensures kept { OnOk result ((map name solvers.new.items ≡ map name solvers.old.items) × (map rule solvers.new.items ≡ map rule solvers.old.items)) }
+    ensures kept_failed { IsErrOf result Failed.Fault → (map name solvers.new.items ≡ map name solvers.old.items) × (map rule solvers.new.items ≡ map rule solvers.old.items) }
+{
+    let mut store = load(alloc, program)?;
+    let status = statements(alloc, host, &mut store, program, solvers, answers, outlet)?;
+    Ok(Finish { status, store })
 }

@@ -1,15 +1,12 @@
 //! The top call: a run of `gams25` from the words of its command line to the bytes of its listing.
 #![tactic(auto)]
 
-mod command_line;
+mod closing;
 mod execution;
-mod listing;
+mod outlet;
 mod report;
 mod status;
 mod top_call;
 mod transfer;
 
 pub use top_call::{Ended, run};
-
-#[cfg(test)]
-mod tests;

@@ -1,73 +1,152 @@
-//! The listing of a source, from its bytes.
-ghost use Rattle.std.specs.Prelude.{◌≡◌, ◌++◌, IfOk};
-ghost use Rattle.gms_run.specs.Run.{run_of};
-ghost use Rattle.gms_run.specs.ListingText.{end_text, run_text, refused_listing};
-ghost use Rattle.gms_scalar_parse.specs.Places.{IsCause};
-ghost use Rattle.gms_run.specs.Answers.{status_code, EndsSo, IsListing};
+//! The listing of a source, from its bytes, as it goes out.
+ghost use Rattle.std.specs.Prelude.{◌≡◌, ◌<◌, ◌^◌, ◌++◌, [], true, length, map, IfOk, OnOk, IsErrOf, string_bytes};
+ghost use Rattle.gms_host.specs.Meaning.{Rose};
+ghost use Rattle.gms_host.specs.Rules.{Steady, Precise};
+ghost use Rattle.gms_list.specs.ListingText.{refused_echo, source_error_text};
+ghost use Rattle.gms_run.specs.Outside.{KeepsLast, Lists, ListsFront, Prepares};
 
 use crate::execution::execute;
-use crate::listing;
+use crate::outlet::Outlet;
 use crate::status::Status;
-use gms_scalar_parse::{Program, SourceError, SourceFault, SourceFaultOrMemory, parse};
+use gms_ast::Program;
+use gms_check::check;
+use gms_host::{Failed, Host};
+use gms_parse::{SourceError, SourceFault, SourceFaultOrMemory, parse};
+use gms_store::Store;
+use gq_frac::Frac;
+use lp_core::Answer;
+use lp_slot::LpSolver;
 use std::alloc::{AllocError, Global};
 
-/// A listing with its last line.
-fn ended(alloc: Global, mut text: Vec<u8>, status: Status) -> Result<(Status, Vec<u8>), AllocError>
-    ensures status { IfOk result (λ r. r.0 ≡ status) }
-    ensures text { IfOk result (λ r. r.1.items ≡ text.items ++ end_text (status_code status)) }
-{
-    listing::end(alloc, &mut text, status.code())?;
-    Ok((status, text))
+/// A program that was run.
+#[derive(Drop)]
+pub(crate) struct Last {
+    /// The program.
+    pub(crate) program: Program<Frac>,
+    /// The last state of its run.
+    pub(crate) store: Store<Frac>,
 }
 
-/// The listing of a source that is refused.
+/// What became of a source.
+#[derive(Drop)]
+pub(crate) struct Outcome {
+    /// How its run ends.
+    pub(crate) status: Status,
+    /// The program and its last state, where it was run.
+    pub(crate) last: Option<Last>,
+}
+
+/// The name of a solver.
+fn name_of(alloc: Global, solver: &Box<dyn LpSolver>) -> Result<String, AllocError>
+    ensures { IfOk result (λ text. string_bytes text ≡ name solver.now) }
+{
+    String::from_str(alloc, solver.name())
+}
+
+/// The names of solvers.
+fn names_of(alloc: Global, solvers: &[Box<dyn LpSolver>]) -> Result<Vec<String>, AllocError>
+    ensures { IfOk result (λ names. map string_bytes names.items ≡ map name solvers.now) }
+{
+    let mut names = Vec::new(alloc);
+    for solver in solvers {
+        let text = name_of(alloc, solver)?;
+        names.push(text)?;
+    }
+    Ok(names)
+}
+
+/// Lists why a source is no program. A source that is too long has no echo.
 fn refused(
     alloc: Global,
     source: &[u8],
     fault: SourceFault,
-) -> Result<(Status, Vec<u8>), AllocError>
-    requires { IsCause fault.error source.now fault.at }
-    ensures status { IfOk result (λ r. r.0 ≡ Status.Compile) }
-    ensures text { IfOk result (λ r. r.1.items ≡ refused_listing source.now fault) }
+    outlet: &mut Outlet,
+) -> Result<Status, AllocError>
+    ensures status { IfOk result (λ status. status ≡ Status.Compile) }
+    ensures text { OnOk result (outlet.new.listing ≡ outlet.old.listing ++ (refused_echo fault.error source.now ++ source_error_text fault)) }
+    ensures spool { outlet.new.spool ≡ outlet.old.spool }
 {
-    let mut text = Vec::new(alloc);
-    match fault.error {
-        SourceError::TooLong => {}
-        SourceError::NotBuilt => listing::echo(alloc, &mut text, source)?,
+    if fault.error != SourceError::TooLong {
+        outlet.listing.echo(alloc, source)?;
     }
-    listing::error(alloc, &mut text, fault)?;
-    ended(alloc, text, Status::Compile)
+    outlet.listing.source_fault(alloc, &fault)?;
+    Ok(Status::Compile)
 }
 
-/// A listing with the lines of a program's run and the last line.
-fn executed(
+/// Parses, checks and executes a source, whose listing goes out as far as its last line, which is still to come.
+fn listed<H: Host>(
     alloc: Global,
-    program: &Program,
-    mut text: Vec<u8>,
-) -> Result<(Status, Vec<u8>), AllocError>
-    ensures status { IfOk result (λ r. EndsSo r.0 (run_of program.now).stopped) }
-    ensures text { IfOk result (λ r. r.1.items ≡ text.items ++ run_text (run_of program.now)) }
+    host: &mut H,
+    source: &[u8],
+    solvers: &mut Vec<Box<dyn LpSolver>>,
+    answers: &mut Vec<Answer<Frac>>,
+    outlet: &mut Outlet,
+) -> Result<Outcome, Failed>
+    requires open { (H.meaning host.old).writing ≡ true }
+    requires few { length solvers.old.items < 2 ^ 32 }
+    requires none { answers.old.items ≡ [] }
+    requires empty { outlet.old.spool ++ outlet.old.listing ≡ [] }
+    ensures body { IfOk result (λ outcome. Prepares outcome.status (record { solvers = map name solvers.old.items; rules = map rule solvers.old.items; answers = answers.new.items; paths_before = map paths solvers.old.items; paths_after = map paths solvers.new.items }) (H.meaning host.old) (H.meaning host.new) source.now (outlet.new.spool ++ outlet.new.listing)) }
+    ensures last { IfOk result (λ outcome. KeepsLast outcome.status (record { solvers = map name solvers.old.items; rules = map rule solvers.old.items; answers = answers.new.items; paths_before = map paths solvers.old.items; paths_after = map paths solvers.new.items }) source.now outcome.last) }
+    ensures front { IsErrOf result Failed.Fault → ListsFront (record { solvers = map name solvers.old.items; rules = map rule solvers.old.items; answers = answers.new.items; paths_before = map paths solvers.old.items; paths_after = map paths solvers.new.items }) (H.meaning host.old) (H.meaning host.new) source.now }
+    ensures fault { IsErrOf result Failed.Fault → Rose (H.meaning host.old).write_faults (H.meaning host.new).write_faults }
+    ensures steady { Steady (H.meaning host.old) (H.meaning host.new) result }
+    ensures precise { OnOk result (Precise (H.meaning host.old) (H.meaning host.new)) }
+    ensures kept { OnOk result ((map name solvers.new.items ≡ map name solvers.old.items) × (map rule solvers.new.items ≡ map rule solvers.old.items)) }
+    ensures kept_failed { IsErrOf result Failed.Fault → (map name solvers.new.items ≡ map name solvers.old.items) × (map rule solvers.new.items ≡ map rule solvers.old.items) }
 {
-    match execute(alloc, &mut text, program)? {
-        None => ended(alloc, text, Status::Done),
-        Some(stop) => {
-            listing::fault(alloc, &mut text, stop)?;
-            ended(alloc, text, Status::Execution)
+    let program = match parse::<Frac>(alloc, source) {
+        Ok(program) => program,
+        Err(SourceFaultOrMemory::Memory) => return Err(Failed::Memory),
+        Err(SourceFaultOrMemory::Fault(fault)) => {
+            let status = refused(alloc, source, fault, outlet)?;
+            return Ok(Outcome { status, last: None });
         }
+    };
+    outlet.listing.echo(alloc, source)?;
+    let names = names_of(alloc, solvers.as_slice())?;
+    let errors = check(alloc, &program, &names)?;
+    if errors.is_empty() {
+        let finish = execute(alloc, host, &program, solvers, answers, outlet)?;
+        let last = Last {
+            program,
+            store: finish.store,
+        };
+        Ok(Outcome {
+            status: finish.status,
+            last: Some(last),
+        })
+    } else {
+        outlet.listing.errors(alloc, &errors)?;
+        Ok(Outcome {
+            status: Status::Compile,
+            last: None,
+        })
     }
 }
 
-/// The listing of a source, and how its run ends.
-pub(crate) fn report(alloc: Global, source: &[u8]) -> Result<(Status, Vec<u8>), AllocError>
-    ensures { IfOk result (λ r. IsListing r.0 source.now r.1.items) }
+/// Writes the whole listing of a source to the opened output, and tells what became of it.
+pub(crate) fn report<H: Host>(
+    alloc: Global,
+    host: &mut H,
+    source: &[u8],
+    solvers: &mut Vec<Box<dyn LpSolver>>,
+    answers: &mut Vec<Answer<Frac>>,
+) -> Result<Outcome, Failed>
+    requires open { (H.meaning host.old).writing ≡ true }
+    requires few { length solvers.old.items < 2 ^ 32 }
+    requires none { answers.old.items ≡ [] }
+    ensures listed { IfOk result (λ outcome. Lists outcome.status (record { solvers = map name solvers.old.items; rules = map rule solvers.old.items; answers = answers.new.items; paths_before = map paths solvers.old.items; paths_after = map paths solvers.new.items }) (H.meaning host.old) (H.meaning host.new) source.now) }
+    ensures last { IfOk result (λ outcome. KeepsLast outcome.status (record { solvers = map name solvers.old.items; rules = map rule solvers.old.items; answers = answers.new.items; paths_before = map paths solvers.old.items; paths_after = map paths solvers.new.items }) source.now outcome.last) }
+    ensures front { IsErrOf result Failed.Fault → ListsFront (record { solvers = map name solvers.old.items; rules = map rule solvers.old.items; answers = answers.new.items; paths_before = map paths solvers.old.items; paths_after = map paths solvers.new.items }) (H.meaning host.old) (H.meaning host.new) source.now }
+    ensures fault { IsErrOf result Failed.Fault → Rose (H.meaning host.old).write_faults (H.meaning host.new).write_faults }
+    ensures steady { Steady (H.meaning host.old) (H.meaning host.new) result }
+    ensures precise { OnOk result (Precise (H.meaning host.old) (H.meaning host.new)) }
+    ensures kept { OnOk result ((map name solvers.new.items ≡ map name solvers.old.items) × (map rule solvers.new.items ≡ map rule solvers.old.items)) }
+    ensures kept_failed { IsErrOf result Failed.Fault → (map name solvers.new.items ≡ map name solvers.old.items) × (map rule solvers.new.items ≡ map rule solvers.old.items) }
 {
-    match parse(alloc, source) {
-        Ok(program) => {
-            let mut text = Vec::new(alloc);
-            listing::echo(alloc, &mut text, source)?;
-            executed(alloc, &program, text)
-        }
-        Err(SourceFaultOrMemory::Fault(fault)) => refused(alloc, source, fault),
-        Err(SourceFaultOrMemory::Memory) => Err(AllocError),
-    }
+    let mut outlet = Outlet::new(alloc)?;
+    let outcome = listed(alloc, host, source, solvers, answers, &mut outlet)?;
+    outlet.end(alloc, host, outcome.status, answers.len())?;
+    Ok(outcome)
 }

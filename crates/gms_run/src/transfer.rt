@@ -1,11 +1,11 @@
-//! Whole transfers over a host: a source read to its end, a listing written, a line said.
+//! Whole transfers over a host: a source read to its end, a line said.
 ghost use Rattle.std.specs.Prelude.{◌≡◌, ◌≤◌, ℕ, true, take, length, IfOk, OnOk, OnErr, IsErrOf};
 ghost use Rattle.gms_host.specs.Meaning.{Rose};
-ghost use Rattle.gms_host.specs.Rules.{Writes, Says, Steady, Precise};
+ghost use Rattle.gms_host.specs.Rules.{Says, Steady, Precise};
 ghost use Rattle.gms_run.specs.Transfers.{TakesSource, KeepsOutside};
 
 use gms_host::{Failed, Host};
-use gms_scalar_lex::MOST_BYTES;
+use gms_lex::MOST_BYTES;
 use std::alloc::Global;
 
 /// How many bytes are read at a time.
@@ -30,23 +30,6 @@ pub(crate) fn read_source<H: Host>(alloc: Global, host: &mut H) -> Result<Vec<u8
         source.extend_from_slice(&buffer[..count])?;
     }
     Ok(source)
-}
-
-/// Writes the whole listing.
-pub(crate) fn write_listing<H: Host>(host: &mut H, listing: &[u8]) -> Result<(), Failed>
-    requires { (H.meaning host.old).writing ≡ true }
-    ensures whole { OnOk result (Writes (H.meaning host.old) (H.meaning host.new) listing.now) }
-    ensures part { OnErr result ((count : ℕ) × Writes (H.meaning host.old) (H.meaning host.new) (take count listing.now)) }
-    ensures fault { IsErrOf result Failed.Fault → Rose (H.meaning host.old).write_faults (H.meaning host.new).write_faults }
-    ensures steady { Steady (H.meaning host.old) (H.meaning host.new) result }
-    ensures precise { OnOk result (Precise (H.meaning host.old) (H.meaning host.new)) }
-{
-    let mut rest = listing;
-    while !rest.is_empty() {
-        let count = host.write(rest)?;
-        rest = &rest[count..];
-    }
-    Ok(())
 }
 
 /// Says the whole line.

@@ -1,5 +1,5 @@
 use Rattle.std.proofs.Common.{◌+◌, ◌<◌, ◌≤◌, length, length-take, arith}
-use Rattle.gms_scalar_lex.specs.Tokens.{most_bytes}
+use Rattle.gms_lex.specs.Tokens.{most_bytes}
 use Rattle.gms_run.proofs.Transfers.{read_more, read_end, read_full}
 use Rattle.gms_run.proofs.transfer.read_source.Goals as goal
 

@@ -1,5 +1,5 @@
 use Rattle.std.proofs.Common.{◌+◌, ◌-◌, length}
-use Rattle.gms_scalar_lex.specs.Tokens.{most_bytes}
+use Rattle.gms_lex.specs.Tokens.{most_bytes}
 use Rattle.gms_run.proofs.Transfers.{ReadSoFar}
 use Rattle.gms_run.proofs.transfer.read_source.Given as goal
 

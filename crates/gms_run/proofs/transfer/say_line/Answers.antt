@@ -1,5 +1,5 @@
-use Rattle.gms_run.proofs.Steadiness.{calm_call, calm_more}
-use Rattle.gms_run.proofs.Transfers.{say_more}
+use Rattle.gms_host.proofs.Calmness.{calm_call, calm_more}
+use Rattle.gms_host.proofs.Fronts.{say_more}
 use Rattle.gms_run.proofs.transfer.say_line.Goals as goal
 
 pub loop-rest-preserved : goal.loop-rest-preserved

@@ -1,7 +1,7 @@
 use Rattle.std.proofs.Common.{length}
 use Rattle.gms_host.specs.Rules.{Says}
-use Rattle.gms_run.proofs.Steadiness.{Calm}
-use Rattle.gms_run.proofs.Transfers.{SoFar}
+use Rattle.gms_host.proofs.Calmness.{Calm}
+use Rattle.gms_host.proofs.Fronts.{SoFar}
 use Rattle.gms_run.proofs.transfer.say_line.Given as goal
 
 abbrev pub invariant-loop-rest : goal.invariant-loop-rest

@@ -1,0 +1,163 @@
+-- What a run showed before changes nothing of what statements do: they put what they show behind it.
+use Rattle.std.proofs.Common.{◌≡◌, ℕ, ◌+◌, Bool, true, false, List, [], ◌∷◌, ◌++◌, map, Option, Some, None, Ok, Err, refl, sym, ap, ◌∙◌, subst, append_assoc, append-nil}
+use Rattle.std.specs.Prelude.{if◌then◌else◌, option_map}
+use Rattle.std.specs.List.{All, fold}
+use Rattle.gq_number.specs.Number.{Number}
+use Rattle.gms_labels.specs.declared.place.Place.{Place}
+use Rattle.gms_ast.specs.declared.program.Show.{Show}
+use Rattle.gms_ast.specs.declared.program.Right.TheVariants.{Value}
+use Rattle.gms_ast.specs.declared.program.Stmt.{Stmt, roll-Stmt, map-Stmt}
+use Rattle.gms_ast.specs.declared.program.Act.{Act, roll-Act, map-Act}
+use Rattle.gms_ast.specs.declared.program.Target.{Target}
+use Rattle.gms_ast.specs.declared.expression.Expr.{Expr}
+use Rattle.gms_ast.specs.declared.program.Act.TheOpen.{Act-F, Stmt-F}
+use Rattle.gms_ast.specs.declared.program.Act.TheFolds.{fold-Act, fold-Stmt, fold-roll-Act, fold-roll-Stmt, ind-Stmt}
+use Rattle.gms_ast.specs.Trees as tree
+use Rattle.gms_ast.specs.TreeView.{tree_of, control_tree}
+use Rattle.gms_store.specs.State.{State}
+use Rattle.gms_eval.specs.Bindings.{Pairs, controlled}
+use Rattle.gms_eval.specs.Faults.{Answer as Evaluated, Fault, faulted, nothing}
+use Rattle.gms_eval.specs.declared.stop.StopKind.TheVariants.{Aborted}
+use Rattle.gms_eval.specs.Holds.{holds}
+use Rattle.gms_eval.specs.Value.{domain, sets_of}
+use Rattle.gms_event.specs.Events.{Event, displays, solves, aborts, stops}
+use Rattle.lp_core.specs.declared.program.Lp.{Lp}
+use Rattle.gms_rows.specs.ProgramLp.{program_lp}
+use Rattle.gms_rows.specs.Rows.{equations_of}
+use Rattle.gms_exec.specs.Assignment.{target_of, after_assignment}
+use Rattle.gms_exec.specs.Showing.{all_shown}
+use Rattle.gms_exec.specs.Solved.{after_end}
+use Rattle.lp_core.specs.declared.answer.Answer.{Answer}
+use Rattle.gms_exec.specs.Run.{Course, Halt, World, OfAct, OfStatement, in_state, with_event, stopped_by, while_it_runs, with_value, one_after_another, for_each, display, abort, abort_where, over_elements, answered, solve, act_step, statement_step, of_statement, labels_in}
+
+-- the run that showed these events before all others
+abbrev pub behind : List Event → Course → Course
+behind front c = record { state = c.state; events = front ++ c.events; left = c.left; taken = c.taken; halted = c.halted }
+
+-- a statement, and an act, do the same behind events that were shown before
+abbrev pub IsBehind : OfStatement → Type 0
+IsBehind s = (front : List Event) (binding : Pairs) (c : Course) → s binding (behind front c) ≡ behind front (s binding c)
+
+abbrev IsBehindAct : OfAct → Type 0
+IsBehindAct act = (front : List Event) (at : Place) (binding : Pairs) (c : Course) → act at binding (behind front c) ≡ behind front (act at binding c)
+
+-- one event is shown
+behind_event : (front : List Event) (c : Course) (e : Event) → with_event (behind front c) e ≡ behind front (with_event c e)
+behind_event front c e = ap (λ (es : List Event). record { state = c.state; events = es; left = c.left; taken = c.taken; halted = c.halted }) (append_assoc front c.events (e ∷ []))
+
+-- a value is taken, or a fault stops the run
+behind_value : {A : Type 0} (front : List Event) (r : Evaluated A) (next other : A → Course) (c : Course) → ((x : A) → other x ≡ behind front (next x)) → with_value r other (behind front c) ≡ behind front (with_value r next c)
+behind_value front (Ok x) next other c same = same x
+behind_value front (Err fault) next other c same = refl
+
+-- what goes on only where nothing halts the run
+behind_runs : (front : List Event) (next : Course → Course) (c : Course) → next (behind front c) ≡ behind front (next c) → while_it_runs next (behind front c) ≡ behind front (while_it_runs next c)
+behind_runs front next c same = by_halt c.halted
+  where
+    by_halt : (h : Option Halt) → elim h [ None ↦ next (behind front c) | Some halt ↦ behind front c ] ≡ behind front (elim h [ None ↦ next c | Some halt ↦ c ])
+    by_halt None = same
+    by_halt (Some halt) = refl
+
+-- each of some statements does so
+abbrev pub AreBehind : List OfStatement → Type 0
+AreBehind [] = Unit {0}
+AreBehind (s ∷ ss) = IsBehind s × AreBehind ss
+
+-- statements one after another
+pub behind_all : (ss : List OfStatement) → AreBehind ss → IsBehind (one_after_another ss)
+behind_all [] are front binding c = refl
+behind_all (s ∷ ss) are front binding c =
+    ap (one_after_another ss binding) (behind_runs front (s binding) c (are.0 front binding c)) ∙ behind_all ss are.1 front binding (while_it_runs (s binding) c)
+
+-- the body of a loop, for each element
+behind_each : (sets : List ℕ) (body : List OfStatement) (elements : List (List ℕ)) → AreBehind body → IsBehind (for_each sets body elements)
+behind_each sets body [] are front binding c = refl
+behind_each sets body (element ∷ elements) are front binding c =
+    ap (for_each sets body elements binding) (behind_all body are front (controlled binding sets element) c) ∙ behind_each sets body elements are front binding (one_after_another body (controlled binding sets element) c)
+
+module _ {F : Type 0} (number_of : F → Number) (limit : ℕ) (world : World F) where
+  behind_display : (labels : ℕ) (items : List Show) → IsBehindAct (display number_of limit labels items)
+  behind_display labels items front at binding c =
+      behind_value front (all_shown labels c.state binding items) (λ shown. with_event c (displays at.line shown)) (λ shown. with_event (behind front c) (displays at.line shown)) c (λ shown. behind_event front c (displays at.line shown))
+
+  behind_abort : (labels : ℕ) (items : List Show) → IsBehindAct (abort number_of limit labels items)
+  behind_abort labels items front at binding c =
+      behind_value front (all_shown labels c.state binding items) (λ shown. stopped_by (with_event c (aborts at.line shown)) (faulted Aborted at binding nothing nothing)) (λ shown. stopped_by (with_event (behind front c) (aborts at.line shown)) (faulted Aborted at binding nothing nothing)) c
+      (λ shown. ap (λ d. stopped_by d (faulted Aborted at binding nothing nothing)) (behind_event front c (aborts at.line shown)))
+
+  behind_abort_where : (labels : ℕ) (condition : Option (tree.Tree F)) (items : List Show) → IsBehindAct (abort_where number_of limit labels condition items)
+  behind_abort_where labels None items front at binding c = behind_abort labels items front at binding c
+  behind_abort_where labels (Some condition) items front at binding c =
+      behind_value front (holds number_of limit c.state binding condition) (λ so. if so then abort number_of limit labels items at binding c else c) (λ so. if so then abort number_of limit labels items at binding (behind front c) else behind front c) c by_truth
+    where
+      by_truth : (so : Bool) → (if so then abort number_of limit labels items at binding (behind front c) else behind front c) ≡ behind front (if so then abort number_of limit labels items at binding c else c)
+      by_truth true = behind_abort labels items front at binding c
+      by_truth false = refl
+
+  behind_answered : (front : List Event) (solvers : List (List ℕ)) (model : ℕ) (equations : List ℕ) (objective : ℕ) (at : Place) (c : Course) (lp : Lp Number) → answered number_of limit solvers model equations objective at (behind front c) lp ≡ behind front (answered number_of limit solvers model equations objective at c lp)
+  behind_answered front solvers model equations objective at c lp = by_left c.left refl
+    where
+      by_left : (left : List (Answer Number)) → c.left ≡ left → answered number_of limit solvers model equations objective at (behind front c) lp ≡ behind front (answered number_of limit solvers model equations objective at c lp)
+      by_left [] e = rw e refl
+      by_left (answer ∷ left) e = rw e (ap (λ (es : List Event). record { state = after_end c.state model lp answer.end; events = es; left = left; taken = c.taken + 1; halted = c.halted }) (append_assoc front c.events _))
+
+  behind_solve : (solvers : List (List ℕ)) (statements : List (Stmt F)) (model objective : ℕ) (maximize : Bool) → IsBehindAct (solve number_of limit solvers statements model objective maximize)
+  behind_solve [] statements model objective maximize front at binding c = refl
+  behind_solve (solver ∷ solvers) statements model objective maximize front at binding c =
+      behind_value front (program_lp number_of limit c.state statements model objective maximize at) (answered number_of limit (solver ∷ solvers) model (equations_of statements model) objective at c) (answered number_of limit (solver ∷ solvers) model (equations_of statements model) objective at (behind front c)) c
+      (λ lp. behind_answered front (solver ∷ solvers) model (equations_of statements model) objective at c lp)
+
+  behind_loop : (control : tree.Control F) (body : List OfStatement) → AreBehind body → IsBehindAct (over_elements number_of limit control body)
+  behind_loop control body are front at binding c =
+      behind_value front (domain number_of limit c.state binding at control) (λ elements. for_each (sets_of control) body elements binding c) (λ elements. for_each (sets_of control) body elements binding (behind front c)) c
+      (λ elements. behind_each (sets_of control) body elements are front binding c)
+
+  -- an act, and a statement, of the program
+  abbrev of_act : Act F → OfAct
+  of_act = fold-Act F OfAct OfStatement (act_step number_of limit world) (statement_step number_of limit)
+
+  abbrev Q : Stmt F → Type 0
+  Q s = IsBehind (of_statement number_of limit world s)
+
+  -- statements that do so, each with the proof of it
+  body_behind : (body : List ((s : Stmt F) × Q s)) → AreBehind (map (of_statement number_of limit world) (map (λ e. e.0) body))
+  body_behind [] = tt
+  body_behind (e ∷ body) = (e.1, body_behind body)
+
+  -- an act does so where what its layer comes to does
+  rolled : (x : Act-F F (Act F) (Stmt F)) (f : OfAct) → of_act (roll-Act F x) ≡ f → IsBehindAct f → IsBehindAct (of_act (roll-Act F x))
+  rolled x f e q = subst IsBehindAct (sym e) q
+
+  -- an act that does nothing
+  behind_nothing : IsBehindAct (λ at binding c. c)
+  behind_nothing front at binding c = refl
+
+  behind_assign : (target : Target F) (condition : Option (Expr F)) (right_at : Place) (right : Expr F) → IsBehindAct (λ at binding c. with_value (after_assignment number_of limit c.state at binding (target_of target) (option_map tree_of condition) right_at (tree_of right)) (in_state c) c)
+  behind_assign target condition right_at right front at binding c =
+      behind_value front (after_assignment number_of limit c.state at binding (target_of target) (option_map tree_of condition) right_at (tree_of right)) (in_state c) (in_state (behind front c)) c (λ state. refl)
+
+  -- an act whose loop's statements do so
+  by_layer : (y : Act-F F ((a : Act F) × IsBehindAct (of_act a)) ((s : Stmt F) × Q s)) → IsBehindAct (of_act (roll-Act F (map-Act F ((a : Act F) × IsBehindAct (of_act a)) ((s : Stmt F) × Q s) (Act F) (Stmt F) (λ e. e.0) (λ e. e.0) y)))
+  by_layer (Act-F.Declare kind items) = rolled (Act-F.Declare kind items) _ (fold-roll-Act F OfAct OfStatement (act_step number_of limit world) (statement_step number_of limit) (Act-F.Declare kind items)) behind_nothing
+  by_layer (Act-F.Alias first second) = rolled (Act-F.Alias first second) _ (fold-roll-Act F OfAct OfStatement (act_step number_of limit world) (statement_step number_of limit) (Act-F.Alias first second)) behind_nothing
+  by_layer (Act-F.Model models) = rolled (Act-F.Model models) _ (fold-roll-Act F OfAct OfStatement (act_step number_of limit world) (statement_step number_of limit) (Act-F.Model models)) behind_nothing
+  by_layer (Act-F.Define equation indices condition left_at left side right_at right) = rolled (Act-F.Define equation indices condition left_at left side right_at right) _ (fold-roll-Act F OfAct OfStatement (act_step number_of limit world) (statement_step number_of limit) (Act-F.Define equation indices condition left_at left side right_at right)) behind_nothing
+  by_layer (Act-F.Assign target condition right_at (Value right)) = rolled (Act-F.Assign target condition right_at (Value right)) _ (fold-roll-Act F OfAct OfStatement (act_step number_of limit world) (statement_step number_of limit) (Act-F.Assign target condition right_at (Value right))) (behind_assign target condition right_at right)
+  by_layer (Act-F.Display items) = rolled (Act-F.Display items) _ (fold-roll-Act F OfAct OfStatement (act_step number_of limit world) (statement_step number_of limit) (Act-F.Display items)) (behind_display (labels_in world) items)
+  by_layer (Act-F.Options settings) = rolled (Act-F.Options settings) _ (fold-roll-Act F OfAct OfStatement (act_step number_of limit world) (statement_step number_of limit) (Act-F.Options settings)) (λ front at binding c. refl)
+  by_layer (Act-F.Abort condition items) = rolled (Act-F.Abort condition items) _ (fold-roll-Act F OfAct OfStatement (act_step number_of limit world) (statement_step number_of limit) (Act-F.Abort condition items)) (behind_abort_where (labels_in world) (option_map tree_of condition) items)
+  by_layer (Act-F.Solve model word objective maximize) = rolled (Act-F.Solve model word objective maximize) _ (fold-roll-Act F OfAct OfStatement (act_step number_of limit world) (statement_step number_of limit) (Act-F.Solve model word objective maximize)) (behind_solve world.solvers world.program.statements.items model.name objective.name maximize)
+  by_layer (Act-F.Loop control body) = rolled (map-Act F ((a : Act F) × IsBehindAct (of_act a)) ((s : Stmt F) × Q s) (Act F) (Stmt F) (λ e. e.0) (λ e. e.0) (Act-F.Loop control body)) _ (fold-roll-Act F OfAct OfStatement (act_step number_of limit world) (statement_step number_of limit) (map-Act F ((a : Act F) × IsBehindAct (of_act a)) ((s : Stmt F) × Q s) (Act F) (Stmt F) (λ e. e.0) (λ e. e.0) (Act-F.Loop control body))) (behind_loop (control_tree control) _ (body_behind body.items))
+
+  -- a statement whose act does so
+  by_statement : (y : Stmt-F F ((a : Act F) × IsBehindAct (of_act a)) ((s : Stmt F) × Q s)) → Q (roll-Stmt F (map-Stmt F ((a : Act F) × IsBehindAct (of_act a)) ((s : Stmt F) × Q s) (Act F) (Stmt F) (λ e. e.0) (λ e. e.0) y))
+  by_statement y =
+      let z = map-Stmt F ((a : Act F) × IsBehindAct (of_act a)) ((s : Stmt F) × Q s) (Act F) (Stmt F) (λ e. e.0) (λ e. e.0) y in
+      subst IsBehind (sym (fold-roll-Stmt F OfAct OfStatement (act_step number_of limit world) (statement_step number_of limit) z)) (λ front binding c. y.act.1 front y.at binding c)
+
+  -- Each statement does the same behind what was shown before.
+  pub behind_statement : (s : Stmt F) → Q s
+  behind_statement =
+      ind-Stmt F (λ act. IsBehindAct (of_act act)) Q
+      (λ x y is. subst (λ z. IsBehindAct (of_act (roll-Act F z))) is (by_layer y))
+      (λ x y is. subst (λ z. Q (roll-Stmt F z)) is (by_statement y))

@@ -1,0 +1,106 @@
+-- The state after an assignment: a new state made of the old one, in which all values are taken (GAMS User's Guide, "Data Manipulations
+-- with Parameters", indexed assignments; "Conditional Expressions, Assignments and Equations", dollar on the left; "Sets as Sequences:
+-- Ordered Sets", lags and leads in assignments; "Dynamic Sets"). In which order faults come is this project's own rule.
+use Rattle.std.specs.Prelude.{ℕ, Bool, true, false, not, List, [], ◌∷◌, map, Option, Some, None, option_map, is_none, Ok, Err, if◌then◌else◌, filter, ◌==◌}
+use Rattle.gms_labels.specs.declared.place.Place.{Place}
+use Rattle.gq_number.specs.Number.{Number}
+use Rattle.gq_extended.specs.Extended.{Extended, number, plus_infinity, minus_infinity, na}
+use Rattle.gms_ast.specs.declared.expression.Suffix.{Suffix}
+use Rattle.gms_ast.specs.declared.expression.Suffix.TheVariants as suffix
+use Rattle.gms_ast.specs.declared.program.Target.{Target as TargetNode}
+use Rattle.gms_ast.specs.StatementTrees.{Target}
+use Rattle.gms_ast.specs.TreeView.{index_tree, indices_of}
+use Rattle.gms_ast.specs.Trees as tree
+use Rattle.gms_store.specs.State.{State, Content, alias_of, set_of, symbol_of}
+use Rattle.gms_eval.specs.Answers.{in_order}
+use Rattle.gms_eval.specs.Bindings.{Pairs, label_of, controlled}
+use Rattle.gms_eval.specs.Faults.{Answer, nothing, faulted, ◌and_then◌}
+use Rattle.gms_eval.specs.References.{tuple_of}
+use Rattle.gms_eval.specs.Value.{value, labels, domain, control_over}
+use Rattle.gms_eval.specs.declared.stop.StopKind.TheVariants.{Undefined}
+use Rattle.gms_exec.specs.Given.{Given, member, value_is, AllGiven, after_given}
+use Rattle.gms_exec.specs.Membership.{membership}
+
+-- ---- what the left side controls
+
+-- the sets among indices, in order
+abbrev pub sets_among : {N : Type 0} → tree.Indices N → List ℕ
+sets_among tree.no_index = []
+sets_among (tree.label label rest) = sets_among rest
+sets_among (tree.set set rest) = set ∷ sets_among rest
+sets_among (tree.lagged set op at amount rest) = set ∷ sets_among rest
+
+-- numbers, each where it stands first
+abbrev pub each_once : List ℕ → List ℕ
+each_once [] = []
+each_once (n ∷ ns) = n ∷ filter (λ m. not (m == n)) (each_once ns)
+
+-- the sets of a left side that no loop controls
+abbrev pub newly_controlled : {N : Type 0} → Pairs → tree.Indices N → List ℕ
+newly_controlled binding indices = filter (λ set. is_none (label_of binding set)) (each_once (sets_among indices))
+
+-- ---- what an element is given
+
+-- whether a name takes a value with a suffix: a lower bound is a number or minus infinity, an upper bound a number or infinity, a level,
+-- a marginal and what fixes a variable are numbers; a parameter takes each
+abbrev pub takes : Suffix → Extended → Bool
+takes suffix.Lo plus_infinity = false
+takes suffix.Lo na = false
+takes suffix.Up minus_infinity = false
+takes suffix.Up na = false
+takes suffix.L (number x) = true
+takes suffix.L x = false
+takes suffix.M (number x) = true
+takes suffix.M x = false
+takes suffix.Fx (number x) = true
+takes suffix.Fx x = false
+takes other x = true
+
+-- the value, where the name takes it; Undefined at the right side where it does not
+abbrev pub where_taken : Suffix → Place → Pairs → Extended → Answer Given
+where_taken suffix right_at binding x =
+    if takes suffix x then Ok (value_is x) else Err (faulted Undefined right_at binding x nothing)
+
+-- whether a content is that of a set, or of another name of one
+abbrev pub is_set : Content → Bool
+is_set (set_of members) = true
+is_set (alias_of base) = true
+is_set content = false
+
+-- what is assigned, as a tree
+abbrev pub target_of : {F : Type 0} → TargetNode F → Target F
+target_of target =
+    record { at = target.at; name = target.name; suffix = target.suffix; indices = indices_of (map index_tree target.indices) }
+
+module _ {F : Type 0} (number_of : F → Number) (limit : ℕ) (state : State) where
+  -- what the right side gives under a binding
+  abbrev pub given_under : Target F → Place → tree.Tree F → Pairs → Answer Given
+  given_under target right_at right binding =
+      if is_set (symbol_of state target.name).content then
+      membership number_of limit state binding right and_then (λ x. Ok (member x)) else
+      value number_of limit state binding right and_then where_taken target.suffix right_at binding
+
+  -- the element of the left side under a binding with what it is given; where a lag goes past the ends of its set there is none
+  abbrev pub element_under : Target F → Place → tree.Tree F → Pairs → Answer (Option (List ℕ × Given))
+  element_under target right_at right binding =
+      in_order (labels number_of limit state binding target.indices) and_then λ those.
+      elim (tuple_of those) [ None ↦ Ok None | Some t ↦ given_under target right_at right binding and_then λ given. Ok (Some (t, given)) ]
+
+  -- the elements that are there
+  abbrev pub those_there : List (Option (List ℕ × Given)) → AllGiven
+  those_there [] = []
+  those_there (None ∷ rest) = those_there rest
+  those_there (Some given ∷ rest) = given ∷ those_there rest
+
+  -- the elements that an assignment gives something, in the order of the left side's sets, all in the old state; or the first fault:
+  -- of the left side's domain, and then element by element of a lag, of the right side, and of what it gives
+  abbrev pub given_by : Place → Pairs → Target F → Option (tree.Tree F) → Place → tree.Tree F → Answer AllGiven
+  given_by at binding target condition right_at right =
+      let sets = newly_controlled binding target.indices in
+      domain number_of limit state binding at (control_over sets condition) and_then λ elements.
+      in_order (map (λ element. element_under target right_at right (controlled binding sets element)) elements) and_then λ given. Ok (those_there given)
+
+  -- the state after an assignment, or its fault
+  abbrev pub after_assignment : Place → Pairs → Target F → Option (tree.Tree F) → Place → tree.Tree F → Answer State
+  after_assignment at binding target condition right_at right =
+      given_by at binding target condition right_at right and_then λ given. Ok (after_given target.suffix target.name given state)

@@ -1,0 +1,123 @@
+-- What an assignment gives elements, and the state that has it (GAMS User's Guide, "Data Manipulations with Parameters", "Variables",
+-- "Dynamic Sets"). Each element that is given something has it in place of what it had, and all else stays.
+use Rattle.std.specs.Prelude.{ℕ, pos, Bool, true, false, not, ◌==◌, List, [], ◌∷◌, ◌++◌, length, map, filter, flat_map, reverse, Option, Some, None, unwrap_or, option_map}
+use Rattle.std.specs.List.{list_any}
+use Rattle.std.specs.FinMap as finite
+use Rattle.gq_number.specs.Number.{Number, whole}
+use Rattle.gq_extended.specs.Extended.{Extended, number, plus_infinity, minus_infinity, na}
+use Rattle.gms_ast.specs.declared.expression.Suffix.{Suffix}
+use Rattle.gms_ast.specs.declared.expression.Suffix.TheVariants as suffix
+use Rattle.gms_tuple.specs.TupleOrder.{tuple_cmp, same_tuple}
+use Rattle.gms_store.specs.State.{State, Entries, Attributes, Content, set_of, parameter_of, variable_of, equation_of, Symbol, symbol_of, with_symbol, with_content, is_given, attributes_in, absent_variable, same_attributes, unbounded, with_lower, with_upper, with_level, with_marginal}
+
+-- What an element is given.
+pub data Given : Type 0 where
+  -- whether it is a member of the set
+  member : Bool → Given
+  -- a value
+  value_is : Extended → Given
+
+-- elements, each with what it is given
+abbrev pub AllGiven : Type 0
+AllGiven = List (List ℕ × Given)
+
+-- ---- sets
+
+-- an element that is given to be a member or not, where one is
+abbrev pub member_given : List ℕ × Given → List (List ℕ × Bool)
+member_given (t, member on) = (t, on) ∷ []
+member_given (t, value_is x) = []
+
+-- the elements that are given to be members or not
+abbrev pub members_given : AllGiven → List (List ℕ × Bool)
+members_given all = flat_map member_given all
+
+-- whether an element is one of those that are given to be a member or not
+abbrev pub is_among : List (List ℕ × Bool) → List ℕ → Bool
+is_among given t = list_any (λ one. same_tuple one.0 t) given
+
+-- tuples in their order, each once
+abbrev pub ordered : List (List ℕ) → List (List ℕ)
+ordered tuples = finite.keys (finite.from_entries {R = tuple_cmp} (map (λ t. (t, true)) tuples))
+
+-- The members of a set of which some elements are given to be members or not; the others stay as they were. Of an element that is given
+-- twice, as no accepted program gives one, the later counts.
+abbrev pub with_members : List (List ℕ × Bool) → List (List ℕ) → List (List ℕ)
+with_members given members =
+    let last = finite.from_entries {R = tuple_cmp} (reverse given) in
+    ordered (finite.keys (finite.retain_keys last (λ t. unwrap_or (finite.get last t) false)) ++ filter (λ t. not (is_among given t)) members)
+
+-- ---- values
+
+-- an element that is given a value, where one is
+abbrev pub value_given : List ℕ × Given → List (List ℕ × Extended)
+value_given (t, member on) = []
+value_given (t, value_is x) = (t, x) ∷ []
+
+-- the values that elements are given
+abbrev pub values_given : AllGiven → List (List ℕ × Extended)
+values_given all = flat_map value_given all
+
+-- A map in which some entries are new: at each of their tuples the new entry stands, and at every other tuple what stood there. Only
+-- entries that differ from an absent one are kept. Of two new entries at one tuple, which no accepted program has, the later counts.
+abbrev pub overlaid : {X : Type 0} → (X → Bool) → List (List ℕ × X) → Entries X → Entries X
+overlaid differs new entries =
+    let all = finite.from_entries {R = tuple_cmp} (reverse new ++ finite.entries entries) in
+    finite.retain_keys all (λ t. unwrap_or (option_map differs (finite.get all t)) false)
+
+-- ---- variables and equations
+
+-- the number that a value is; 0 for another, which no bound, level or marginal is given
+abbrev pub number_of_value : Extended → Number
+number_of_value (number x) = x
+number_of_value value = whole (pos 0)
+
+-- the bound that a value is: an infinite one is none
+abbrev pub bound_of_value : Extended → Option Number
+bound_of_value (number x) = Some x
+bound_of_value value = None
+
+-- both bounds and the level at a number
+abbrev pub fixed : Number → Attributes → Attributes
+fixed x a = record { lower = Some x; upper = Some x; level = x; marginal = a.marginal }
+
+-- what an element has after one of its values was given
+abbrev pub with_attribute : Suffix → Attributes → Extended → Attributes
+with_attribute suffix.Lo a value = with_lower a (bound_of_value value)
+with_attribute suffix.Up a value = with_upper a (bound_of_value value)
+with_attribute suffix.L a value = with_level a (number_of_value value)
+with_attribute suffix.M a value = with_marginal a (number_of_value value)
+with_attribute suffix.Fx a value = fixed (number_of_value value) a
+with_attribute other a value = a
+
+-- what the elements have that are given values, by what each had
+abbrev pub attributes_given : Suffix → Content → AllGiven → List (List ℕ × Attributes)
+attributes_given suffix content all =
+    map (λ given. (given.0, with_attribute suffix (attributes_in content given.0) given.1)) (values_given all)
+
+-- ---- the state
+
+-- the values that a parameter is given, which is assigned without a suffix
+abbrev pub plain_values : Suffix → AllGiven → List (List ℕ × Extended)
+plain_values suffix.None all = values_given all
+plain_values other all = []
+
+-- what a name stands for where its elements are given something
+abbrev pub with_given : Suffix → AllGiven → Content → Content
+with_given suffix all (set_of members) = set_of (with_members (members_given all) members)
+with_given suffix all (parameter_of entries) = parameter_of (overlaid is_given (plain_values suffix all) entries)
+with_given suffix all (variable_of type entries) =
+    variable_of type (overlaid (λ a. not (same_attributes a (absent_variable type))) (attributes_given suffix (variable_of type entries) all) entries)
+with_given suffix all (equation_of entries) =
+    equation_of (overlaid (λ a. not (same_attributes a unbounded)) (attributes_given suffix (equation_of entries) all) entries)
+with_given suffix all content = content
+
+-- those elements that have as many labels as a name has positions, which in an accepted program is each
+abbrev pub fitting : Symbol → AllGiven → AllGiven
+fitting symbol all = filter (λ given. length given.0 == length symbol.domain) all
+
+-- the state in which elements of a name have what they are given: one entry of one name is new for each of them, and all else stays
+abbrev pub after_given : Suffix → ℕ → AllGiven → State → State
+after_given suffix name all state =
+    let symbol = symbol_of state name in
+    with_symbol state name (with_content symbol (with_given suffix (fitting symbol all) symbol.content))

@@ -1,0 +1,13 @@
+pub mod Answering
+pub mod Assignment
+pub mod Dimensions
+pub mod Given
+pub mod Membership
+pub mod Options
+pub mod Reads
+pub mod Run
+pub mod Showing
+pub mod Solved
+pub mod Walks
+pub mod Solving
+pub mod Standing

@@ -1,0 +1,50 @@
+-- Which elements the right side of an assignment to a set makes members (GAMS User's Guide, "Dynamic Sets").
+use Rattle.std.specs.Prelude.{ℕ, Bool, true, false, not, ◌&&◌, ◌||◌, List, [], ◌∷◌, Ok, if◌then◌else◌}
+use Rattle.gms_labels.specs.declared.place.Place.{Place}
+use Rattle.gq_number.specs.Number.{Number}
+use Rattle.gms_ast.specs.Trees.{Mark, signed}
+use Rattle.gms_ast.specs.Trees as tree
+use Rattle.gms_store.specs.State.{State}
+use Rattle.gms_eval.specs.Answers.{unmarked, each_holds}
+use Rattle.gms_eval.specs.Bindings.{Pairs}
+use Rattle.gms_eval.specs.Faults.{Answer, ◌and_then◌}
+use Rattle.gms_eval.specs.Holds.{holds}
+use Rattle.gms_eval.specs.Value.{values}
+
+-- how the next part of a chain joins what stands before it
+abbrev pub Join : Type 0
+Join = Mark → Bool → Bool → Bool
+
+-- `+` is in either, `-` in the left and not in the right; before the first part nothing is
+abbrev pub in_sum : Join
+in_sum (signed at true) x y = x && not y
+in_sum mark x y = x || y
+
+-- `*` is in both; before the first part all is
+abbrev pub in_product : Join
+in_product mark x y = x && y
+
+-- parts joined to what stands before them, from the left; each is taken
+abbrev pub joined : Join → Bool → List (Mark × Answer Bool) → Answer Bool
+joined join so_far [] = Ok so_far
+joined join so_far (part ∷ parts) = part.1 and_then λ x. joined join (join part.0 so_far x) parts
+
+module _ {F : Type 0} (number_of : F → Number) (limit : ℕ) (state : State) (binding : Pairs) where
+  abbrev mutual
+    -- Whether the right side is in the set under a binding: `not` is not in it, a false guard is not in it, and a sign that does not
+    -- stand between two parts changes nothing. What else stands there is a reference to a set, or an error of the program.
+    pub membership : tree.Tree F → Answer Bool
+    membership tree.yes = Ok true
+    membership tree.no = Ok false
+    membership (tree.negated operand) = membership operand
+    membership (tree.not_so operand) = membership operand and_then λ x. Ok (not x)
+    membership (tree.sum parts) = joined in_sum false (memberships parts)
+    membership (tree.product parts) = joined in_product true (memberships parts)
+    membership (tree.guarded operand guards) =
+        each_holds (unmarked (values number_of limit state binding guards)) and_then λ hold. if hold then membership operand else Ok false
+    membership other = holds number_of limit state binding other
+
+    -- the same of parts, each with its mark
+    pub memberships : tree.Parts F → List (Mark × Answer Bool)
+    memberships tree.no_part = []
+    memberships (tree.part mark part rest) = (mark, membership part) ∷ memberships rest

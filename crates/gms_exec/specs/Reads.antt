@@ -1,0 +1,24 @@
+-- What an assignment leaves to be read: at each element what it is given there, or else what was there.
+use Rattle.std.specs.Prelude.{ℕ, Bool, List, [], ◌∷◌, map, reverse, find, Option, Some, None, option_map}
+use Rattle.gq_extended.specs.Extended.{Extended}
+use Rattle.gms_tuple.specs.TupleOrder.{same_tuple}
+use Rattle.gms_ast.specs.declared.expression.Suffix.{Suffix}
+use Rattle.gms_store.specs.State.{Attributes}
+use Rattle.gms_exec.specs.Given.{AllGiven, values_given, members_given, with_attribute}
+
+-- the last of some pairs at an element
+abbrev pub last_at : {A : Type 0} → List (List ℕ × A) → List ℕ → Option A
+last_at {A} pairs t = option_map (λ (p : List ℕ × A). p.1) (find (λ (p : List ℕ × A). same_tuple p.0 t) (reverse pairs))
+
+-- the value that an element is given
+abbrev pub value_at : AllGiven → List ℕ → Option Extended
+value_at all t = last_at (values_given all) t
+
+-- whether an element is given to be a member
+abbrev pub membership_at : AllGiven → List ℕ → Option Bool
+membership_at all t = last_at (members_given all) t
+
+-- what an element has that had these attributes, and is given a value or nothing
+abbrev pub attributes_with : Suffix → Attributes → Option Extended → Attributes
+attributes_with suffix a None = a
+attributes_with suffix a (Some x) = with_attribute suffix a x

@@ -1,0 +1,87 @@
+-- What a `display` or an `abort` shows of its items (GAMS User's Guide, "The Display Statement"). That the bounds of a variable are shown
+-- over all elements of its domain, and how many these may be, is this project's own rule.
+use Rattle.std.specs.Prelude.{ℕ, pos, min, nat_le, length, Bool, true, not, List, [], ◌∷◌, map, filter, Option, Some, None, Ok, if◌then◌else◌, ◌==◌}
+use Rattle.std.specs.List.{range_with_len}
+use Rattle.gms_labels.specs.declared.place.Place.{Place}
+use Rattle.gq_number.specs.Number.{whole}
+use Rattle.gq_extended.specs.Extended.{Extended, number}
+use Rattle.gms_ast.specs.declared.word.Named.{Named}
+use Rattle.gms_ast.specs.declared.program.Show.{Show}
+use Rattle.gms_ast.specs.declared.program.Show.TheVariants as show
+use Rattle.gms_ast.specs.declared.expression.Suffix.{Suffix}
+use Rattle.gms_ast.specs.declared.expression.Suffix.TheVariants as suffix
+use Rattle.gms_tuple.specs.Products.{product}
+use Rattle.gms_store.specs.declared.kind.SymbolKind.TheVariants.{Undeclared}
+use Rattle.gms_store.specs.State.{State, symbol_at, symbol_of, attributes_of, given_of, statuses_in}
+use Rattle.gms_store.specs.Declarations.{kind_in}
+use Rattle.gms_eval.specs.Answers.{is_so, in_order}
+use Rattle.gms_eval.specs.Bindings.{Pairs}
+use Rattle.gms_eval.specs.Domain.{labels_of, sized}
+use Rattle.gms_eval.specs.Faults.{Answer, nothing, ◌and_then◌}
+use Rattle.gms_eval.specs.References.{plain_value, lower_value, upper_value}
+use Rattle.gms_event.specs.Events.{Shown}
+
+-- a status as a value; none is above 127, up to which each field has all whole numbers
+abbrev pub status_shown : ℕ → Extended
+status_shown status = number (whole (pos (min status 127)))
+
+-- the value of a name at a tuple, by the suffix
+abbrev pub value_shown : State → ℕ → Suffix → List ℕ → Extended
+value_shown state name suffix.None t = plain_value state name (symbol_of state name).content t
+value_shown state name suffix.Lo t = lower_value (attributes_of state name t).lower
+value_shown state name suffix.Up t = upper_value (attributes_of state name t).upper
+value_shown state name suffix.L t = number (attributes_of state name t).level
+value_shown state name suffix.M t = number (attributes_of state name t).marginal
+value_shown state name suffix.Fx t = nothing
+value_shown state name suffix.ModelStat t = status_shown (statuses_in (symbol_of state name).content).0
+value_shown state name suffix.SolveStat t = status_shown (statuses_in (symbol_of state name).content).1
+
+-- whether a suffix is that of a bound
+abbrev pub is_bound : Suffix → Bool
+is_bound suffix.Lo = true
+is_bound suffix.Up = true
+is_bound other = not true
+
+-- the labels that may stand at a position: those of its set, and without a set all of the program, of which there are so many
+abbrev pub labels_at : ℕ → State → Option ℕ → List ℕ
+labels_at labels state None = range_with_len 0 labels
+labels_at labels state (Some set) = labels_of state set
+
+-- the elements of a domain; an element has at most 10 labels, so a domain of more positions, which no accepted program has, has none
+abbrev pub elements_at : ℕ → State → List (Option ℕ) → List (List ℕ)
+elements_at labels state positions = if nat_le (length positions) 10 then product (map (labels_at labels state) positions) else []
+
+-- whether a name has indices
+abbrev pub is_indexed : State → ℕ → Bool
+is_indexed state name = not (length (symbol_of state name).domain == 0)
+
+-- The tuples at which a name is looked at: for a bound all elements of its domain, of which there may be 16,777,216; for a name without
+-- indices the empty tuple; else those at which something is given.
+abbrev pub tuples_looked_at : ℕ → State → Pairs → Named → Suffix → Answer (List (List ℕ))
+tuples_looked_at labels state binding named suffix =
+    if is_bound suffix then sized named.at binding (elements_at labels state (symbol_of state named.name).domain) else
+    Ok (if is_indexed state named.name then given_of state named.name else [] ∷ [])
+
+-- the entries of a name at tuples; those that are 0 are left out where the name has indices
+abbrev pub entries_shown : State → ℕ → Suffix → List (List ℕ) → List (List ℕ × Extended)
+entries_shown state name suffix tuples =
+    filter (λ entry. if is_indexed state name then is_so entry.1 else true) (map (λ t. (t, value_shown state name suffix t)) tuples)
+
+-- what is shown for an item, or the fault of a domain that is too large
+abbrev pub shown_of : ℕ → State → Pairs → Show → Answer Shown
+shown_of labels state binding (show.Text word) =
+    Ok (record { text = word.text; name = None; kind = Undeclared; suffix = suffix.None; indexed = not true; entries = []; decimals = state.settings.decimals })
+shown_of labels state binding (show.Symbol named suffix) =
+    tuples_looked_at labels state binding named suffix and_then λ tuples. Ok (record {
+      text = [];
+      name = Some named.name;
+      kind = kind_in (symbol_at state named.name).content;
+      suffix = suffix;
+      indexed = is_indexed state named.name;
+      entries = entries_shown state named.name suffix tuples;
+      decimals = state.settings.decimals;
+    })
+
+-- what is shown for items, in order, or the first fault
+abbrev pub all_shown : ℕ → State → Pairs → List Show → Answer (List Shown)
+all_shown labels state binding items = in_order (map (shown_of labels state binding) items)

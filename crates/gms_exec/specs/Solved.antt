@@ -1,0 +1,73 @@
+-- The state after a solve was answered (GAMS User's Guide, "Model and Solve Statements", model and solver status, levels and marginals).
+-- Which answers leave levels and marginals as they were is this project's own rule.
+use Rattle.std.specs.Prelude.{ℕ, pos, ◌==◌, if◌then◌else◌, List, [], ◌∷◌, ◌++◌, map, Option, Some, None}
+use Rattle.std.specs.List.{fold}
+use Rattle.gq_number.specs.Number.{Number, whole}
+use Rattle.gms_store.specs.State.{State, Attributes, attributes_of, after_attributes, after_statuses, with_level, with_marginal}
+use Rattle.lp_core.specs.declared.program.Column.{Column}
+use Rattle.lp_core.specs.declared.program.Row.{Row}
+use Rattle.lp_core.specs.declared.program.Lp.{Lp}
+use Rattle.lp_core.specs.declared.answer.End.{End}
+use Rattle.lp_core.specs.declared.answer.End.TheVariants.{Optimal, Infeasible, Unbounded, Interrupted, Refused}
+use Rattle.lp_form.specs.declared.key.Key.{Key}
+
+-- the status of a model that was interrupted in a phase
+abbrev pub interrupted_status : ℕ → ℕ
+interrupted_status phase = if phase == 1 then 6 else 7
+
+-- the status of the model, and that of its solver, after an end
+abbrev pub statuses_of : {F : Type 0} → End F → ℕ × ℕ
+statuses_of (Optimal levels row_levels duals reduced) = (1, 1)
+statuses_of (Unbounded levels row_levels ray) = (3, 1)
+statuses_of (Infeasible duals crossed) = (4, 1)
+statuses_of (Interrupted phase levels row_levels) = (interrupted_status phase, 2)
+statuses_of (Refused name) = (13, 4)
+
+-- the first of some numbers, 0 where there is none
+abbrev pub first_or_zero : List Number → Number
+first_or_zero [] = whole (pos 0)
+first_or_zero (x ∷ xs) = x
+
+-- the numbers behind the first
+abbrev pub behind_first : List Number → List Number
+behind_first [] = []
+behind_first (x ∷ xs) = xs
+
+-- An element with its level and its marginal.
+pub record Point : Type 0 where
+  pub key : Key
+  pub level : Number
+  pub marginal : Number
+
+-- elements with their levels and marginals, in order; a marginal that is not there is 0
+abbrev pub points : List Key → List Number → List Number → List Point
+points [] levels marginals = []
+points (key ∷ keys) levels marginals =
+    record { key = key; level = first_or_zero levels; marginal = first_or_zero marginals } ∷ points keys (behind_first levels) (behind_first marginals)
+
+-- the elements of the columns
+abbrev pub column_keys : Lp Number → List Key
+column_keys lp = map (λ (column : Column Number). column.key) lp.columns
+
+-- the elements of the rows
+abbrev pub row_keys : Lp Number → List Key
+row_keys lp = map (λ (row : Row Number). row.key) lp.rows
+
+-- what an answer puts: levels and marginals of all columns and rows where it is optimal, their levels with marginals 0 where there is a
+-- feasible point that is not optimal, and else nothing
+abbrev pub points_of : Lp Number → End Number → List Point
+points_of lp (Optimal levels row_levels duals reduced) = points (column_keys lp) levels reduced ++ points (row_keys lp) row_levels duals
+points_of lp (Unbounded levels row_levels ray) = points (column_keys lp) levels [] ++ points (row_keys lp) row_levels []
+points_of lp (Interrupted phase levels row_levels) =
+    if phase == 2 then points (column_keys lp) levels [] ++ points (row_keys lp) row_levels [] else []
+points_of lp end = []
+
+-- the state in which an element has a level and a marginal
+abbrev pub with_point : State → Point → State
+with_point state point =
+    after_attributes state point.key.symbol point.key.tuple (with_marginal (with_level (attributes_of state point.key.symbol point.key.tuple) point.level) point.marginal)
+
+-- the state after an end of a model's linear program: the two statuses, and the points that it puts; all else stays
+abbrev pub after_end : State → ℕ → Lp Number → End Number → State
+after_end state model lp end =
+    fold with_point (after_statuses state model (statuses_of end).0 (statuses_of end).1) (points_of lp end)

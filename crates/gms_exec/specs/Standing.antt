@@ -1,0 +1,35 @@
+-- What the events that a call showed are, so that they can be listed: displays of at most 8 decimals, and solves that are answered.
+use Rattle.std.specs.Prelude.{◌≡◌, ◌≤◌, ℕ, List, ◌++◌, slice_get, Some, All}
+use Rattle.gq_number.specs.Number.{Number}
+use Rattle.gms_store.specs.declared.settings.Settings.{Settings}
+use Rattle.gms_event.specs.declared.event.Event.{Event}
+use Rattle.gms_event.specs.declared.event.Event.TheVariants as event
+use Rattle.gms_event.specs.declared.event.Shown.{Shown}
+use Rattle.lp_core.specs.declared.answer.Answer.{Answer}
+use Rattle.lp_core.specs.declared.answer.Rule.{Rule}
+use Rattle.lp_core.specs.declared.program.Lp.{Lp}
+use Rattle.lp_core.specs.Answers.{IsAnswer}
+use Rattle.lp_core.specs.WellFormed.{IsWellFormed}
+
+module _ {F : Type 0} (value : F → Number) (limit : ℕ) (rules : List Rule) (answers : List (Answer F)) where
+  -- A solve that was shown has a well-formed program, and the answer at its place is one of it, by the rule of the solver that its settings choose.
+  pub record IsStandingSolve (lp : Lp F) (place : ℕ) (settings : Settings) : Type 0 where
+    pub formed : IsWellFormed value lp
+    pub given : Answer F
+    pub stands : slice_get answers place ≡ Some given
+    pub rule : Rule
+    pub chosen : slice_get rules settings.solver ≡ Some rule
+    pub is_answer : IsAnswer value limit lp settings.iterlim rule given
+
+  -- An item that was shown has at most 8 decimals, and a solve that was shown is answered.
+  abbrev pub IsStanding : Event F → Type 0
+  IsStanding (event.Display line items) = All (λ (item : Shown F). item.decimals ≤ 8) items
+  IsStanding (event.Abort line items) = All (λ (item : Shown F). item.decimals ≤ 8) items
+  IsStanding (event.Fault stop) = Unit {0}
+  IsStanding (event.Solve line model equations lp answer solver settings level) = IsStandingSolve lp answer settings
+
+  -- What was shown behind other events stands.
+  pub record ShowsStanding (old new : List (Event F)) : Type 0 where
+    pub shown : List (Event F)
+    pub events : new ≡ old ++ shown
+    pub standing : All IsStanding shown

@@ -1,0 +1,15 @@
+//! The execution of statements: what each shows, and the state after it.
+#![tactic(auto)]
+
+mod assignment;
+mod given;
+mod laws;
+mod membership;
+mod options;
+mod showing;
+mod solving;
+mod statement;
+mod walk;
+
+pub use laws::assignment_laws;
+pub use statement::step;

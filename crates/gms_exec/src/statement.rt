@@ -1,0 +1,292 @@
+//! One statement of a run.
+ghost use Rattle.std.specs.Prelude.{◌≡◌, ◌<◌, ◌≤◌, ◌^◌, ◌-◌, List, length, map, option_map, option_copied};
+ghost use Rattle.gq_frac.specs.Frac.{frac_value};
+ghost use Rattle.gms_ast.specs.TreeView.{tree_of};
+ghost use Rattle.gms_ast.specs.declared.expression.Expr.{Expr};
+ghost use Rattle.gms_ast.specs.declared.program.Right.TheVariants.{Value};
+ghost use Rattle.gms_store.specs.State.{with_settings};
+ghost use Rattle.gms_eval.specs.Faults.{faulted, nothing};
+ghost use Rattle.gms_eval.specs.Gives.{Shows};
+ghost use Rattle.gms_exec.specs.Assignment.{target_of, after_assignment};
+ghost use Rattle.gms_exec.specs.Dimensions.{AreOneDimensional};
+ghost use Rattle.gms_exec.specs.Options.{after_options};
+ghost use Rattle.lp_core.specs.declared.answer.Answer.{Answer};
+ghost use Rattle.gms_exec.specs.Run.{of_statement, display, abort, abort_where};
+ghost use Rattle.lp_core.specs.declared.answer.Rule.{Rule};
+ghost use Rattle.gms_exec.specs.Standing.{ShowsStanding};
+ghost use Rattle.gms_exec.specs.Walks.{Runs, Answered, Assigns, AreKept, IsOnce, AsksNoSolver, UnlessMemory, ShowsNoSolve};
+
+use crate::assignment::Assignment;
+use crate::options::after_options;
+use crate::showing::all_shown;
+use crate::solving::{Solve, solve_model};
+use gms_ast::{Act, Expr, Program, Right, Setting, Show, Stmt, Target, Word};
+use gms_eval::{Binding, StopKind, StopOrMemory, domain, holds};
+use gms_event::Event;
+use gms_labels::Place;
+use gms_store::Store;
+use gq_extended::Ext;
+use gq_field::ExactField;
+use gq_frac::Frac;
+use lp_core::Answer;
+use lp_slot::LpSolver;
+use std::alloc::Global;
+
+/// Executes a statement of a checked program: what it shows goes to the end of the events, the answers that it takes to the end of the
+/// answers, and the state is the one after it. A loop goes over the elements that its domain has where it begins.
+///
+/// A stop is the first fault of the statement; what it showed and took before stays, and the state is the one that it had come to. The kinds
+/// are those of its expressions, domains and rows, `DomainSize` also of a display of bounds, `NoSolver` exactly where a solve is met and there
+/// is no solver, and `Aborted` exactly where an `abort` is met that has no condition or whose condition holds. After want of memory the store
+/// is not to be used again. GAMS User's Guide, "GAMS Programs", "Programming Flow Control Features".
+pub fn step(
+    alloc: Global,
+    store: &mut Store<Frac>,
+    program: &Program<Frac>,
+    s: &Stmt<Frac>,
+    b: &Binding,
+    solvers: &mut Vec<Box<dyn LpSolver>>,
+    answers: &mut Vec<Answer<Frac>>,
+    events: &mut Vec<Event<Frac>>,
+) -> Result<(), StopOrMemory<Frac>>
+    requires few { length solvers.old.items < 2 ^ 32 }
+    requires decimals { store.old.settings.decimals ≤ 8 }
+    requires chosen { 0 < length solvers.old.items → store.old.settings.solver < length solvers.old.items }
+    requires plain { AreOneDimensional store.old program.now.statements.items }
+    ensures runs { Runs frac_value result (of_statement frac_value (2 ^ 127 - 1) (record { program = program.now; solvers = map name solvers.old.items }) s.now b.now)
+        (record { state = store.old; events = events.old.items; answers = answers.old.items })
+        (record { state = store.new; events = events.new.items; answers = answers.new.items }) }
+    ensures solvers { UnlessMemory result (Answered frac_value (2 ^ 127 - 1) name rule paths solvers.old.items solvers.new.items answers.new.items events.old.items events.new.items) }
+    ensures standing { UnlessMemory result (ShowsStanding frac_value (2 ^ 127 - 1) (map rule solvers.old.items) answers.new.items events.old.items events.new.items) }
+    ensures settings { UnlessMemory result (AreKept (length solvers.old.items) store.new.settings) }
+    ensures plain { UnlessMemory result (AreOneDimensional store.new program.now.statements.items) }
+{
+    let Act::Loop { control, body } = &s.act else {
+        return once(alloc, store, program, s, b, solvers, answers, events);
+    };
+    let elements = domain(alloc, store, control, s.at, b)?;
+    let mut inner = b.copy(alloc)?;
+    for element in &elements {
+        inner.control(b.len(), control.sets.as_slice(), element.as_slice())?;
+        for statement in body {
+            step(
+                alloc, store, program, statement, &inner, solvers, answers, events,
+            )?;
+        }
+    }
+    Ok(())
+}
+
+/// Executes a statement that is no loop.
+fn once(
+    alloc: Global,
+    store: &mut Store<Frac>,
+    program: &Program<Frac>,
+    s: &Stmt<Frac>,
+    b: &Binding,
+    solvers: &mut Vec<Box<dyn LpSolver>>,
+    answers: &mut Vec<Answer<Frac>>,
+    events: &mut Vec<Event<Frac>>,
+) -> Result<(), StopOrMemory<Frac>>
+    requires no_loop { IsOnce s.now.act }
+    requires few { length solvers.old.items < 2 ^ 32 }
+    requires decimals { store.old.settings.decimals ≤ 8 }
+    requires chosen { 0 < length solvers.old.items → store.old.settings.solver < length solvers.old.items }
+    requires plain { AreOneDimensional store.old program.now.statements.items }
+    ensures runs { Runs frac_value result (of_statement frac_value (2 ^ 127 - 1) (record { program = program.now; solvers = map name solvers.old.items }) s.now b.now)
+        (record { state = store.old; events = events.old.items; answers = answers.old.items })
+        (record { state = store.new; events = events.new.items; answers = answers.new.items }) }
+    ensures solvers { UnlessMemory result (Answered frac_value (2 ^ 127 - 1) name rule paths solvers.old.items solvers.new.items answers.new.items events.old.items events.new.items) }
+    ensures standing { UnlessMemory result (ShowsStanding frac_value (2 ^ 127 - 1) (map rule solvers.old.items) answers.new.items events.old.items events.new.items) }
+    ensures settings { UnlessMemory result (AreKept (length solvers.old.items) store.new.settings) }
+    ensures plain { UnlessMemory result (AreOneDimensional store.new program.now.statements.items) }
+{
+    let Act::Solve {
+        model,
+        objective,
+        maximize,
+        ..
+    } = &s.act
+    else {
+        return without_solving(alloc, store, program, s, b, solvers.as_slice(), events);
+    };
+    let solve = Solve {
+        model: model.name,
+        objective: objective.name,
+        maximize: *maximize,
+        at: s.at,
+    };
+    solve_model(alloc, store, program, solve, b, solvers, answers, events)
+}
+
+/// Executes a statement that is no loop and no solve.
+fn without_solving<F: ExactField>(
+    alloc: Global,
+    store: &mut Store<F>,
+    program: &Program<F>,
+    s: &Stmt<F>,
+    b: &Binding,
+    solvers: &[Box<dyn LpSolver>],
+    events: &mut Vec<Event<F>>,
+) -> Result<(), StopOrMemory<F>>
+    requires no_loop { IsOnce s.now.act }
+    requires no_solve { AsksNoSolver s.now.act }
+    requires few { length solvers.now < 2 ^ 32 }
+    requires decimals { store.old.settings.decimals ≤ 8 }
+    ensures runs { (answers : List (Answer F)) → Runs F.value result (of_statement F.value F.limit (record { program = program.now; solvers = map name solvers.now }) s.now b.now)
+        (record { state = store.old; events = events.old.items; answers = answers })
+        (record { state = store.new; events = events.new.items; answers = answers }) }
+    ensures quiet { ShowsNoSolve events.old.items events.new.items }
+    ensures standing { (rules : List Rule) (answers : List (Answer F)) → ShowsStanding F.value F.limit rules answers events.old.items events.new.items }
+{
+    let labels = program.labels.len();
+    match &s.act {
+        Act::Assign {
+            target,
+            condition,
+            right_at,
+            right,
+        } => {
+            let condition = condition.as_ref();
+            assign(alloc, store, target, condition, *right_at, right, s.at, b)
+        }
+        Act::Display { items } => show(alloc, store, labels, items.as_slice(), s.at, b, events),
+        Act::Options { settings } => {
+            set_options(store, settings.as_slice(), solvers);
+            Ok(())
+        }
+        Act::Abort { condition, items } => {
+            let condition = condition.as_ref();
+            let items = items.as_slice();
+            abort_where(alloc, store, labels, condition, items, s.at, b, events)
+        }
+        _ => Ok(()),
+    }
+}
+
+/// Assigns the right side, in a statement at a place.
+fn assign<F: ExactField>(
+    alloc: Global,
+    store: &mut Store<F>,
+    target: &Target<F>,
+    condition: Option<&Expr<F>>,
+    right_at: Place,
+    right: &Right<F>,
+    at: Place,
+    b: &Binding,
+) -> Result<(), StopOrMemory<F>>
+    ensures { (e : Expr F) → right.now ≡ Value e → Assigns F.value result store.old store.new
+        (after_assignment F.value F.limit store.old at b.now (target_of target.now) (option_map tree_of (option_copied condition.entry)) right_at (tree_of e)) }
+{
+    let Right::Value(right) = right;
+    let assignment = Assignment {
+        target,
+        right_at,
+        right,
+    };
+    assignment.run(alloc, store, condition, at, b)
+}
+
+/// Sets options.
+fn set_options<F: ExactField>(
+    store: &mut Store<F>,
+    options: &[(Word, Setting<F>)],
+    solvers: &[Box<dyn LpSolver>],
+)
+    requires { length solvers.now < 2 ^ 32 }
+    ensures { store.new ≡ with_settings store.old (after_options F.value (map name solvers.now) store.old.settings options.now) }
+{
+    let settings = after_options(store.settings(), options, solvers);
+    store.put_settings(settings);
+}
+
+/// Shows the items of a `display`.
+fn show<F: ExactField>(
+    alloc: Global,
+    store: &Store<F>,
+    labels: u32,
+    items: &[Show],
+    at: Place,
+    b: &Binding,
+    events: &mut Vec<Event<F>>,
+) -> Result<(), StopOrMemory<F>>
+    requires decimals { store.now.settings.decimals ≤ 8 }
+    ensures runs { (answers : List (Answer F)) → Runs F.value result (display F.value F.limit labels items.now at b.now)
+        (record { state = store.now; events = events.old.items; answers = answers })
+        (record { state = store.now; events = events.new.items; answers = answers }) }
+    ensures quiet { ShowsNoSolve events.old.items events.new.items }
+    ensures standing { (rules : List Rule) (answers : List (Answer F)) → ShowsStanding F.value F.limit rules answers events.old.items events.new.items }
+{
+    let items = all_shown(alloc, store, labels, items, b)?;
+    events.push(Event::Display {
+        line: at.line,
+        items,
+    })?;
+    Ok(())
+}
+
+/// Shows the items of an `abort` and stops.
+fn abort<F: ExactField>(
+    alloc: Global,
+    store: &Store<F>,
+    labels: u32,
+    items: &[Show],
+    at: Place,
+    b: &Binding,
+    events: &mut Vec<Event<F>>,
+) -> Result<(), StopOrMemory<F>>
+    requires decimals { store.now.settings.decimals ≤ 8 }
+    ensures runs { (answers : List (Answer F)) → Runs F.value result (abort F.value F.limit labels items.now at b.now)
+        (record { state = store.now; events = events.old.items; answers = answers })
+        (record { state = store.now; events = events.new.items; answers = answers }) }
+    ensures quiet { ShowsNoSolve events.old.items events.new.items }
+    ensures standing { (rules : List Rule) (answers : List (Answer F)) → ShowsStanding F.value F.limit rules answers events.old.items events.new.items }
+{
+    let items = all_shown(alloc, store, labels, items, b)?;
+    events.push(Event::Abort {
+        line: at.line,
+        items,
+    })?;
+    Err(stopped(alloc, StopKind::Aborted, at, b))
+}
+
+/// Shows the items of an `abort` and stops, where it has no condition or its condition holds.
+fn abort_where<F: ExactField>(
+    alloc: Global,
+    store: &Store<F>,
+    labels: u32,
+    condition: Option<&Expr<F>>,
+    items: &[Show],
+    at: Place,
+    b: &Binding,
+    events: &mut Vec<Event<F>>,
+) -> Result<(), StopOrMemory<F>>
+    requires decimals { store.now.settings.decimals ≤ 8 }
+    ensures runs { (answers : List (Answer F)) → Runs F.value result (abort_where F.value F.limit labels (option_map tree_of (option_copied condition.entry)) items.now at b.now)
+        (record { state = store.now; events = events.old.items; answers = answers })
+        (record { state = store.now; events = events.new.items; answers = answers }) }
+    ensures quiet { ShowsNoSolve events.old.items events.new.items }
+    ensures standing { (rules : List Rule) (answers : List (Answer F)) → ShowsStanding F.value F.limit rules answers events.old.items events.new.items }
+{
+    let Some(condition) = condition else {
+        return abort(alloc, store, labels, items, at, b, events);
+    };
+    if holds(alloc, store, condition, b)? {
+        abort(alloc, store, labels, items, at, b, events)
+    } else {
+        Ok(())
+    }
+}
+
+/// The stop of a statement that no step of its values is to blame for.
+pub(crate) fn stopped<F: ExactField>(
+    alloc: Global,
+    kind: StopKind,
+    at: Place,
+    b: &Binding,
+) -> StopOrMemory<F>
+    ensures { Shows F.value result (faulted kind at b.now nothing nothing) }
+{
+    let zero = Ext::Number(F::zero());
+    StopOrMemory::at_step(alloc, kind, at, zero, zero, b)
+}

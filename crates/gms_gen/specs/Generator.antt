@@ -1,0 +1,96 @@
+-- A transport model of any size, made out of a seed: as many plants and markets as are asked for, with demands, supplies and costs that a
+-- sequence of draws gives. The sequence is a linear congruential generator (Knuth, "The Art of Computer Programming", volume 2, section 3.2.1);
+-- the model is the transport model of the GAMS User's Guide, "A GAMS Tutorial by Richard E. Rosenthal".
+use Rattle.std.specs.Prelude.{ℕ, zero, suc, ◌+◌, ◌*◌, ◌/◌, ◌%◌, ◌^◌, List, [], ◌∷◌, ◌++◌, codes, decimal}
+
+-- ---- draws
+
+-- the number that the sequence begins with
+abbrev pub first_state : ℕ → ℕ
+first_state seed = seed % 2 ^ 31
+
+-- the number of the sequence that follows another
+abbrev pub next_state : ℕ → ℕ
+next_state state = (1103515245 * state + 12345) % 2 ^ 31
+
+-- the number of the sequence after so many draws
+abbrev pub state_after : ℕ → ℕ → ℕ
+state_after seed zero = first_state seed
+state_after seed (suc n) = next_state (state_after seed n)
+
+-- what is drawn by a number of the sequence: a number below another
+abbrev pub drawn_by : ℕ → ℕ → ℕ
+drawn_by state below = (state / 65536) % below
+
+-- the draw after so many others
+abbrev pub drawn : ℕ → ℕ → ℕ → ℕ
+drawn seed n below = drawn_by (state_after seed (suc n)) below
+
+-- ---- lines
+
+-- the first so many of some texts, one after another
+abbrev pub texts_below : ℕ → (ℕ → List ℕ) → List ℕ
+texts_below zero text = []
+texts_below (suc n) text = texts_below n text ++ text n
+
+-- the sum of the first so many numbers
+abbrev pub sum_below : ℕ → (ℕ → ℕ) → ℕ
+sum_below zero number = 0
+sum_below (suc n) number = sum_below n number + number n
+
+-- a text as a line
+abbrev pub line : List ℕ → List ℕ
+line text = text ++ codes "\n"
+
+-- the name of an element: a letter and its number, from 1 on
+abbrev pub element : List ℕ → ℕ → List ℕ
+element letter n = letter ++ decimal (n + 1)
+
+-- a line of data
+abbrev pub datum : List ℕ → ℕ → List ℕ
+datum element value = line (element ++ codes " " ++ decimal value)
+
+-- Of this seed, these plants and these markets.
+module _ (seed plants markets : ℕ) where
+  -- the demand of a market: from 10 to 99
+  abbrev pub demand : ℕ → ℕ
+  demand market = 10 + drawn seed market 90
+
+  -- the demand of all markets
+  abbrev pub total : ℕ
+  total = sum_below markets demand
+
+  -- the supply of a plant: its part of all demand, and from 1 to 10 more
+  abbrev pub supply : ℕ → ℕ
+  supply plant = total / plants + 1 + drawn seed (markets + plant) 10
+
+  -- the cost of the way from a plant to a market: from 1 to 50
+  abbrev pub cost : ℕ → ℕ → ℕ
+  cost plant market = 1 + drawn seed (markets + plants + plant * markets + market) 50
+
+  -- the names of the plants and the markets, and the data
+  abbrev pub set_lines : List ℕ
+  set_lines = line (codes "set p /p1*p" ++ decimal plants ++ codes "/;") ++ line (codes "set m /m1*m" ++ decimal markets ++ codes "/;")
+
+  abbrev pub demand_lines : List ℕ
+  demand_lines = texts_below markets (λ market. datum (element (codes "m") market) (demand market))
+
+  abbrev pub supply_lines : List ℕ
+  supply_lines = texts_below plants (λ plant. datum (element (codes "p") plant) (supply plant))
+
+  -- the costs from a plant
+  abbrev pub costs_from : ℕ → List ℕ
+  costs_from plant = texts_below markets (λ market. datum (element (codes "p") plant ++ codes "." ++ element (codes "m") market) (cost plant market))
+
+  abbrev pub cost_lines : List ℕ
+  cost_lines = texts_below plants costs_from
+
+  -- the variables, the equations, the model and its solve
+  abbrev pub model_lines : List ℕ
+  model_lines =
+      line (codes "positive variable x(p,m); variable z;") ++ line (codes "equations cost, supply(p), demand(m);") ++ line (codes "cost.. z =e= sum((p,m), c(p,m)*x(p,m));") ++ line (codes "supply(p).. sum(m, x(p,m)) =l= a(p);") ++ line (codes "demand(m).. sum(p, x(p,m)) =g= b(m);") ++ line (codes "model t /all/;") ++ line (codes "option iterlim = 100000, limrow = 0, limcol = 0;") ++ line (codes "solve t using lp minimizing z;")
+
+  -- the text of the model
+  abbrev pub model_text : List ℕ
+  model_text =
+      set_lines ++ line (codes "parameter b(m) /") ++ demand_lines ++ line (codes "/;") ++ line (codes "parameter a(p) /") ++ supply_lines ++ line (codes "/;") ++ line (codes "parameter c(p,m) /") ++ cost_lines ++ line (codes "/;") ++ model_lines

@@ -1,0 +1,19 @@
+use Rattle.std.proofs.Common.{arith, refl, get_or}
+use Rattle.gms_list.proofs.Walks.{walk, loop_step, loop_broke, loop_done, untouched}
+use Rattle.gq_extended.specs.Meaning.{extended}
+use Rattle.gms_list.specs.ListingText.{member_text}
+use Rattle.gms_list.proofs.listing.Listing.push_members.Goals as goal
+
+pub loop-t-init : goal.loop-t-init
+loop-t-init g c = walk _ refl
+
+pub loop-t-preserved : goal.loop-t-preserved
+loop-t-preserved g c =
+    loop_step (member_text c.args.labels.now) (λ entry. (entry.0, extended g.F.ExactField.value entry.1)) c.args.entries.now c.loop-t.t-index (c.loop-t-item.result) (omega arith) (c.loop-t-item.is) c.loop-t.invariant c.in_ok-push_member.ensures
+
+pub returns-in_err-push_member : goal.returns-in_err-push_member
+returns-in_err-push_member g c =
+    loop_broke (member_text c.args.labels.now) (λ entry. (entry.0, extended g.F.ExactField.value entry.1)) c.args.entries.now c.loop-t.t-index (c.loop-t-item.result) (omega arith) (c.loop-t-item.is) c.loop-t.invariant c.from_residual.result c.from_residual.ensures.0 c.in_err-push_member.ensures
+
+pub returns : goal.returns
+returns g c = loop_done (member_text c.args.labels.now) (λ entry. (entry.0, extended g.F.ExactField.value entry.1)) c.args.entries.now c.loop-t.t-index (omega arith) c.loop-t.invariant

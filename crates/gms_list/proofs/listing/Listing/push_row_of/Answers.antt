@@ -1,0 +1,36 @@
+use Rattle.std.proofs.Common.{◌≡◌, ◌≤◌, ◌==◌, ◌∙◌, ◌++◌, true, false, arith, ap}
+use Rattle.std.proofs.lemmas.Bool.Decides.{nat_tests}
+use Rattle.gms_fmt.proofs.Appending.{failed}
+use Rattle.lp_core.specs.Numbers.{lp_numbers, row_numbers}
+use Rattle.gms_list.specs.SolveText.{row_text}
+use Rattle.gms_list.proofs.Walks.{passed, none_left, taken_in, left_passed, left_none, left_taken, reshaped}
+use Rattle.gms_list.proofs.listing.Listing.push_row_of.Goals as goal
+
+pub returns-then-row-equation-clause-appended : goal.returns-then-row-equation-clause-appended
+returns-then-row-equation-clause-appended g c =
+    let differs : (c.args.row.now.key.symbol == c.args.equation) ≡ false = grind (arith, nat_tests) in passed c.args.self.now (row_text c.args.p.now.names c.args.p.now.labels g.F.ExactField.limit (lp_numbers g.F.ExactField.value c.args.lp.now) (0, row_numbers g.F.ExactField.value c.args.row.now)) (c.args.row.now.key.symbol == c.args.equation) c.args.left differs
+
+pub returns-then-row-equation-clause-left : goal.returns-then-row-equation-clause-left
+returns-then-row-equation-clause-left g c =
+    let differs : (c.args.row.now.key.symbol == c.args.equation) ≡ false = grind (arith, nat_tests) in left_passed (c.args.row.now.key.symbol == c.args.equation) c.args.left differs
+
+pub returns-then-left-eq0-clause-appended : goal.returns-then-left-eq0-clause-appended
+returns-then-left-eq0-clause-appended g c = let none : c.args.left ≡ 0 = grind (arith, nat_tests) in none_left c.args.self.now (row_text c.args.p.now.names c.args.p.now.labels g.F.ExactField.limit (lp_numbers g.F.ExactField.value c.args.lp.now) (0, row_numbers g.F.ExactField.value c.args.row.now)) (c.args.row.now.key.symbol == c.args.equation) c.args.left none
+
+pub returns-then-left-eq0-clause-left : goal.returns-then-left-eq0-clause-left
+returns-then-left-eq0-clause-left g c = let none : c.args.left ≡ 0 = grind (arith, nat_tests) in left_none (c.args.row.now.key.symbol == c.args.equation) c.args.left none
+
+pub returns-in_err-push_row-clause-appended : goal.returns-in_err-push_row-clause-appended
+returns-in_err-push_row-clause-appended g c =
+    let same : (c.args.row.now.key.symbol == c.args.equation) ≡ true = grind (arith, nat_tests) in
+    let some : 1 ≤ c.args.left = grind (arith, nat_tests) in
+    reshaped _ _ (row_text c.args.p.now.names c.args.p.now.labels g.F.ExactField.limit (lp_numbers g.F.ExactField.value c.args.lp.now) (0, row_numbers g.F.ExactField.value c.args.row.now)) _ c.from_residual.result (taken_in (row_text c.args.p.now.names c.args.p.now.labels g.F.ExactField.limit (lp_numbers g.F.ExactField.value c.args.lp.now) (0, row_numbers g.F.ExactField.value c.args.row.now)) (c.args.row.now.key.symbol == c.args.equation) c.args.left same some) (failed _ _ (row_text c.args.p.now.names c.args.p.now.labels g.F.ExactField.limit (lp_numbers g.F.ExactField.value c.args.lp.now) (0, row_numbers g.F.ExactField.value c.args.row.now)) c.from_residual.result c.from_residual.ensures.0 c.in_err-push_row.ensures)
+
+pub returns-clause-appended : goal.returns-clause-appended
+returns-clause-appended g c =
+    let same : (c.args.row.now.key.symbol == c.args.equation) ≡ true = grind (arith, nat_tests) in
+    let some : 1 ≤ c.args.left = grind (arith, nat_tests) in
+    c.in_ok-push_row.ensures ∙ ap (λ t. c.args.self.now ++ t) (taken_in (row_text c.args.p.now.names c.args.p.now.labels g.F.ExactField.limit (lp_numbers g.F.ExactField.value c.args.lp.now) (0, row_numbers g.F.ExactField.value c.args.row.now)) (c.args.row.now.key.symbol == c.args.equation) c.args.left same some)
+
+pub returns-clause-left : goal.returns-clause-left
+returns-clause-left g c = let same : (c.args.row.now.key.symbol == c.args.equation) ≡ true = grind (arith, nat_tests) in left_taken (c.args.row.now.key.symbol == c.args.equation) c.args.left same

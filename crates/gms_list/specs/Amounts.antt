@@ -1,0 +1,34 @@
+-- Lines, and numbers as they stand in them (GAMS User's Guide, "The Display Statement").
+use Rattle.std.specs.Prelude.{ℕ, ◌+◌, ◌/◌, ◌%◌, ◌^◌, ◌-◌, ◌==◌, pos, negsuc, ℤ, List, [], ◌∷◌, ◌++◌, length, replicate, codes, decimal, if◌then◌else◌}
+use Rattle.gq_number.specs.Number.{Number, whole, ◌*ℚ◌, rounded}
+
+-- a line: a text and a line feed behind it
+abbrev pub line_of : List ℕ → List ℕ
+line_of text = text ++ 10 ∷ []
+
+-- a whole number in so many places, with zeros before it
+abbrev pub in_places : ℕ → ℕ → List ℕ
+in_places places n = replicate (places - length (decimal n)) 48 ++ decimal n
+
+-- so many units of the last of some decimals: the whole part, a point, and the decimals; without decimals there is no point
+abbrev pub fixed_text : ℕ → ℕ → List ℕ
+fixed_text decimals n =
+    decimal (n / 10 ^ decimals) ++ (if decimals == 0 then [] else codes "." ++ in_places decimals (n % 10 ^ decimals))
+
+-- the same with a sign
+abbrev pub signed_text : ℕ → ℤ → List ℕ
+signed_text decimals (pos n) = fixed_text decimals n
+signed_text decimals (negsuc n) = codes "-" ++ fixed_text decimals (n + 1)
+
+-- a number rounded to so many decimals, half away from zero
+abbrev pub rounded_text : ℕ → Number → List ℕ
+rounded_text decimals x = signed_text decimals (rounded (x *ℚ whole (pos (10 ^ decimals))))
+
+-- a whole number
+abbrev pub whole_text : ℤ → List ℕ
+whole_text (pos n) = decimal n
+whole_text (negsuc n) = codes "-" ++ decimal (n + 1)
+
+-- a number exactly: its numerator, and where the denominator is not 1 `/` and the denominator
+abbrev pub exact_text : Number → List ℕ
+exact_text x = whole_text x.numerator ++ (if x.denominator == 1 then [] else codes "/" ++ decimal x.denominator)

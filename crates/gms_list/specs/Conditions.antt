@@ -1,0 +1,35 @@
+-- What an event has to be so that it can be listed: a number's decimals, and for a solve a program that is formed well and an answer that is proved.
+use Rattle.std.specs.Prelude.{◌≡◌, ◌≤◌, ℕ, List, map, slice_get, Some, None, All, IfSome, length}
+use Rattle.gq_number.specs.Number.{Number}
+use Rattle.gms_event.specs.declared.event.Event.{Event}
+use Rattle.gms_event.specs.declared.event.Event.TheVariants.{Display, Solve, Abort, Fault}
+use Rattle.gms_event.specs.declared.event.Shown.{Shown}
+use Rattle.lp_core.specs.declared.answer.Answer.{Answer}
+use Rattle.lp_core.specs.declared.answer.End.{End}
+use Rattle.lp_core.specs.declared.answer.End.TheVariants.{Optimal, Infeasible, Unbounded, Interrupted, Refused}
+use Rattle.lp_core.specs.declared.program.Lp.{Lp}
+use Rattle.lp_core.specs.Proofs.{ProvesOptimal, ProvesInfeasible, ProvesCrossed, ProvesUnbounded}
+use Rattle.lp_core.specs.WellFormed.{IsWellFormed}
+
+module _ {F : Type 0} (value : F → Number) (lp : Lp F) where
+  -- an answer comes with what proves its end
+  abbrev pub IsProved : End F → Type 0
+  IsProved (Optimal levels row_levels duals reduced) = ProvesOptimal value lp (map value levels) (map value row_levels) (map value duals) (map value reduced)
+  IsProved (Infeasible duals None) = ProvesInfeasible value lp (map value duals)
+  IsProved (Infeasible duals (Some j)) = ProvesCrossed value lp j (map value duals)
+  IsProved (Unbounded levels row_levels ray) = ProvesUnbounded value lp (map value levels) (map value row_levels) (map value ray)
+  IsProved (Interrupted phase levels row_levels) = phase ≡ 2 → (length levels ≡ length lp.columns) × (length row_levels ≡ length lp.rows)
+  IsProved (Refused step) = Unit {0}
+
+module _ {F : Type 0} (value : F → Number) (answers : List (Answer F)) where
+  -- a solve whose linear program is formed well, with an answer at this place that is proved, if there is one
+  pub record IsListableSolve (lp : Lp F) (answer : ℕ) : Type 0 where
+    pub formed : IsWellFormed value lp
+    pub stands : IfSome (slice_get answers answer) (λ a. IsProved value lp a.end)
+
+  -- an event whose numbers have few enough decimals, and whose solve is proved
+  abbrev pub IsListable : Event F → Type 0
+  IsListable (Display line items) = All (λ (item : Shown F). item.decimals ≤ 8) items
+  IsListable (Abort line items) = All (λ (item : Shown F). item.decimals ≤ 8) items
+  IsListable (Fault stop) = Unit {0}
+  IsListable (Solve line model equations lp answer solver settings objective_level) = IsListableSolve lp answer

@@ -1,0 +1,221 @@
+-- The text of a listing: the echo of the source, its errors or what the run shows, and the last line (GAMS User's Guide, "GAMS Output").
+-- The form of the lines is this project's own.
+use Rattle.std.specs.Prelude.{ℕ, ◌+◌, ◌*◌, ◌/◌, ◌%◌, ◌^◌, ◌-◌, pos, negsuc, ℤ, nat_abs, nat_lt, Bool, true, false, not, ◌&&◌, ◌==◌, max, List, [], ◌∷◌, ◌++◌, length, map, flat_map, replicate, slice_get, option_to_list, Option, Some, None, codes, decimal, if◌then◌else◌}
+use Rattle.std.specs.List.{fold}
+use Rattle.gq_extended.specs.Extended.{Extended, number, plus_infinity, minus_infinity, na}
+use Rattle.gms_labels.specs.declared.place.Place.{Place}
+use Rattle.gms_lines.specs.Lines.{lines, content}
+use Rattle.gms_ast.specs.declared.expression.Suffix.{Suffix}
+use Rattle.gms_ast.specs.declared.expression.Suffix.TheVariants as suffix
+use Rattle.gms_store.specs.declared.kind.SymbolKind.{SymbolKind}
+use Rattle.gms_store.specs.declared.kind.SymbolKind.TheVariants.{Set, Parameter, Variable, Equation, Model, Undeclared}
+use Rattle.gms_eval.specs.declared.stop.StopKind.{StopKind}
+use Rattle.gms_eval.specs.declared.stop.StopKind.TheVariants.{DomainSize, TooManyRows, TooManyColumns}
+use Rattle.gms_eval.specs.Bindings.{Pairs}
+use Rattle.gms_eval.specs.Faults.{Fault, stop_code, stop_name}
+use Rattle.gms_event.specs.Events.{Shown, Event, displays, solves, aborts, stops}
+use Rattle.gms_parse.specs.declared.fault.SourceError.{SourceError}
+use Rattle.gms_parse.specs.declared.fault.SourceError.TheVariants.{TooLong}
+use Rattle.gms_parse.specs.declared.fault.SourceFault.{SourceFault}
+use Rattle.gms_parse.specs.Faults.{error_code as source_code, error_name as source_name}
+use Rattle.gms_check.specs.declared.error.CompileError.{CompileError}
+use Rattle.gms_check.specs.Errors.{error_code as kind_code, error_name as kind_name}
+use Rattle.gms_fmt.specs.Columns.{right_in, left_in}
+use Rattle.gms_fmt.specs.ElementTexts.{text_of, dotted_text}
+use Rattle.lp_core.specs.declared.answer.Answer.{Answer}
+use Rattle.gms_list.specs.Amounts.{line_of, rounded_text}
+use Rattle.gms_list.specs.SolveText.{solve_text}
+use Rattle.gq_number.specs.Number.{Number}
+
+-- where something is
+abbrev pub place_text : Place → List ℕ
+place_text at = codes " at line " ++ decimal at.line ++ codes " column " ++ decimal at.column
+
+-- ---- the echo
+
+-- a line behind its number, which stands right in 6 places, and two blanks
+abbrev pub numbered_line : ℕ → List ℕ → List ℕ
+numbered_line n line = line_of (right_in 6 (decimal n) ++ codes "  " ++ line)
+
+-- lines behind their numbers, from this one on
+abbrev pub numbered_from : ℕ → List (List ℕ) → List ℕ
+numbered_from n [] = []
+numbered_from n (line ∷ others) = numbered_line n line ++ numbered_from (n + 1) others
+
+-- the echo of a source whose first line has this number: its lines without their ends
+abbrev pub echo_text : ℕ → List ℕ → List ℕ
+echo_text n source = numbered_from n (map content (lines source))
+
+-- ---- errors
+
+-- the line of the fault of a source that is no program
+abbrev pub source_error_text : SourceFault → List ℕ
+source_error_text fault =
+    line_of (codes "*** Source error " ++ decimal (source_code fault.error) ++ codes " " ++ source_name fault.error ++ place_text fault.at)
+
+-- the line of an error of a program
+abbrev pub compile_error_text : CompileError → List ℕ
+compile_error_text error =
+    line_of (codes "*** Compile error " ++ decimal (kind_code error.kind) ++ codes " " ++ kind_name error.kind ++ place_text error.at)
+
+-- the lines of errors
+abbrev pub compile_errors_text : List CompileError → List ℕ
+compile_errors_text errors = flat_map compile_error_text errors
+
+-- ---- values
+
+-- a value: a number rounded to so many decimals, or the word for another
+abbrev pub value_text : ℕ → Extended → List ℕ
+value_text decimals (number x) = rounded_text decimals x
+value_text decimals plus_infinity = codes "+INF"
+value_text decimals minus_infinity = codes "-INF"
+value_text decimals na = codes "NA"
+
+-- ---- what is displayed
+
+-- the word for a symbol: a parameter without indices and the status of a model are scalars
+abbrev pub kind_text : SymbolKind → Bool → List ℕ
+kind_text Set indexed = codes "SET"
+kind_text Parameter true = codes "PARAMETER"
+kind_text Variable indexed = codes "VARIABLE"
+kind_text Equation indexed = codes "EQUATION"
+kind_text kind indexed = codes "SCALAR"
+
+-- a suffix as it stands behind a name
+abbrev pub suffix_text : Suffix → List ℕ
+suffix_text suffix.None = []
+suffix_text suffix.Lo = codes ".lo"
+suffix_text suffix.Up = codes ".up"
+suffix_text suffix.L = codes ".l"
+suffix_text suffix.M = codes ".m"
+suffix_text suffix.Fx = codes ".fx"
+suffix_text suffix.ModelStat = codes ".modelstat"
+suffix_text suffix.SolveStat = codes ".solvestat"
+
+-- entries: tuples with their values
+abbrev pub Entries : Type 0
+Entries = List (List ℕ × Extended)
+
+-- the line of a symbol with indices that has no entry
+abbrev pub nothing_text : SymbolKind → List ℕ
+nothing_text Set = line_of (codes "  (empty)")
+nothing_text kind = line_of (codes "  (all zero)")
+
+-- the value of an entry
+abbrev pub number_text : ℕ → List ℕ × Extended → List ℕ
+number_text decimals entry = value_text decimals entry.1
+
+-- the value of a symbol without indices
+abbrev pub single_text : Shown → List ℕ
+single_text item = line_of (codes " = " ++ flat_map (number_text item.decimals) item.entries)
+
+-- ---- the stop of a run
+
+-- whether a stop says how many elements, rows or columns there are too many of
+abbrev pub has_count : StopKind → Bool
+has_count DomainSize = true
+has_count TooManyRows = true
+has_count TooManyColumns = true
+has_count kind = false
+
+-- how many there are
+abbrev pub count_text : StopKind → ℕ → List ℕ
+count_text kind count = if has_count kind then codes " count " ++ decimal count else []
+
+-- ---- texts with the names and the labels of a program
+
+module _ (labels : List (List ℕ)) where
+  -- the length of the longest text of the tuples of entries
+  abbrev pub width_of : Entries → ℕ
+  width_of entries = fold (λ width entry. max (length (dotted_text labels entry.0)) width) 0 entries
+
+  -- an entry of a set: its tuple
+  abbrev pub member_text : List ℕ × Extended → List ℕ
+  member_text entry = line_of (codes "  " ++ dotted_text labels entry.0)
+
+  -- another entry: its tuple left in the width of the longest, and its value right in 14 places
+  abbrev pub entry_text : ℕ → ℕ → List ℕ × Extended → List ℕ
+  entry_text width decimals entry =
+      line_of (codes "  " ++ left_in width (dotted_text labels entry.0) ++ codes " " ++ right_in 14 (value_text decimals entry.1))
+
+  -- the entries of a symbol that has some
+  abbrev pub entries_text : SymbolKind → ℕ → Entries → List ℕ
+  entries_text Set decimals entries = flat_map member_text entries
+  entries_text kind decimals entries = flat_map (entry_text (width_of entries) decimals) entries
+
+  -- what stands behind the name: for a symbol without indices its value, and else the lines of its entries
+  abbrev pub values_text : Shown → List ℕ
+  values_text item =
+      if item.indexed then
+      line_of [] ++ (if length item.entries == 0 then nothing_text item.kind else entries_text item.kind item.decimals item.entries) else
+      single_text item
+
+module _ (names labels : List (List ℕ)) where
+  -- the name of a symbol with what it is, and its values
+  abbrev pub symbol_text : ℕ → Shown → List ℕ
+  symbol_text name item =
+      kind_text item.kind item.indexed ++ codes " " ++ text_of names name ++ suffix_text item.suffix ++ values_text labels item
+
+  -- what an item shows, behind the line of its statement: a text or a symbol
+  abbrev pub item_text : ℕ → Shown → List ℕ
+  item_text line item =
+      codes "---- " ++ decimal line ++ codes " " ++ elim item.name [ None ↦ line_of item.text | Some name ↦ symbol_text name item ]
+
+  -- what items show
+  abbrev pub items_text : ℕ → List Shown → List ℕ
+  items_text line items = flat_map (item_text line) items
+
+  -- a set and the label that it stands for
+  abbrev pub pair_text : ℕ × ℕ → List ℕ
+  pair_text pair = text_of names pair.0 ++ codes "=" ++ text_of labels pair.1
+
+  -- pairs behind the first
+  abbrev pub further_pairs : Pairs → List ℕ
+  further_pairs pairs = flat_map (λ pair. codes "," ++ pair_text pair) pairs
+
+  -- the sets that are controlled at a stop, each with the label that it stands for
+  abbrev pub pairs_text : Pairs → List ℕ
+  pairs_text [] = []
+  pairs_text (pair ∷ pairs) = codes " with " ++ pair_text pair ++ further_pairs pairs
+
+  -- the line of the stop of a run
+  abbrev pub stop_text : Fault → List ℕ
+  stop_text fault =
+      line_of (codes "*** Execution error " ++ decimal (stop_code fault.kind) ++ codes " " ++ stop_name fault.kind ++ place_text fault.at ++ pairs_text fault.binding ++ count_text fault.kind fault.count)
+
+  -- ---- events
+
+  -- what an event of a run shows that has these answers and numbers under this limit
+  abbrev pub event_text : ℕ → List (Answer Number) → Event → List ℕ
+  event_text limit answers (displays line items) = items_text line items
+  event_text limit answers (aborts line items) = items_text line items
+  event_text limit answers (stops fault) = stop_text fault
+  event_text limit answers (solves solved) = flat_map (solve_text names labels limit solved) (option_to_list (slice_get answers solved.answer))
+
+  -- what events show, in order
+  abbrev pub events_text : ℕ → List (Answer Number) → List Event → List ℕ
+  events_text limit answers events = flat_map (event_text limit answers) events
+
+-- ---- the whole
+
+-- the last line
+abbrev pub end_text : ℕ → ℕ → List ℕ
+end_text status made = line_of (codes "END status " ++ decimal status ++ codes " solves " ++ decimal made)
+
+-- the listing of a source whose run shows these events: the echo, what is shown, and the last line
+abbrev pub run_listing : List (List ℕ) → List (List ℕ) → ℕ → List ℕ → List (Answer Number) → List Event → ℕ → List ℕ
+run_listing names labels limit source answers events status =
+    echo_text 1 source ++ events_text names labels limit answers events ++ end_text status (length answers)
+
+-- the echo of a source that is refused for an error: one that is too long has none
+abbrev pub refused_echo : SourceError → List ℕ → List ℕ
+refused_echo TooLong source = []
+refused_echo error source = echo_text 1 source
+
+-- the listing of a source that is no program: the echo, the fault, and the last line
+abbrev pub refused_listing : List ℕ → SourceFault → List ℕ
+refused_listing source fault = refused_echo fault.error source ++ source_error_text fault ++ end_text 2 0
+
+-- the listing of a program that has errors: the echo, the errors, and the last line
+abbrev pub errors_listing : List ℕ → List CompileError → List ℕ
+errors_listing source errors = echo_text 1 source ++ compile_errors_text errors ++ end_text 2 0

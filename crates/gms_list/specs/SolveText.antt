@@ -1,0 +1,348 @@
+-- What a solve shows: rows and columns, counts and statuses, levels and marginals, and the proof (GAMS User's Guide, "GAMS Output"). The form of
+-- the lines, and the proof, are this project's own.
+use Rattle.std.specs.Prelude.{ℕ, ◌+◌, ◌-◌, ◌==◌, nat_lt, pos, negsuc, ℤ, Bool, true, false, not, ◌&&◌, max, List, [], ◌∷◌, ◌++◌, length, map, flat_map, filter, take, slice_get, slice_index_or, sum, Option, Some, None, option_to_list, Result, Ok, Err, codes, decimal, if◌then◌else◌}
+use Rattle.std.specs.List.{fold, enumerate_from, list_any}
+use Rattle.gq_number.specs.Number.{Number, whole, neg_ℚ}
+use Rattle.gms_ast.specs.declared.expression.Suffix.{Suffix}
+use Rattle.gms_store.specs.State.{same_number}
+use Rattle.gms_event.specs.Events.{Solved}
+use Rattle.gms_fmt.specs.Columns.{right_in, left_in}
+use Rattle.gms_fmt.specs.ElementTexts.{text_of, element_text, joined_by}
+use Rattle.lp_check.specs.BoundSteps.{steps_of_bound, bound_of}
+use Rattle.lp_core.specs.declared.answer.Answer.{Answer}
+use Rattle.lp_core.specs.declared.answer.End.{End}
+use Rattle.lp_core.specs.declared.answer.End.TheVariants.{Optimal, Infeasible, Unbounded, Interrupted, Refused}
+use Rattle.lp_core.specs.declared.answer.StepName.{StepName}
+use Rattle.lp_core.specs.declared.answer.StepName.TheVariants as step
+use Rattle.lp_core.specs.declared.program.Column.{Column}
+use Rattle.lp_core.specs.declared.program.Row.{Row}
+use Rattle.lp_core.specs.declared.program.Lp.{Lp}
+use Rattle.lp_core.specs.declared.program.Sense.{Sense}
+use Rattle.lp_core.specs.declared.program.Sense.TheVariants as sense
+use Rattle.lp_core.specs.DualBound.{row_lower, row_upper, objective_costs, no_costs}
+use Rattle.lp_form.specs.declared.key.Key.{Key}
+use Rattle.gms_list.specs.Amounts.{line_of, rounded_text, exact_text}
+
+-- ---- numbers
+
+-- a number with three decimals
+abbrev pub amount : Number → List ℕ
+amount x = rounded_text 3 x
+
+-- a bound with three decimals, or the word for none
+abbrev pub bound_text : List ℕ → Option Number → List ℕ
+bound_text none None = none
+bound_text none (Some x) = amount x
+
+-- whether a number is 0
+abbrev pub is_zero : Number → Bool
+is_zero x = same_number x (whole (pos 0))
+
+-- whether a number is below 0
+abbrev pub is_below : ℤ → Bool
+is_below (pos n) = false
+is_below (negsuc n) = true
+
+-- the magnitude of a number
+abbrev pub magnitude : Number → Number
+magnitude x = if is_below x.numerator then neg_ℚ x else x
+
+-- a number right in 12 places behind a blank; 0 is a dot
+abbrev pub cell : Number → List ℕ
+cell x = codes " " ++ right_in 12 (if is_zero x then codes "." else amount x)
+
+-- a bound right in 12 places behind a blank, or the word for none
+abbrev pub bound_cell : List ℕ → Option Number → List ℕ
+bound_cell none None = codes " " ++ right_in 12 none
+bound_cell none (Some x) = cell x
+
+-- how a row's sum and its right side compare
+abbrev pub sense_text : Sense → List ℕ
+sense_text sense.E = codes " =E= "
+sense_text sense.L = codes " =L= "
+sense_text sense.G = codes " =G= "
+sense_text sense.N = codes " =N= "
+
+-- ---- statuses
+
+-- the status of the model after an interrupt in a phase
+abbrev pub interrupted_text : ℕ → List ℕ
+interrupted_text phase =
+    if phase == 1 then codes "MODEL STATUS 6 Intermediate Infeasible" else codes "MODEL STATUS 7 Intermediate Nonoptimal"
+
+-- the status of the model
+abbrev pub model_status_text : End Number → List ℕ
+model_status_text (Optimal levels row_levels duals reduced) = codes "MODEL STATUS 1 Optimal"
+model_status_text (Unbounded levels row_levels ray) = codes "MODEL STATUS 3 Unbounded"
+model_status_text (Infeasible duals crossed) = codes "MODEL STATUS 4 Infeasible"
+model_status_text (Interrupted phase levels row_levels) = interrupted_text phase
+model_status_text (Refused name) = codes "MODEL STATUS 13 Error No Solution"
+
+-- the status of the solver
+abbrev pub solver_status_text : End Number → List ℕ
+solver_status_text (Interrupted phase levels row_levels) = codes "SOLVER STATUS 2 Iteration Interrupt"
+solver_status_text (Refused name) = codes "SOLVER STATUS 4 Terminated By Solver"
+solver_status_text end = codes "SOLVER STATUS 1 Normal Completion"
+
+-- ---- levels and marginals
+
+-- What a solution lists: levels of columns and rows, marginals of rows and columns, 0 where there are none, and what stands behind a column.
+pub record Solution : Type 0 where
+  pub levels : List Number
+  pub row_levels : List Number
+  pub duals : List Number
+  pub reduced : List Number
+  pub mark : ℕ → List ℕ
+
+-- the number at a place, 0 where there is none
+abbrev pub number_at : List Number → ℕ → Number
+number_at numbers place = slice_index_or numbers place (whole (pos 0))
+
+-- the mark of a column that a ray moves
+abbrev pub ray_mark : List Number → ℕ → List ℕ
+ray_mark ray j = if is_zero (number_at ray j) then [] else codes " UNBND"
+
+-- the mark of the objective after an interrupt
+abbrev pub objective_mark : ℕ → ℕ → List ℕ
+objective_mark objective j = if objective == j then codes " NOPT" else []
+
+-- the solution of an end that has one
+abbrev pub solution_of : ℕ → End Number → Option Solution
+solution_of objective (Optimal levels row_levels duals reduced) =
+    Some (record { levels = levels; row_levels = row_levels; duals = duals; reduced = reduced; mark = λ j. [] })
+solution_of objective (Unbounded levels row_levels ray) =
+    Some (record { levels = levels; row_levels = row_levels; duals = []; reduced = []; mark = ray_mark ray })
+solution_of objective (Interrupted phase levels row_levels) =
+    if phase == 2 then Some (record { levels = levels; row_levels = row_levels; duals = []; reduced = []; mark = objective_mark objective }) else None
+solution_of objective end = None
+
+-- ---- steps
+
+-- the name of a step with its numbers
+abbrev pub step_text : StepName → List ℕ
+step_text (step.Standard row column part) =
+    codes "Standard row " ++ decimal row ++ codes " column " ++ decimal column ++ codes " part " ++ decimal part
+step_text (step.Ratio pivot row) = codes "Ratio " ++ decimal pivot ++ codes " row " ++ decimal row
+step_text (step.Exchange pivot row column part) =
+    codes "Exchange " ++ decimal pivot ++ codes " row " ++ decimal row ++ codes " column " ++ decimal column ++ codes " part " ++ decimal part
+step_text (step.Recover what index entry part) =
+    codes "Recover " ++ decimal what ++ codes " index " ++ decimal index ++ codes " entry " ++ decimal entry ++ codes " part " ++ decimal part
+step_text (step.Check part) = codes "Check part " ++ decimal part
+
+-- ---- the bound that duals give
+
+-- the number of the first step that does not fit, of steps numbered from this one on
+abbrev pub first_unfit : ℕ → List Bool → Option ℕ
+first_unfit n [] = None
+first_unfit n (true ∷ fits) = first_unfit (n + 1) fits
+first_unfit n (false ∷ fits) = Some n
+
+-- whether each step by which the bound is taken fits: the bound of the objective, or of 0
+abbrev pub bound_fits : ℕ → Lp Number → List Number → Bool → List Bool
+bound_fits limit lp duals true = steps_of_bound (λ x. x) limit lp.maximize (objective_costs lp) lp duals
+bound_fits limit lp duals false = steps_of_bound (λ x. x) limit false no_costs lp duals
+
+-- a bound, or the step that keeps it from being shown
+abbrev pub bound_line : Option ℕ → Option Number → List ℕ
+bound_line (Some part) bound = line_of (codes "  bound not shown, Check part " ++ decimal part)
+bound_line None (Some bound) = line_of (codes "  bound " ++ exact_text bound)
+bound_line None None = []
+
+-- the bound that duals give, or the step that keeps it from being shown
+abbrev pub bound_lines : ℕ → Lp Number → List Number → Bool → List ℕ
+bound_lines limit lp duals with_objective =
+    bound_line (first_unfit 0 (bound_fits limit lp duals with_objective)) (bound_of (λ x. x) with_objective lp duals)
+
+-- a bound of the column whose bounds cross
+abbrev pub crossed_text : Number → List ℕ
+crossed_text bound = codes " " ++ exact_text bound
+
+-- numbers of names, each where it stands first
+abbrev pub each_once : List ℕ → List ℕ
+each_once [] = []
+each_once (n ∷ ns) = n ∷ filter (λ m. not (m == n)) (each_once ns)
+
+-- how many rows or columns are not shown
+abbrev pub more_text : ℕ → ℕ → List ℕ → List ℕ
+more_text most count what =
+    if nat_lt most count then line_of (codes " (" ++ decimal (count - most) ++ codes " more " ++ what ++ codes ")") else []
+
+module _ (names labels : List (List ℕ)) where
+  -- a line: the element left in the width of the longest, then four numbers, and a mark
+  abbrev pub point_text : ℕ → Key → Option Number → Number → Option Number → Number → List ℕ → List ℕ
+  point_text width key lower level upper marginal mark =
+      line_of (codes "  " ++ left_in width (element_text names labels key.symbol key.tuple) ++ bound_cell (codes "-INF") lower ++ cell level ++ bound_cell (codes "+INF") upper ++ cell marginal ++ mark)
+
+  -- the column whose bounds cross
+  abbrev pub crossed_line : Column Number → List ℕ
+  crossed_line column =
+      line_of (codes "  crossed " ++ element_text names labels column.key.symbol column.key.tuple ++ flat_map crossed_text (option_to_list column.lower ++ option_to_list column.upper))
+
+module _ (names labels : List (List ℕ)) (limit : ℕ) (lp : Lp Number) where
+  -- an element
+  abbrev pub key_text : Key → List ℕ
+  key_text key = element_text names labels key.symbol key.tuple
+
+  -- the element of a column
+  abbrev pub column_text : ℕ → List ℕ
+  column_text j = flat_map (λ (column : Column Number). key_text column.key) (option_to_list (slice_get lp.columns j))
+
+  -- rows and columns with their places
+  abbrev pub placed_rows : List (ℕ × Row Number)
+  placed_rows = enumerate_from 0 lp.rows
+
+  abbrev pub placed_columns : List (ℕ × Column Number)
+  placed_columns = enumerate_from 0 lp.columns
+
+  -- the rows of an equation, and the columns of a variable
+  abbrev pub rows_of : ℕ → List (ℕ × Row Number)
+  rows_of equation = filter (λ (p : ℕ × Row Number). p.1.key.symbol == equation) placed_rows
+
+  abbrev pub columns_of : ℕ → List (ℕ × Column Number)
+  columns_of variable = filter (λ (p : ℕ × Column Number). p.1.key.symbol == variable) placed_columns
+
+  -- the variables that have columns
+  abbrev pub variables : List ℕ
+  variables = each_once (map (λ (column : Column Number). column.key.symbol) lp.columns)
+
+  -- ---- rows and columns
+
+  -- a term of a row
+  abbrev pub term_text : ℕ × Number → List ℕ
+  term_text entry =
+      (if is_below entry.1.numerator then codes " - " else codes " + ") ++ amount (magnitude entry.1) ++ codes "*" ++ column_text entry.0
+
+  -- the terms of a row
+  abbrev pub terms_text : List (ℕ × Number) → List ℕ
+  terms_text [] = codes " 0"
+  terms_text (entry ∷ entries) = flat_map term_text (entry ∷ entries)
+
+  -- a row
+  abbrev pub row_text : ℕ × Row Number → List ℕ
+  row_text p =
+      line_of (codes " " ++ key_text p.1.key ++ codes ".." ++ terms_text p.1.entries ++ sense_text p.1.sense ++ amount p.1.right)
+
+  -- the first rows of an equation
+  abbrev pub equation_text : ℕ → ℕ → List ℕ
+  equation_text most equation =
+      line_of (codes "EQUATION " ++ text_of names equation) ++ flat_map row_text (take most (rows_of equation))
+      ++ (if length (rows_of equation) == 0 then line_of (codes " (no rows)") else more_text most (length (rows_of equation)) (codes "rows"))
+
+  -- an entry of a column, row by row
+  abbrev pub entry_line : ℕ → ℕ × Row Number → List ℕ
+  entry_line j p =
+      flat_map (λ (e : ℕ × Number). line_of (codes "  " ++ amount e.1 ++ codes " " ++ key_text p.1.key)) (filter (λ (e : ℕ × Number). e.0 == j) p.1.entries)
+
+  -- a column with its bounds and its entries
+  abbrev pub column_lines : ℕ × Column Number → List ℕ
+  column_lines p =
+      line_of (codes " " ++ key_text p.1.key ++ codes " lower " ++ bound_text (codes "-INF") p.1.lower ++ codes " upper " ++ bound_text (codes "+INF") p.1.upper)
+      ++ flat_map (entry_line p.0) placed_rows
+
+  -- the first columns of a variable
+  abbrev pub variable_text : ℕ → ℕ → List ℕ
+  variable_text most variable =
+      line_of (codes "VARIABLE " ++ text_of names variable) ++ flat_map column_lines (take most (columns_of variable))
+      ++ more_text most (length (columns_of variable)) (codes "columns")
+
+  -- the rows of the model's equations, and the columns, as far as the settings list them
+  abbrev pub rows_listing : ℕ → List ℕ → List ℕ
+  rows_listing most equations = if most == 0 then [] else flat_map (equation_text most) equations
+
+  abbrev pub columns_listing : ℕ → List ℕ
+  columns_listing most = if most == 0 then [] else flat_map (variable_text most) variables
+
+  -- ---- levels and marginals
+
+  -- the length of the longest element
+  abbrev pub longest : List Key → ℕ
+  longest keys = fold (λ width key. max (length (key_text key)) width) 0 keys
+
+  abbrev pub row_point : Solution → ℕ → ℕ × Row Number → List ℕ
+  row_point solution width p =
+      point_text names labels width p.1.key (row_lower p.1.sense p.1.right) (number_at solution.row_levels p.0) (row_upper p.1.sense p.1.right) (number_at solution.duals p.0) []
+
+  abbrev pub column_point : Solution → ℕ → ℕ × Column Number → List ℕ
+  column_point solution width p =
+      point_text names labels width p.1.key p.1.lower (number_at solution.levels p.0) p.1.upper (number_at solution.reduced p.0) (solution.mark p.0)
+
+  -- the rows of an equation that has some
+  abbrev pub equation_points : Solution → ℕ → List ℕ
+  equation_points solution equation =
+      if length (rows_of equation) == 0 then [] else
+      line_of (codes "EQU " ++ text_of names equation ++ codes " LOWER LEVEL UPPER MARGINAL")
+      ++ flat_map (row_point solution (longest (map (λ (p : ℕ × Row Number). p.1.key) (rows_of equation)))) (rows_of equation)
+
+  -- the columns of a variable
+  abbrev pub variable_points : Solution → ℕ → List ℕ
+  variable_points solution variable =
+      line_of (codes "VAR " ++ text_of names variable ++ codes " LOWER LEVEL UPPER MARGINAL")
+      ++ flat_map (column_point solution (longest (map (λ (p : ℕ × Column Number). p.1.key) (columns_of variable)))) (columns_of variable)
+
+  abbrev pub solution_text : List ℕ → Option Solution → List ℕ
+  solution_text equations None = []
+  solution_text equations (Some solution) = flat_map (equation_points solution) equations ++ flat_map (variable_points solution) variables
+
+  -- ---- the proof
+
+  -- an element with a number, where that is not 0
+  abbrev pub number_line : List ℕ → Key → Number → List ℕ
+  number_line word key x =
+      if is_zero x then [] else line_of (codes "  " ++ word ++ codes " " ++ key_text key ++ codes " = " ++ exact_text x)
+
+  abbrev pub column_numbers : List ℕ → List Number → List ℕ
+  column_numbers word numbers = flat_map (λ (p : ℕ × Column Number). number_line word p.1.key (number_at numbers p.0)) placed_columns
+
+  abbrev pub row_numbers : List ℕ → List Number → List ℕ
+  row_numbers word numbers = flat_map (λ (p : ℕ × Row Number). number_line word p.1.key (number_at numbers p.0)) placed_rows
+
+  -- why no point is feasible: a column, or a combination of rows with its bound
+  abbrev pub infeasible_text : List Number → Option ℕ → List ℕ
+  infeasible_text duals (Some j) = flat_map (crossed_line names labels) (option_to_list (slice_get lp.columns j))
+  infeasible_text duals None = row_numbers (codes "row") duals ++ bound_lines limit lp duals false
+
+  -- what proves an end, or what is known of one that has no proof, after so many pivots
+  abbrev pub proof_text : ℕ → End Number → List ℕ
+  proof_text pivots (Optimal levels row_levels duals reduced) =
+      line_of (codes "PROOF Optimal") ++ column_numbers (codes "level") levels ++ row_numbers (codes "marginal") duals
+      ++ column_numbers (codes "marginal") reduced ++ bound_lines limit lp duals true
+  proof_text pivots (Infeasible duals crossed) = line_of (codes "PROOF Infeasible") ++ infeasible_text duals crossed
+  proof_text pivots (Unbounded levels row_levels ray) =
+      line_of (codes "PROOF Unbounded") ++ column_numbers (codes "point") levels ++ column_numbers (codes "ray") ray
+  proof_text pivots (Interrupted phase levels row_levels) =
+      line_of (codes "PROOF Interrupted") ++ line_of (codes "  phase " ++ decimal phase ++ codes " pivots " ++ decimal pivots)
+      ++ column_numbers (codes "point") levels
+  proof_text pivots (Refused name) = line_of (codes "PROOF Refused") ++ line_of (codes "  step " ++ step_text name)
+
+-- ---- the whole
+
+-- how many entries the rows have
+abbrev pub nonzeros : Lp Number → ℕ
+nonzeros lp = sum (map (λ (row : Row Number). length row.entries) lp.rows)
+
+-- the direction of the objective
+abbrev pub direction : Bool → List ℕ
+direction true = codes " maximizing "
+direction false = codes " minimizing "
+
+-- the counts, the solver, the statuses and the objective's level
+abbrev pub summary_text : Solved → Answer Number → List ℕ
+summary_text s answer =
+    line_of (codes "ROWS " ++ decimal (length s.lp.rows) ++ codes " COLUMNS " ++ decimal (length s.lp.columns) ++ codes " NONZEROS " ++ decimal (nonzeros s.lp))
+    ++ line_of (codes "SOLVER " ++ s.solver ++ codes " PIVOTS " ++ decimal (length answer.pivots) ++ codes " LIMIT " ++ decimal s.settings.iterlim)
+    ++ line_of (solver_status_text answer.end) ++ line_of (model_status_text answer.end) ++ line_of (codes "OBJECTIVE " ++ amount s.objective_level)
+
+module _ (names labels : List (List ℕ)) (limit : ℕ) where
+  -- the line of a solve's statement: the model, the direction and the objective
+  abbrev pub head_text : Solved → List ℕ
+  head_text s =
+      line_of (codes "---- " ++ decimal s.line ++ codes " SOLVE " ++ text_of names s.model ++ direction s.lp.maximize ++ column_text names labels limit s.lp s.lp.objective)
+
+  -- what a solve shows
+  abbrev pub solve_text : Solved → Answer Number → List ℕ
+  solve_text s answer =
+      head_text s
+      ++ rows_listing names labels limit s.lp s.settings.limrow s.equations ++ columns_listing names labels limit s.lp s.settings.limcol
+      ++ summary_text s answer
+      ++ (if s.settings.solprint then solution_text names labels limit s.lp s.equations (solution_of s.lp.objective answer.end) else [])
+      ++ proof_text names labels limit s.lp (length answer.pivots) answer.end

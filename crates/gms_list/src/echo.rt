@@ -1,0 +1,70 @@
+//! The echo of a source.
+ghost use Rattle.std.specs.Prelude.{◌≡◌, ◌∷◌, ◌<◌, length, take, map};
+ghost use Rattle.gms_lines.specs.Lines.{lines, content, before, is_line_end};
+ghost use Rattle.gms_fmt.specs.Columns.{Appends};
+ghost use Rattle.gms_list.specs.ListingText.{echo_text, numbered_line};
+ghost use Rattle.gms_list.specs.LineEnds.{behind_end};
+
+use crate::listing::Listing;
+use gms_lines::content_length;
+use std::alloc::{AllocError, Global};
+
+/// The text behind the line end with which it begins.
+fn behind_end(text: &[u8]) -> &[u8]
+    ensures { result.now ≡ behind_end text.now }
+{
+    match text {
+        [b'\r', b'\n', behind @ ..] => behind,
+        [b'\n', behind @ ..] => behind,
+        _ => &[],
+    }
+}
+
+/// The text behind its first line, of which so many bytes stand before the line end.
+fn behind_line(text: &[u8], count: usize) -> &[u8]
+    requires some { 0 < length text.now }
+    requires end { count ≡ before is_line_end text.now }
+    ensures shorter { length result.now < length text.now }
+    ensures lines { map content (lines text.now) ≡ take count text.now ∷ map content (lines result.now) }
+{
+    behind_end(&text[count..])
+}
+
+impl Listing {
+    /// Appends the lines of a source, each behind its number, from 1.
+    pub fn echo(&mut self, alloc: Global, source: &[u8]) -> Result<(), AllocError>
+        ensures { Appends result self.old self.new (echo_text 1 source.now) }
+    {
+        self.echo_from(alloc, source, 1)
+    }
+
+    /// Appends the lines of a source, each behind its number, of which the first is `line`.
+    ///
+    /// A carriage return before a line feed is dropped, and a missing last line end is supplied; all other bytes stand as they are.
+    pub fn echo_from(&mut self, alloc: Global, source: &[u8], line: u32) -> Result<(), AllocError>
+        ensures { Appends result self.old self.new (echo_text line source.now) }
+    {
+        let first = line as u128;
+        let mut rest = source;
+        // No more lines than bytes.
+        for number in first..first + source.len() as u128 {
+            if rest.is_empty() {
+                break;
+            }
+            let length = content_length(rest);
+            self.push_line(alloc, number, &rest[..length])?;
+            rest = behind_line(rest, length);
+        }
+        Ok(())
+    }
+
+    /// Appends a line behind its number.
+    fn push_line(&mut self, alloc: Global, number: u128, line: &[u8]) -> Result<(), AllocError>
+        ensures { Appends result self.old self.new (numbered_line number line.now) }
+    {
+        let number = format!(in alloc; "{number:>6}  ")?;
+        self.push(number.as_str())?;
+        self.push_bytes(line)?;
+        self.push("\n")
+    }
+}

@@ -1,0 +1,48 @@
+//! Errors of a source.
+ghost use Rattle.gms_fmt.specs.Columns.{Appends};
+ghost use Rattle.gms_list.specs.ListingText.{source_error_text, compile_error_text, compile_errors_text};
+
+use crate::listing::Listing;
+use gms_check::CompileError;
+use gms_parse::SourceFault;
+use std::alloc::{AllocError, Global};
+
+impl Listing {
+    /// Appends the line of the fault of a source that is no program.
+    pub fn source_fault(&mut self, alloc: Global, f: &SourceFault) -> Result<(), AllocError>
+        ensures { Appends result self.old self.new (source_error_text f.now) }
+    {
+        let code = f.error.code();
+        let name = f.error.name();
+        let row = f.at.line;
+        let column = f.at.column;
+        let line = format!(in alloc;
+            "*** Source error {code} {name} at line {row} column {column}\n"
+        )?;
+        self.push(line.as_str())
+    }
+
+    /// Appends the lines of the errors of a program, in order.
+    pub fn errors(&mut self, alloc: Global, e: &[CompileError]) -> Result<(), AllocError>
+        ensures { Appends result self.old self.new (compile_errors_text e.now) }
+    {
+        for error in e {
+            self.push_error(alloc, *error)?;
+        }
+        Ok(())
+    }
+
+    /// Appends the line of an error of a program.
+    fn push_error(&mut self, alloc: Global, error: CompileError) -> Result<(), AllocError>
+        ensures { Appends result self.old self.new (compile_error_text error) }
+    {
+        let code = error.kind.code();
+        let name = error.kind.name();
+        let row = error.at.line;
+        let column = error.at.column;
+        let line = format!(in alloc;
+            "*** Compile error {code} {name} at line {row} column {column}\n"
+        )?;
+        self.push(line.as_str())
+    }
+}

@@ -1,0 +1,98 @@
+//! A listing: the text so far, its beginning and its end.
+ghost use Rattle.std.specs.Prelude.{◌≡◌, [], ◌++◌, codes};
+ghost use Rattle.gms_fmt.specs.Columns.{Appends, left_in, right_in};
+ghost use Rattle.gms_list.specs.ListingText.{end_text};
+
+use gms_fmt::{left, right};
+use std::alloc::{AllocError, Global};
+use std::marker::Model;
+
+/// The text of a listing so far.
+///
+/// Each call appends the text of what it is given; after want of memory the front of that text is appended, and no more. GAMS User's
+/// Guide, "GAMS Output".
+#[derive(Debug, Drop)]
+pub struct Listing {
+    pub(crate) text: Vec<u8>,
+}
+
+impl Model for Listing {
+    ghost use Rattle.std.specs.Prelude.{List, ℕ};
+
+    ghost Value = { List ℕ };
+
+    ghost view = { λ l. l.text.items };
+}
+
+impl Listing {
+    /// An empty listing.
+    pub fn new(alloc: Global) -> Listing
+        ensures { result ≡ [] }
+    {
+        Listing {
+            text: Vec::new(alloc),
+        }
+    }
+
+    /// Takes all of the text away, and keeps its room.
+    pub fn clear(&mut self)
+        ensures { self.new ≡ [] }
+    {
+        self.text.clear();
+    }
+
+    /// The bytes of the text so far.
+    pub fn bytes(&self) -> &[u8]
+        ensures { result.now ≡ self.now }
+    {
+        self.text.as_slice()
+    }
+
+    /// Appends the last line: the status of the run, and how many solves it made.
+    pub fn close(&mut self, alloc: Global, status: u8, solves: usize) -> Result<(), AllocError>
+        ensures { Appends result self.old self.new (end_text status solves) }
+    {
+        let line = format!(in alloc; "END status {status} solves {solves}\n")?;
+        self.push(line.as_str())
+    }
+
+    /// Appends bytes.
+    pub(crate) fn push_bytes(&mut self, bytes: &[u8]) -> Result<(), AllocError>
+        ensures { Appends result self.old self.new bytes.now }
+    {
+        self.text.extend_from_slice(bytes)
+    }
+
+    /// Appends a text.
+    pub(crate) fn push(&mut self, text: &str) -> Result<(), AllocError>
+        ensures { Appends result self.old self.new text.now }
+    {
+        self.push_bytes(text.as_bytes())
+    }
+
+    /// Appends two blanks and a text left in a column of a width.
+    pub(crate) fn push_left(
+        &mut self,
+        alloc: Global,
+        text: &str,
+        width: usize,
+    ) -> Result<(), AllocError>
+        ensures { Appends result self.old self.new (codes "  " ++ left_in width text.now) }
+    {
+        self.push("  ")?;
+        left(alloc, text, width, &mut self.text)
+    }
+
+    /// Appends a blank and a text right in a column of a width.
+    pub(crate) fn push_right(
+        &mut self,
+        alloc: Global,
+        text: &str,
+        width: usize,
+    ) -> Result<(), AllocError>
+        ensures { Appends result self.old self.new (codes " " ++ right_in width text.now) }
+    {
+        self.push(" ")?;
+        right(alloc, text, width, &mut self.text)
+    }
+}

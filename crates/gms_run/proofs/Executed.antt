@@ -1,0 +1,95 @@
+-- A statement that was executed is listed.
+use Rattle.std.proofs.Common.{◌≡◌, ℕ, true, false, List, [], ◌∷◌, ◌++◌, map, Some, None, Result, Ok, Err, refl, sym, ap, ◌∙◌, subst, append_assoc, append-nil}
+use Rattle.std.specs.List.{All}
+use Rattle.std.proofs.lemmas.Grind.{flat_map-append}
+use Rattle.std.proofs.lemmas.List.Elements.{All-weaker}
+use Rattle.gq_number.specs.Number.{Number}
+use Rattle.gq_frac.specs.declared.frac.Frac.{Frac}
+use Rattle.gq_frac.specs.Frac.{frac_value}
+use Rattle.gms_ast.specs.declared.program.Program.{Program}
+use Rattle.gms_eval.specs.declared.stop.StopOrMemory.{StopOrMemory}
+use Rattle.gms_eval.specs.declared.stop.StopOrMemory.TheVariants.{Stop}
+use Rattle.gms_eval.specs.declared.stop.ExecStop.{ExecStop}
+use Rattle.gms_eval.specs.Gives.{fault_of}
+use Rattle.gms_event.specs.declared.event.Event.{Event as OwnEvent}
+use Rattle.gms_event.specs.Events.{Event, stops}
+use Rattle.gms_event.specs.EventView.{events_in}
+use Rattle.lp_core.specs.declared.answer.Answer.{Answer}
+use Rattle.lp_core.specs.declared.answer.Rule.{Rule}
+use Rattle.lp_core.specs.Numbers.{answer_numbers}
+use Rattle.gms_exec.specs.Run.{Course}
+use Rattle.gms_exec.specs.Standing.{IsStanding, ShowsStanding}
+use Rattle.gms_exec.specs.Walks.{Runs, Seen, come_to}
+use Rattle.gms_exec.proofs.Behind.{behind}
+use Rattle.gms_list.specs.Conditions.{IsListable}
+use Rattle.gms_list.specs.ListingText.{event_text, events_text}
+use Rattle.gms_run.specs.Answers.{number_limit}
+use Rattle.gms_run.proofs.Paths.{Grew}
+use Rattle.gms_run.proofs.Proved.{listable}
+use Rattle.gms_run.specs.Steps.{Between, IsListed, course_at}
+
+-- what was shown stands, where nothing was shown before
+pub all_stand : (rules : List Rule) (answers : List (Answer Frac)) (before events : List (OwnEvent Frac)) → before ≡ [] → ShowsStanding frac_value number_limit rules answers before events → All (IsStanding frac_value number_limit rules answers) events
+all_stand rules answers before events none shows =
+    subst (All (IsStanding frac_value number_limit rules answers)) (sym (shows.events ∙ ap (λ es. es ++ shows.shown) none)) shows.standing
+
+-- what stands can be listed
+pub all_listable : (rules : List Rule) (answers : List (Answer Frac)) (events : List (OwnEvent Frac)) → All (IsStanding frac_value number_limit rules answers) events → All (IsListable frac_value answers) events
+all_listable rules answers events are =
+    All-weaker (IsStanding frac_value number_limit rules answers) (IsListable frac_value answers) (listable frac_value number_limit rules answers) events are
+
+module _ (program : Program Frac) (rules : List Rule) (does : Course → Course) (old new : Between) (events : List (OwnEvent Frac)) (is_behind : (front : List Event) (c : Course) → does (behind front c) ≡ behind front (does c)) where
+  abbrev numbers : List (Answer Number)
+  numbers = map (answer_numbers frac_value) new.answers
+
+  abbrev seen_old : Seen Frac
+  seen_old = record { state = old.state; events = []; answers = old.answers }
+
+  abbrev seen_before : List (OwnEvent Frac) → Seen Frac
+  seen_before before = record { state = old.state; events = before; answers = old.answers }
+
+  abbrev seen_new : Seen Frac
+  seen_new = record { state = new.state; events = events; answers = new.answers }
+
+  -- behind events that were shown before the run does the same
+  behind_front : (front : List Event) (left : List (Answer Number)) → does (course_at old front left None) ≡ behind front (does (come_to frac_value seen_old left))
+  behind_front front left = ap (λ es. does (course_at old es left None)) (sym (append-nil front)) ∙ is_behind front (come_to frac_value seen_old left)
+
+  -- A statement that was executed goes on.
+  pub listed_on : {A : Type 0} (x : A) (none : List (OwnEvent Frac)) (before after : List ℕ) → none ≡ [] → Runs frac_value (let r : Result A (StopOrMemory Frac) = Ok x in r) does (seen_before none) seen_new → All (IsStanding frac_value number_limit rules new.answers) events → Grew old.paths new.paths new.answers (events_in frac_value events) →
+      after ≡ before ++ events_text program.names program.labels number_limit numbers (events_in frac_value events) → IsListed true does program rules old new before after
+  listed_on {A} x none before after e given standing grown text =
+      let runs : Runs frac_value (let r : Result A (StopOrMemory Frac) = Ok x in r) does seen_old seen_new = subst (λ es. Runs frac_value (let r : Result A (StopOrMemory Frac) = Ok x in r) does (seen_before es) seen_new) e given in
+      record {
+        shown = events;
+        fault = None;
+        end = refl;
+        fresh = runs.fresh;
+        answers = runs.answers;
+        standing = standing;
+        grown = grown;
+        comes = λ front more. behind_front front (map (answer_numbers frac_value) runs.fresh ++ more) ∙ ap (behind front) (runs.comes more);
+        text = text ∙ ap (λ es. before ++ events_text program.names program.labels number_limit numbers es) (sym (append-nil (events_in frac_value events)));
+      }
+
+  -- A statement that a stop ended is listed with its fault.
+  pub listed_stop : {A : Type 0} (stop : ExecStop Frac) (none : List (OwnEvent Frac)) (before middle after : List ℕ) → none ≡ [] → Runs frac_value (let r : Result A (StopOrMemory Frac) = Err (Stop stop) in r) does (seen_before none) seen_new → All (IsStanding frac_value number_limit rules new.answers) events → Grew old.paths new.paths new.answers (events_in frac_value events) →
+      middle ≡ before ++ events_text program.names program.labels number_limit numbers (events_in frac_value events) →
+      after ≡ middle ++ event_text program.names program.labels number_limit numbers (stops (fault_of frac_value stop)) → IsListed false does program rules old new before after
+  listed_stop {A} stop none before middle after e given standing grown text more =
+      let runs : Runs frac_value (let r : Result A (StopOrMemory Frac) = Err (Stop stop) in r) does seen_old seen_new = subst (λ es. Runs frac_value (let r : Result A (StopOrMemory Frac) = Err (Stop stop) in r) does (seen_before es) seen_new) e given in
+      let fault = fault_of frac_value stop in
+      let one : List Event → List ℕ = events_text program.names program.labels number_limit numbers in
+      let last : List ℕ = event_text program.names program.labels number_limit numbers (stops fault) in
+      record {
+        shown = events;
+        fault = Some fault;
+        end = (fault, refl);
+        fresh = runs.fresh;
+        answers = runs.answers;
+        standing = standing;
+        grown = grown;
+        comes = λ front left. behind_front front (map (answer_numbers frac_value) runs.fresh ++ left) ∙ ap (behind front) (runs.comes left);
+        text = more ∙ ap (λ t. t ++ last) text ∙ append_assoc before (one (events_in frac_value events)) last
+            ∙ ap (λ t. before ++ t) (ap (λ t. one (events_in frac_value events) ++ t) (sym (append-nil last)) ∙ sym (flat_map-append (event_text program.names program.labels number_limit numbers) (events_in frac_value events) (stops fault ∷ [])));
+      }

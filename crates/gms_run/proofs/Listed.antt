@@ -1,0 +1,170 @@
+-- Statements that are executed and listed one after another.
+use Rattle.std.proofs.Common.{◌≡◌, ℕ, Bool, true, List, [], ◌∷◌, ◌++◌, map, take, drop, Option, Some, None, refl, sym, ap, ◌∙◌, subst, append_assoc, append-nil, take-append-drop}
+use Rattle.std.specs.Prelude.{option_map, option_to_list, slice_get, flat_map}
+use Rattle.std.specs.List.{All}
+use Rattle.std.proofs.lemmas.List.Elements.{All-nil, All-cons, All-head, All-tail, All-append}
+use Rattle.std.proofs.lemmas.List.{map-append}
+use Rattle.std.proofs.lemmas.List.Sums.{fold-append}
+use Rattle.std.proofs.lemmas.Grind.{flat_map-append}
+use Rattle.std.proofs.lemmas.Option.{slice_get-map}
+use Rattle.gq_number.specs.Number.{Number}
+use Rattle.gq_frac.specs.declared.frac.Frac.{Frac}
+use Rattle.gq_frac.specs.Frac.{frac_value}
+use Rattle.gms_ast.specs.declared.program.Program.{Program}
+use Rattle.gms_event.specs.declared.event.Event.{Event as OwnEvent}
+use Rattle.gms_event.specs.declared.event.Event.TheVariants as event
+use Rattle.gms_event.specs.Events.{Event, Solved}
+use Rattle.gms_event.specs.EventView.{events_in, event_in}
+use Rattle.lp_core.specs.declared.answer.Answer.{Answer}
+use Rattle.lp_core.specs.declared.answer.Rule.{Rule}
+use Rattle.lp_core.specs.Numbers.{answer_numbers, lp_numbers}
+use Rattle.gms_exec.specs.Run.{Course, Halt, OfStatement, stopped, last_event, while_it_runs, one_after_another}
+use Rattle.gms_exec.specs.Standing.{IsStanding}
+use Rattle.gms_exec.proofs.Standing.{answered_by_standing}
+use Rattle.gms_list.specs.ListingText.{event_text, events_text}
+use Rattle.gms_list.specs.SolveText.{solve_text}
+use Rattle.gms_run.specs.Answers.{number_limit}
+use Rattle.gms_run.specs.Steps.{Between, IsListed, course_at}
+use Rattle.gms_run.proofs.Paths.{Grew, grew_none, grew_more, stands-more}
+
+module _ (rules : List Rule) where
+  abbrev Stands : List (Answer Frac) → OwnEvent Frac → Type 0
+  Stands answers e = IsStanding frac_value number_limit rules answers e
+
+  -- what stands with some answers stands with more
+  standing-more : (answers more : List (Answer Frac)) (e : OwnEvent Frac) → Stands answers e → Stands (answers ++ more) e
+  standing-more answers more (event.Display line items) is = is
+  standing-more answers more (event.Abort line items) is = is
+  standing-more answers more (event.Fault stop) is = is
+  standing-more answers more (event.Solve line model equations lp answer solver settings level) is =
+      record {
+        formed = is.formed;
+        given = is.given;
+        stands = stands-more answers more answer is.given is.stands;
+        rule = is.rule;
+        chosen = is.chosen;
+        is_answer = is.is_answer;
+      }
+
+  pub all_standing-more : (answers more : List (Answer Frac)) (es : List (OwnEvent Frac)) → All (Stands answers) es → All (Stands (answers ++ more)) es
+  all_standing-more answers more [] is = All-nil (Stands (answers ++ more))
+  all_standing-more answers more (e ∷ es) is =
+      All-cons (Stands (answers ++ more)) e es (standing-more answers more e (All-head (Stands answers) e es is)) (all_standing-more answers more es (All-tail (Stands answers) e es is))
+
+  module _ (names labels : List (List ℕ)) where
+    abbrev texts : List (Answer Frac) → List Event → List ℕ
+    texts answers es = events_text names labels number_limit (map (answer_numbers frac_value) answers) es
+
+    abbrev one_text : List (Answer Frac) → Event → List ℕ
+    one_text answers e = event_text names labels number_limit (map (answer_numbers frac_value) answers) e
+
+    -- an event has the same text where more answers were given
+    text-more : (answers more : List (Answer Frac)) (e : OwnEvent Frac) → Stands answers e → one_text (answers ++ more) (event_in frac_value e) ≡ one_text answers (event_in frac_value e)
+    text-more answers more (event.Display line items) is = refl
+    text-more answers more (event.Abort line items) is = refl
+    text-more answers more (event.Fault stop) is = refl
+    text-more answers more (event.Solve line model equations lp answer solver settings level) is =
+        let given = answer_numbers frac_value is.given in
+        let old : slice_get (map (answer_numbers frac_value) answers) answer ≡ Some given = slice_get-map (answer_numbers frac_value) answers answer ∙ ap (option_map (answer_numbers frac_value)) is.stands in
+        let new : slice_get (map (answer_numbers frac_value) (answers ++ more)) answer ≡ Some given = slice_get-map (answer_numbers frac_value) (answers ++ more) answer ∙ ap (option_map (answer_numbers frac_value)) (stands-more answers more answer is.given is.stands) in
+        let solved : Solved = record { line = line; model = model; equations = equations; lp = lp_numbers frac_value lp; answer = answer; solver = solver; settings = settings; objective_level = frac_value level } in
+        ap (λ o. flat_map (solve_text names labels number_limit solved) (option_to_list o)) (new ∙ sym old)
+
+    texts-more : (answers more : List (Answer Frac)) (es : List (OwnEvent Frac)) → All (Stands answers) es → texts (answers ++ more) (events_in frac_value es) ≡ texts answers (events_in frac_value es)
+    texts-more answers more [] is = refl
+    texts-more answers more (e ∷ es) is =
+        ap (λ t. t ++ texts (answers ++ more) (events_in frac_value es)) (text-more answers more e (All-head (Stands answers) e es is)) ∙ ap (λ t. one_text answers (event_in frac_value e) ++ t) (texts-more answers more es (All-tail (Stands answers) e es is))
+
+-- nothing was executed
+pub listed_none : (program : Program Frac) (rules : List Rule) (now : Between) (text : List ℕ) → IsListed true (λ c. c) program rules now now text text
+listed_none program rules now text =
+    record {
+      shown = [];
+      fault = None;
+      end = refl;
+      fresh = [];
+      answers = sym (append-nil now.answers);
+      standing = All-nil (IsStanding frac_value number_limit rules now.answers);
+      grown = grew_none now.paths now.answers;
+      comes = λ events more. ap (λ es. course_at now es more None) (sym (append-nil events));
+      text = sym (append-nil text);
+    }
+
+-- One more was executed behind others.
+pub listed_more : (program : Program Frac) (rules : List Rule) (goes_on : Bool) (first next : Course → Course) (a b c : Between) (x y z : List ℕ) →
+    IsListed true first program rules a b x y → IsListed goes_on next program rules b c y z → IsListed goes_on (λ course. while_it_runs next (first course)) program rules a c x z
+listed_more program rules goes_on first next a b c x y z p q =
+    record {
+      shown = p.shown ++ q.shown;
+      fault = q.fault;
+      end = q.end;
+      fresh = p.fresh ++ q.fresh;
+      answers = q.answers ∙ ap (λ given. given ++ q.fresh) p.answers ∙ append_assoc a.answers p.fresh q.fresh;
+      standing = All-append (IsStanding frac_value number_limit rules c.answers) p.shown q.shown (subst (λ given. All (IsStanding frac_value number_limit rules given) p.shown) (sym q.answers) (all_standing-more rules b.answers q.fresh p.shown p.standing)) q.standing;
+      grown = grown;
+      comes = comes;
+      text = q.text ∙ ap (λ t. t ++ last) before ∙ append_assoc x (texts_of c.answers p.shown) last ∙ ap (λ t. x ++ t) joined;
+    }
+  where
+    numbers : List (Answer Frac) → List (Answer Number)
+    numbers answers = map (answer_numbers frac_value) answers
+
+    texts_of : List (Answer Frac) → List (OwnEvent Frac) → List ℕ
+    texts_of answers es = events_text program.names program.labels number_limit (numbers answers) (events_in frac_value es)
+
+    stop : List Event
+    stop = last_event (option_map stopped q.fault)
+
+    last : List ℕ
+    last = events_text program.names program.labels number_limit (numbers c.answers) (events_in frac_value q.shown ++ stop)
+
+    -- nothing stopped what came first
+    going : p.fault ≡ None
+    going = p.end
+
+    ends_so : events_in frac_value p.shown ++ last_event (option_map stopped p.fault) ≡ events_in frac_value p.shown
+    ends_so = ap (λ f. events_in frac_value p.shown ++ last_event (option_map stopped f)) going ∙ append-nil (events_in frac_value p.shown)
+
+    same : texts_of c.answers p.shown ≡ texts_of b.answers p.shown
+    same = ap (λ given. texts_of given p.shown) q.answers ∙ texts-more rules program.names program.labels b.answers q.fresh p.shown p.standing
+
+    before : y ≡ x ++ texts_of c.answers p.shown
+    before = p.text ∙ ap (λ es. x ++ events_text program.names program.labels number_limit (numbers b.answers) es) ends_so ∙ ap (λ t. x ++ t) (sym same)
+
+    joined : texts_of c.answers p.shown ++ last ≡ events_text program.names program.labels number_limit (numbers c.answers) (events_in frac_value (p.shown ++ q.shown) ++ stop)
+    joined =
+        sym (flat_map-append (event_text program.names program.labels number_limit (numbers c.answers)) (events_in frac_value p.shown) (events_in frac_value q.shown ++ stop))
+        ∙ ap (events_text program.names program.labels number_limit (numbers c.answers)) (sym (append_assoc (events_in frac_value p.shown) (events_in frac_value q.shown) stop) ∙ ap (λ es. es ++ stop) (sym (map-append (event_in frac_value) p.shown q.shown)))
+
+    grown : Grew a.paths c.paths c.answers (events_in frac_value (p.shown ++ q.shown))
+    grown =
+        subst (Grew a.paths c.paths c.answers) (sym (map-append (event_in frac_value) p.shown q.shown))
+        (grew_more rules a.paths b.paths c.paths b.answers q.fresh c.answers (events_in frac_value p.shown) (events_in frac_value q.shown) q.answers
+        (answered_by_standing frac_value number_limit rules b.answers p.shown p.standing) p.grown q.grown)
+
+    comes : (events : List Event) (more : List (Answer Number)) →
+        while_it_runs next (first (course_at a events (numbers (p.fresh ++ q.fresh) ++ more) None)) ≡ course_at c (events ++ events_in frac_value (p.shown ++ q.shown)) more q.fault
+    comes events more =
+        let left : numbers (p.fresh ++ q.fresh) ++ more ≡ numbers p.fresh ++ (numbers q.fresh ++ more) = ap (λ given. given ++ more) (map-append (answer_numbers frac_value) p.fresh q.fresh) ∙ append_assoc (numbers p.fresh) (numbers q.fresh) more in
+        let mid : first (course_at a events (numbers (p.fresh ++ q.fresh) ++ more) None) ≡ course_at b (events ++ events_in frac_value p.shown) (numbers q.fresh ++ more) None =
+        ap (λ l. first (course_at a events l None)) left ∙ p.comes events (numbers q.fresh ++ more) ∙ ap (course_at b (events ++ events_in frac_value p.shown) (numbers q.fresh ++ more)) going in
+        ap (while_it_runs next) mid ∙ q.comes (events ++ events_in frac_value p.shown) more
+        ∙ ap (λ es. course_at c es more q.fault) (append_assoc events (events_in frac_value p.shown) (events_in frac_value q.shown) ∙ ap (λ es. events ++ es) (sym (map-append (event_in frac_value) p.shown q.shown)))
+
+-- ---- statements of a list
+
+-- a run that was halted stays
+pub halted_stays : (ss : List OfStatement) (binding : _) (c : Course) (h : Halt) → c.halted ≡ Some h → one_after_another ss binding c ≡ c
+halted_stays [] binding c h e = refl
+halted_stays (s ∷ ss) binding c h e =
+    let same : while_it_runs (s binding) c ≡ c = ap (λ (o : Option Halt). elim o [ None ↦ s binding c | Some halt ↦ c ]) e in
+    ap (one_after_another ss binding) same ∙ halted_stays ss binding c h e
+
+-- one statement more
+pub one_more : (ss : List OfStatement) (s : OfStatement) (binding : _) (c : Course) → one_after_another (ss ++ s ∷ []) binding c ≡ while_it_runs (s binding) (one_after_another ss binding c)
+one_more ss s binding c = fold-append (λ course statement. while_it_runs (statement binding) course) c ss (s ∷ [])
+
+-- the statements of a list up to a place, and those behind it
+pub in_two : (ss : List OfStatement) (i : ℕ) (binding : _) (c : Course) → one_after_another ss binding c ≡ one_after_another (drop i ss) binding (one_after_another (take i ss) binding c)
+in_two ss i binding c =
+    ap (λ xs. one_after_another xs binding c) (sym (take-append-drop i ss)) ∙ fold-append (λ course statement. while_it_runs (statement binding) course) c (take i ss) (drop i ss)

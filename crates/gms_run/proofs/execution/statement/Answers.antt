@@ -1,0 +1,96 @@
+use Rattle.std.proofs.Common.{◌++◌, ◌∙◌, [], map, ap, subst, Ok, Result, Err}
+use Rattle.gq_frac.specs.Frac.{frac_value}
+use Rattle.gq_frac.specs.declared.frac.Frac.{Frac}
+use Rattle.gms_eval.specs.declared.stop.StopOrMemory.{StopOrMemory}
+use Rattle.gms_eval.specs.declared.stop.StopOrMemory.TheVariants.{Stop}
+use Rattle.gms_eval.specs.Gives.{fault_of}
+use Rattle.gms_event.specs.Events.{stops}
+use Rattle.gms_event.specs.EventView.{events_in}
+use Rattle.lp_core.specs.Numbers.{answer_numbers}
+use Rattle.gms_exec.proofs.Behind.{behind_statement}
+use Rattle.gms_exec.specs.Run.{of_statement}
+use Rattle.gms_exec.specs.Walks.{Runs}
+use Rattle.gms_list.specs.ListingText.{event_text, events_text}
+use Rattle.gms_run.specs.Answers.{number_limit}
+use Rattle.gms_run.proofs.Executed.{all_stand, all_listable, listed_on, listed_stop}
+use Rattle.gms_run.proofs.Paths.{grew_answered}
+use Rattle.gms_run.proofs.execution.statement.Goals as goal
+
+pub list_events-requires : goal.list_events-requires
+list_events-requires g c =
+    let rules = map (λ b. (goal.LpSolver-dyn g (b.vtable, b.value)).rule b.value) c.args.solvers.now.items in
+    rw (c.deref.ensures.value, c.deref-in-Ok.ensures.value)
+    (all_listable rules c.step.new.answers.items c.step.new.events.items (all_stand rules c.step.new.answers.items c.new-events.result.items c.step.new.events.items c.new-events.ensures.items c.in-Ok.ensures.standing))
+
+pub returns-in-Ok-clause-listed : goal.returns-in-Ok-clause-listed
+returns-in-Ok-clause-listed g c =
+    let program = c.args.program.now in
+    let names = map (λ b. (goal.LpSolver-dyn g (b.vtable, b.value)).name b.value) c.args.solvers.now.items in
+    let rules = map (λ b. (goal.LpSolver-dyn g (b.vtable, b.value)).rule b.value) c.args.solvers.now.items in
+    let answers = c.step.new.answers.items in
+    let events = c.step.new.events.items in
+    let before = c.args.listing.now in
+    listed_on program rules (of_statement frac_value number_limit (record { program = program; solvers = names }) c.args.s.now []) (record { state = c.args.store.now; answers = c.args.answers.now.items; paths = map (λ b. (goal.LpSolver-dyn g (b.vtable, b.value)).paths b.value) c.args.solvers.now.items })
+    (record { state = c.step.new.store; answers = answers; paths = map (λ b. (goal.LpSolver-dyn g (b.vtable, b.value)).paths b.value) c.step.new.solvers.items }) events
+    (λ front course. behind_statement frac_value number_limit (record { program = program; solvers = names }) c.args.s.now front [] course)
+    c.in-Ok.field-0 c.new-events.result.items before c.list_events.new.listing c.new-events.ensures.items
+    (subst (λ b. Runs frac_value (let r : Result (Unit {0}) (StopOrMemory Frac) = Ok c.in-Ok.field-0 in r) (of_statement frac_value number_limit (record { program = program; solvers = names }) c.args.s.now b) (record { state = c.args.store.now; events = c.new-events.result.items; answers = c.args.answers.now.items }) (record { state = c.step.new.store; events = events; answers = answers })) c.new-none.ensures c.in-Ok.ensures.runs)
+    (all_stand rules answers c.new-events.result.items events c.new-events.ensures.items c.in-Ok.ensures.standing)
+    (grew_answered (λ b. (goal.LpSolver-dyn g (b.vtable, b.value)).name b.value) (λ b. (goal.LpSolver-dyn g (b.vtable, b.value)).rule b.value) (λ b. (goal.LpSolver-dyn g (b.vtable, b.value)).paths b.value) c.args.solvers.now.items c.step.new.solvers.items answers
+    c.new-events.result.items events c.new-events.ensures.items c.in-Ok.ensures.solvers)
+    (c.in_ok-list_events-in-Ok.ensures
+    ∙ ap (λ es. before ++ events_text program.names program.labels number_limit (map (answer_numbers frac_value) c.deref-in-Ok.result.now) (events_in frac_value es)) c.deref.ensures.value
+    ∙ ap (λ all. before ++ events_text program.names program.labels number_limit (map (answer_numbers frac_value) all) (events_in frac_value events)) c.deref-in-Ok.ensures.value)
+
+pub returns-in-Ok-clause-names : goal.returns-in-Ok-clause-names
+returns-in-Ok-clause-names g c = c.in-Ok.ensures.solvers.names
+
+pub returns-in-Ok-clause-rules : goal.returns-in-Ok-clause-rules
+returns-in-Ok-clause-rules g c = c.in-Ok.ensures.solvers.rules
+
+pub returns-in-Ok-clause-settings : goal.returns-in-Ok-clause-settings
+returns-in-Ok-clause-settings g c = c.in-Ok.ensures.settings
+
+pub returns-in-Ok-clause-plain : goal.returns-in-Ok-clause-plain
+returns-in-Ok-clause-plain g c = c.in-Ok.ensures.plain
+
+-- the arm of a stop: the names `field-0-is`, `deref-in-Err-Stop`, `deref-in-Err-Stop-2`, `deref-in-Err-Stop-3`, `list_events-in-Err-Stop` and `event` in it were not seen
+pub list_events-requires-in-Err-Stop : goal.list_events-requires-in-Err-Stop
+list_events-requires-in-Err-Stop g c =
+    let rules = map (λ b. (goal.LpSolver-dyn g (b.vtable, b.value)).rule b.value) c.args.solvers.now.items in
+    rw (c.deref-in-Err-Stop.ensures.value, c.deref-in-Err-Stop-2.ensures.value)
+    (all_listable rules c.step.new.answers.items c.step.new.events.items (all_stand rules c.step.new.answers.items c.new-events.result.items c.step.new.events.items c.new-events.ensures.items (rw c.in-Err-Stop.field-0-is at c.in-Err-Stop.ensures.standing)))
+
+pub returns-clause-listed : goal.returns-clause-listed
+returns-clause-listed g c =
+    let program = c.args.program.now in
+    let names = map (λ b. (goal.LpSolver-dyn g (b.vtable, b.value)).name b.value) c.args.solvers.now.items in
+    let rules = map (λ b. (goal.LpSolver-dyn g (b.vtable, b.value)).rule b.value) c.args.solvers.now.items in
+    let answers = c.step.new.answers.items in
+    let events = c.step.new.events.items in
+    let before = c.args.listing.now in
+    listed_stop program rules (of_statement frac_value number_limit (record { program = program; solvers = names }) c.args.s.now []) (record { state = c.args.store.now; answers = c.args.answers.now.items; paths = map (λ b. (goal.LpSolver-dyn g (b.vtable, b.value)).paths b.value) c.args.solvers.now.items })
+    (record { state = c.step.new.store; answers = answers; paths = map (λ b. (goal.LpSolver-dyn g (b.vtable, b.value)).paths b.value) c.step.new.solvers.items }) events
+    (λ front course. behind_statement frac_value number_limit (record { program = program; solvers = names }) c.args.s.now front [] course)
+    c.in-Err-Stop.stop c.new-events.result.items before c.list_events-in-Err-Stop.new.listing c.event.new.self c.new-events.ensures.items
+    (subst (λ b. Runs frac_value (let r : Result (Unit {0}) (StopOrMemory Frac) = Err (Stop c.in-Err-Stop.stop) in r) (of_statement frac_value number_limit (record { program = program; solvers = names }) c.args.s.now b) (record { state = c.args.store.now; events = c.new-events.result.items; answers = c.args.answers.now.items }) (record { state = c.step.new.store; events = events; answers = answers })) c.new-none.ensures (rw c.in-Err-Stop.field-0-is at c.in-Err-Stop.ensures.runs))
+    (all_stand rules answers c.new-events.result.items events c.new-events.ensures.items (rw c.in-Err-Stop.field-0-is at c.in-Err-Stop.ensures.standing))
+    (grew_answered (λ b. (goal.LpSolver-dyn g (b.vtable, b.value)).name b.value) (λ b. (goal.LpSolver-dyn g (b.vtable, b.value)).rule b.value) (λ b. (goal.LpSolver-dyn g (b.vtable, b.value)).paths b.value) c.args.solvers.now.items c.step.new.solvers.items answers
+    c.new-events.result.items events c.new-events.ensures.items (rw c.in-Err-Stop.field-0-is at c.in-Err-Stop.ensures.solvers))
+    (c.in_ok-list_events-in-Err-Stop.ensures
+    ∙ ap (λ es. before ++ events_text program.names program.labels number_limit (map (answer_numbers frac_value) c.deref-in-Err-Stop-2.result.now) (events_in frac_value es)) c.deref-in-Err-Stop.ensures.value
+    ∙ ap (λ all. before ++ events_text program.names program.labels number_limit (map (answer_numbers frac_value) all) (events_in frac_value events)) c.deref-in-Err-Stop-2.ensures.value)
+    (c.in_ok-event-in-Err-Stop.ensures
+    ∙ ap (λ all. c.list_events-in-Err-Stop.new.listing ++ event_text program.names program.labels number_limit (map (answer_numbers frac_value) all) (stops (fault_of frac_value c.in-Err-Stop.stop))) c.deref-in-Err-Stop-3.ensures.value)
+
+pub returns-clause-names : goal.returns-clause-names
+returns-clause-names g c = (rw c.in-Err-Stop.field-0-is at c.in-Err-Stop.ensures.solvers).names
+
+pub returns-clause-rules : goal.returns-clause-rules
+returns-clause-rules g c = (rw c.in-Err-Stop.field-0-is at c.in-Err-Stop.ensures.solvers).rules
+
+pub returns-clause-settings : goal.returns-clause-settings
+returns-clause-settings g c = rw c.in-Err-Stop.field-0-is at c.in-Err-Stop.ensures.settings
+
+pub returns-clause-plain : goal.returns-clause-plain
+returns-clause-plain g c = rw c.in-Err-Stop.field-0-is at c.in-Err-Stop.ensures.plain

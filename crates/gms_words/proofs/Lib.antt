@@ -1,0 +1,5 @@
+mod Faultless
+mod Lines
+mod PlainWords
+mod Rows
+mod Sizes

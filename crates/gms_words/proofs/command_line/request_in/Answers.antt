@@ -1,0 +1,26 @@
+use Rattle.std.proofs.Common.{◌≡◌, ◌∙◌, Some, None, option_map, sym, ap, ap₂, rules, codes}
+use Rattle.clap.specs.Matches.{found_of}
+use Rattle.clap.specs.Walk.{first_of, rows_of}
+use Rattle.clap.proofs.WalkLemmas.{first_value-rows}
+use Rattle.gms_words.specs.CommandLine.{asked, asked_by, origin, origin_of}
+use Rattle.gms_words.proofs.command_line.request_in.Goals as goal
+
+pub returns-in_err-source : goal.returns-in_err-source
+returns-in_err-source c =
+    let rows = rows_of (found_of c.args.matches.now) in
+    let file = c.get_str.ensures ∙ first_value-rows (found_of c.args.matches.now) (codes "file") in
+    let size = c.get_str-2.ensures ∙ first_value-rows (found_of c.args.matches.now) (codes "generate") in
+    let none : c.source_of.result ≡ None = search rules in
+    let gives : c.from_residual.result ≡ None = search rules in
+    let found : None ≡ origin_of (first_of (codes "file") rows) (first_of (codes "generate") rows) = sym (ap (option_map origin) none) ∙ c.source_of.ensures ∙ ap₂ origin_of file size in
+    ap (option_map asked_by) gives ∙ ap (option_map (asked (first_of (codes "out") rows))) found
+
+pub returns : goal.returns
+returns c =
+    let rows = rows_of (found_of c.args.matches.now) in
+    let file = c.get_str.ensures ∙ first_value-rows (found_of c.args.matches.now) (codes "file") in
+    let size = c.get_str-2.ensures ∙ first_value-rows (found_of c.args.matches.now) (codes "generate") in
+    let out = c.get_str-out.ensures ∙ first_value-rows (found_of c.args.matches.now) (codes "out") in
+    let some : c.source_of.result ≡ Some c.in_ok-source.source = search rules in
+    let found : Some (origin c.in_ok-source.source) ≡ origin_of (first_of (codes "file") rows) (first_of (codes "generate") rows) = sym (ap (option_map origin) some) ∙ c.source_of.ensures ∙ ap₂ origin_of file size in
+    ap₂ (λ o s. option_map (asked o) s) out found

@@ -1,0 +1,109 @@
+-- The words of the command line, what they ask for, and what is said on standard output.
+use Rattle.std.specs.Prelude.{ℕ, ◌-◌, true, if◌then◌else◌, List, [], ◌∷◌, ◌++◌, length, take, drop, map, find, Option, Some, None, option_map, option_and_then, unwrap_or, string_bytes, codes, decimal}
+use Rattle.std.specs.declared.string.String.{String}
+use Rattle.std.specs.List.{range_with_len}
+use Rattle.std.specs.Str.{bytes_eq}
+use Rattle.clap.specs.Simple.{on_top}
+use Rattle.clap.specs.Words.{App, Row, Rule, first_of, matches_of, new_app, new_rule, takes, with_rule}
+use Rattle.gms_words.specs.declared.command_line.Source.{Source}
+use Rattle.gms_words.specs.declared.command_line.Source.TheVariants.{File, Generate}
+use Rattle.gms_words.specs.declared.command_line.Request.{Request}
+
+-- a line: a text and a line feed behind it
+abbrev pub line_of : List ℕ → List ℕ
+line_of text = text ++ 10 ∷ []
+
+-- the texts of the command's words
+abbrev pub texts : {A : Type 0} → List (String A) → List (List ℕ)
+texts words = map string_bytes words
+
+-- ---- the command
+
+-- an option of a name, with one value
+abbrev pub option : List ℕ → Rule
+option name = record (new_rule name) { long = Some name }
+
+-- the command: a FILE, which may be left out, `--out` with one value, and `--generate` with one value; its words are without the program's name
+abbrev pub gams25 : App
+gams25 =
+    with_rule (with_rule (with_rule (on_top (λ s. record s { no_binary_name = true }) (new_app (codes "gams25"))) (new_rule (codes "file"))) (option (codes "out"))) (option (codes "generate"))
+
+-- what the command finds in the words, where it takes them
+abbrev pub rows_taken : List (List ℕ) → Option (List Row)
+rows_taken words = if takes gams25 words then Some (matches_of gams25 words) else None
+
+-- ---- what words ask for
+
+-- the size of a generated model that a text names: the number from 1 to 30 whose decimal digits it is
+abbrev pub size_of : List ℕ → Option ℕ
+size_of text = find (λ size. bytes_eq (decimal size) text) (range_with_len 1 30)
+
+-- where a source comes from: the file of a name, or a generated model of a size
+pub data Origin : Type 0 where
+  in_file : List ℕ → Origin
+  generated : ℕ → Origin
+
+-- the source that a FILE or a number to generate names, where exactly one of them is there
+abbrev pub origin_of : Option (List ℕ) → Option (List ℕ) → Option Origin
+origin_of (Some file) None = Some (in_file file)
+origin_of None (Some text) = option_map generated (size_of text)
+origin_of _ _ = None
+
+-- the name of the output after a file: FILE with a last `.gms` replaced by `.lst`, or with `.lst` behind it where it does not end so
+abbrev pub output_name : List ℕ → List ℕ
+output_name file =
+    if bytes_eq (drop (length file - 4) file) (codes ".gms") then take (length file - 4) file ++ codes ".lst" else file ++ codes ".lst"
+
+-- the name of the output that comes of the source
+abbrev pub own_output : Origin → List ℕ
+own_output (in_file file) = output_name file
+own_output (generated size) = codes "generate.lst"
+
+-- What accepted words ask for: a source, and the name of the output.
+pub record Asked : Type 0 where
+  pub source : Origin
+  pub output : List ℕ
+
+-- the output has the name that `--out` gives it, or else that which comes of the source
+abbrev pub asked : Option (List ℕ) → Origin → Asked
+asked out source = record { source = source; output = unwrap_or out (own_output source) }
+
+-- what the command's matches ask for, where they name exactly one source
+abbrev pub request_in : List Row → Option Asked
+request_in rows =
+    option_map (asked (first_of (codes "out") rows)) (origin_of (first_of (codes "file") rows) (first_of (codes "generate") rows))
+
+-- what the words ask for; they are accepted where the command takes them and they name exactly one source
+abbrev pub request_of : List (List ℕ) → Option Asked
+request_of words = option_and_then request_in (rows_taken words)
+
+-- ---- what the program makes of them
+
+-- the source, as a name or a number
+abbrev pub origin : Source → Origin
+origin (File name) = in_file name.now
+origin (Generate size) = generated size
+
+-- what a request asks for
+abbrev pub asked_by : Request → Asked
+asked_by request = asked (option_map (λ name. name.now) request.out) (origin request.source)
+
+-- ---- lines
+
+-- what is said where the words are refused
+abbrev pub usage_line : List ℕ
+usage_line = line_of (codes "usage: gams25 [--out FILE] FILE | gams25 [--out FILE] --generate N")
+
+-- what is said where the input cannot be read
+abbrev pub read_fault_line : List ℕ → List ℕ
+read_fault_line file = line_of (codes "cannot read " ++ file)
+
+-- what is said of a generated model of a size: the status of the model, the level of the objective as a text, and how many pivots there were
+abbrev pub generated_line : ℕ → ℕ → List ℕ → ℕ → List ℕ
+generated_line size model_status objective pivots =
+    line_of (codes "generated " ++ decimal size ++ codes " by " ++ decimal size ++ codes ", model status " ++ decimal model_status ++ codes ", objective " ++ objective ++ codes ", pivots " ++ decimal pivots)
+
+-- what is said in the end, of the status, how many solves there were, and the name of the output
+abbrev pub closing_line : ℕ → ℕ → List ℕ → List ℕ
+closing_line status solves output =
+    line_of (codes "status " ++ decimal status ++ codes ", solves " ++ decimal solves ++ codes ", output " ++ output)

@@ -1,0 +1,12 @@
+-- What words of a plain form mean.
+use Rattle.std.specs.Prelude.{◌≡◌, ℕ, ◌==◌, Bool, true, not, List, [], ◌∷◌, Some}
+use Rattle.gms_words.specs.CommandLine.{Asked, in_file, output_name, request_of}
+
+-- the word does not begin with `-`
+abbrev pub is_plain : List ℕ → Bool
+is_plain [] = true
+is_plain (b ∷ word) = not (b == 45)
+
+-- one such word is the name of a file, and the output is named after it
+abbrev pub IsFile : Type 0
+IsFile = (file : List ℕ) → is_plain file ≡ true → request_of (file ∷ []) ≡ Some (record { source = in_file file; output = output_name file })

@@ -1,0 +1,160 @@
+//! The words of the command line, what they ask for, and what is said on standard output.
+ghost use Rattle.std.specs.Prelude.{◌≡◌, IfOk, string_bytes, option_map};
+ghost use Rattle.clap.specs.Words.{app_of, found_of, rows_of};
+ghost use Rattle.gms_words.specs.CommandLine.{texts, gams25, rows_taken, size_of, origin_of, request_in, request_of, origin, asked_by, output_name, usage_line, read_fault_line, generated_line, closing_line};
+
+use clap::error::ErrorKind;
+use clap::{Arg, ArgMatches, Command};
+use std::alloc::{AllocError, Global};
+
+/// What is said where the words are refused.
+const USAGE: &str = "usage: gams25 [--out FILE] FILE | gams25 [--out FILE] --generate N\n";
+
+/// The sizes that a generated model can have, from the least on.
+const SIZES: [&str; 30] = [
+    "1", "2", "3", "4", "5", "6", "7", "8", "9", "10", "11", "12", "13", "14", "15", "16", "17",
+    "18", "19", "20", "21", "22", "23", "24", "25", "26", "27", "28", "29", "30",
+];
+
+/// Where the source of a run comes from.
+#[derive(Clone, Copy)]
+pub enum Source<'a> {
+    /// The file of this name.
+    File(&'a str),
+    /// A generated model with so many plants and markets.
+    Generate(u32),
+}
+
+/// What the words ask for.
+#[derive(Clone, Copy)]
+pub struct Request<'a> {
+    /// Where the source comes from.
+    pub source: Source<'a>,
+    /// The name that `--out` gives the output.
+    pub out: Option<&'a str>,
+}
+
+/// The command: an optional FILE, `--out` with one value, and `--generate` with one value.
+fn command<'a>(alloc: Global) -> Result<Command<'a>, AllocError>
+    ensures { IfOk result (λ command. app_of command ≡ gams25) }
+{
+    let file = Arg::new(alloc, "file");
+    let out = Arg::new(alloc, "out").long("out");
+    let generate = Arg::new(alloc, "generate").long("generate");
+    let bare = Command::new(alloc, "gams25").no_binary_name(true);
+    bare.arg(file)?.arg(out)?.arg(generate)
+}
+
+/// What the command finds in the words, where it takes them.
+fn found_in<'a>(alloc: Global, words: &'a [String]) -> Result<Option<ArgMatches<'a>>, AllocError>
+    ensures { IfOk result (λ found. option_map (λ matches. rows_of (found_of matches)) found ≡ rows_taken (texts words.now)) }
+{
+    let command = command(alloc)?;
+    match command.try_get_matches_from(words) {
+        Ok(matches) => Ok(Some(matches)),
+        Err(error) => match error.kind() {
+            ErrorKind::OutOfMemory => Err(AllocError),
+            _ => Ok(None),
+        },
+    }
+}
+
+/// The size that a text names: a whole number from 1 to 30 in decimal digits, without a sign or a leading zero.
+fn size_of(text: &str) -> Option<u32>
+    ensures { result ≡ size_of text.now }
+{
+    let place = SIZES.iter().position(|&size| size == text)?;
+    Some(place as u32 + 1)
+}
+
+/// The source that the values of FILE and of `--generate` name, where exactly one of them is there.
+fn source_of<'a>(file: Option<&'a str>, size: Option<&'a str>) -> Option<Source<'a>>
+    ensures { option_map origin result ≡ origin_of (option_map (λ name. name.now) file.entry) (option_map (λ text. text.now) size.entry) }
+{
+    match (file, size) {
+        (Some(name), None) => Some(Source::File(name)),
+        (None, Some(text)) => Some(Source::Generate(size_of(text)?)),
+        _ => None,
+    }
+}
+
+/// What the matches ask for, where they name exactly one source.
+fn request_in<'a>(matches: &ArgMatches<'a>) -> Option<Request<'a>>
+    ensures { option_map asked_by result ≡ request_in (rows_of (found_of matches.now)) }
+{
+    let source = source_of(matches.get_str("file"), matches.get_str("generate"))?;
+    let out = matches.get_str("out");
+    Some(Request { source, out })
+}
+
+/// What the words ask for. They are refused where there is `None`: where the command does not take them, or they name not exactly one source.
+pub fn request_of<'a>(alloc: Global, words: &'a [String]) -> Result<Option<Request<'a>>, AllocError>
+    ensures { IfOk result (λ request. option_map asked_by request ≡ request_of (texts words.now)) }
+{
+    match found_in(alloc, words)? {
+        Some(matches) => Ok(request_in(&matches)),
+        None => Ok(None),
+    }
+}
+
+/// The name of the output after a file: FILE with a last `.gms` replaced by `.lst`, or with `.lst` behind it.
+fn output_name(alloc: Global, file: &str) -> Result<String, AllocError>
+    ensures { IfOk result (λ name. string_bytes name ≡ output_name file.now) }
+{
+    match file.strip_suffix(".gms") {
+        Some(stem) => format!(in alloc; "{stem}.lst"),
+        None => format!(in alloc; "{file}.lst"),
+    }
+}
+
+/// The name of the output: the value of `--out`, or else the name that comes of the source.
+pub fn output_of(alloc: Global, request: Request) -> Result<String, AllocError>
+    ensures { IfOk result (λ name. string_bytes name ≡ (asked_by request.entry).output) }
+{
+    match (request.out, request.source) {
+        (Some(out), _) => String::from_str(alloc, out),
+        (None, Source::File(file)) => output_name(alloc, file),
+        (None, Source::Generate(_)) => String::from_str(alloc, "generate.lst"),
+    }
+}
+
+/// What is said where the words are refused: how the program is called, and a line feed.
+pub fn usage_line() -> &'static str
+    ensures { result.now ≡ usage_line }
+{
+    USAGE
+}
+
+/// What is said where the input cannot be read.
+pub fn read_fault_line(alloc: Global, file: &str) -> Result<String, AllocError>
+    ensures { IfOk result (λ line. string_bytes line ≡ read_fault_line file.now) }
+{
+    format!(in alloc; "cannot read {file}\n")
+}
+
+/// What is said of a generated model of a size that was solved: the status of the model, the text of the objective's level, and how many pivots there were.
+pub fn generated_line(
+    alloc: Global,
+    size: u32,
+    model_status: u8,
+    objective: &str,
+    pivots: u128,
+) -> Result<String, AllocError>
+    ensures { IfOk result (λ line. string_bytes line ≡ generated_line size model_status objective.now pivots) }
+{
+    format!(in alloc;
+        "generated {size} by {size}, model status {model_status}, objective {objective}, pivots {pivots}\n"
+    )
+}
+
+/// What is said in the end, where the listing of a source was written to its output.
+pub fn closing_line(
+    alloc: Global,
+    status: u8,
+    solves: usize,
+    output: &str,
+) -> Result<String, AllocError>
+    ensures { IfOk result (λ line. string_bytes line ≡ closing_line status solves output.now) }
+{
+    format!(in alloc; "status {status}, solves {solves}, output {output}\n")
+}

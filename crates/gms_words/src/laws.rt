@@ -1,0 +1,7 @@
+//! What words of a plain form mean.
+ghost use Rattle.gms_words.specs.Laws.{IsFile};
+
+/// One word that does not begin with `-` is the name of a file, and the output is named after it.
+pub fn words_laws()
+    ensures { IsFile }
+{}

@@ -1,0 +1,14 @@
+//! The words of the command line.
+#![tactic(auto)]
+
+mod command_line;
+mod laws;
+
+pub use command_line::{
+    Request, Source, closing_line, generated_line, output_of, read_fault_line, request_of,
+    usage_line,
+};
+pub use laws::words_laws;
+
+#[cfg(test)]
+mod tests;

@@ -1,0 +1,4 @@
+pub mod Updates
+pub mod Maps
+pub mod Terms
+pub mod Sums

@@ -1,0 +1,7 @@
+//! A sum of affine forms that grows: an entry is added in as many steps as the logarithm of how many are there.
+#![tactic(auto)]
+
+mod entries;
+mod sum;
+
+pub use sum::FormSum;
