@@ -97,7 +97,7 @@ const DATA: [Row<'static>; 16] = [
 ];
 
 /// Sources of assignments, sets, folds, loops and aborts.
-const STATEMENTS: [Row<'static>; 14] = [
+const STATEMENTS: [Row<'static>; 20] = [
     (
         "set t /1*3/; parameter a(t); a(t) = ord(t); a(t) = a(t-1); display a;",
         0,
@@ -167,6 +167,36 @@ const STATEMENTS: [Row<'static>; 14] = [
         "variable x; x.up = 2; display x.up;",
         0,
         "---- 1 VARIABLE x.up = 2.000\nEND status 0 solves 0\n",
+    ),
+    (
+        "positive variable x; display x.lo, x.up;",
+        0,
+        "---- 1 VARIABLE x.lo = 0.000\n---- 1 VARIABLE x.up = +INF\nEND status 0 solves 0\n",
+    ),
+    (
+        "set i /a,b,c/; parameter cap(i) /a 5, b inf/; cap(\"c\") = na; positive variable x(i); x.up(i)$(cap(i) <> na) = cap(i); display cap, x.up;",
+        0,
+        "---- 1 PARAMETER cap\n  a          5.000\n  b           +INF\n  c             NA\n---- 1 VARIABLE x.up\n  a          5.000\n  b           +INF\n  c           +INF\nEND status 0 solves 0\n",
+    ),
+    (
+        "scalar a; a = inf - inf;",
+        3,
+        "*** Execution error 12 Undefined at line 1 column 21\nEND status 3 solves 0\n",
+    ),
+    (
+        "scalar a; a = 1/inf; display a;",
+        0,
+        "---- 1 SCALAR a = 0.000\nEND status 0 solves 0\n",
+    ),
+    (
+        "set i /1*4000/; alias(i,j); set s(i,j) /1.1, 2000.7, 4000.4000/; parameter w(i,j); scalar a; w(i,j)$s(i,j) = ord(i) - ord(j); a = sum((i,j)$s(i,j), w(i,j)); display a;",
+        0,
+        "---- 1 SCALAR a = 1993.000\nEND status 0 solves 0\n",
+    ),
+    (
+        "set i /1*4097/; alias(i,j); scalar a; a = sum((i,j), 1);",
+        3,
+        "*** Execution error 7 DomainSize at line 1 column 43 count 16785409\nEND status 3 solves 0\n",
     ),
 ];
 
