@@ -1,4 +1,4 @@
-//! The program `gams25`: its words, the real files and standard output, and the exit status.
+//! Floor 7, outside. The program `gams25`: its words, the real files and standard output, and the exit status.
 #![tactic(auto)]
 
 use gms_host::{Host, RealHost};

@@ -1,4 +1,4 @@
-//! The trees of a program: expressions, statements and what they are made of.
+//! Floor 2, source to tree. The trees of a program: expressions, statements and what they are made of.
 #![tactic(auto)]
 
 mod declaration;
@@ -6,8 +6,6 @@ mod expression;
 mod nesting;
 mod program;
 mod sequence;
-#[cfg(test)]
-mod tests;
 mod word;
 
 pub use declaration::{Decl, DeclKind, Item, ModelDecl};

@@ -26,6 +26,19 @@ pub fn check<F: ExactField>(
     ensures { IfOk result (λ errors. errors.items ≡ compile_errors F.value program.now (map string_bytes solvers.now)) }
 {
     let mut checker = Checker::new(alloc, program, solvers)?;
+    check_statements(alloc, &mut checker, program)
+}
+
+/// The errors of the statements of a program, by a check that is at its beginning.
+fn check_statements<F: ExactField>(
+    alloc: Global,
+    checker: &mut Checker<'_, F>,
+    program: &Program<F>,
+) -> Result<Vec<CompileError>, AllocError>
+    requires facts { (seen checker.old).facts ≡ first_facts program.now }
+    requires first { (seen checker.old).first ≡ None }
+    ensures { IfOk result (λ errors. errors.items ≡ compile_errors F.value program.now (seen checker.old).solvers) }
+{
     let mut errors = Vec::new(alloc);
     for statement in &program.statements {
         let error = checker.statement(statement)?;

@@ -1,4 +1,4 @@
-//! The values of expressions over the state of a run, conditions, and the domains of folds and loops.
+//! Floor 5, the run. The values of expressions over the state of a run, conditions, and the domains of folds and loops.
 #![tactic(auto)]
 
 mod binding;

@@ -1,4 +1,4 @@
-//! Events: what a run shows, statement by statement.
+//! Floor 5, the run. Events: what a run shows, statement by statement.
 #![tactic(auto)]
 
 mod event;

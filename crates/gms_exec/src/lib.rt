@@ -1,4 +1,4 @@
-//! The execution of statements: what each shows, and the state after it.
+//! Floor 5, the run. The execution of statements: what each shows, and the state after it.
 #![tactic(auto)]
 
 mod assignment;

@@ -1,10 +1,8 @@
-//! Texts of elements, and texts set in columns.
+//! Floor 6, listing. Texts of elements, and texts set in columns.
 #![tactic(auto)]
 
 mod columns;
 mod elements;
-#[cfg(test)]
-mod tests;
 
 pub use columns::{left, right};
 pub use elements::{dotted, element, text_of};

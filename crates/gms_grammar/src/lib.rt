@@ -1,4 +1,4 @@
-//! The grammar of the language, as data.
+//! Floor 2, source to tree. The grammar of the language, as data.
 #![tactic(auto)]
 
 mod laws;

@@ -1,4 +1,4 @@
-//! The outside as a program sees it: one input, one output and standard output, behind a trait with a written meaning.
+//! Floor 7, outside. The outside as a program sees it: one input, one output and standard output, behind a trait with a written meaning.
 #![tactic(auto)]
 
 mod host;

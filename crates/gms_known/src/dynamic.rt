@@ -14,8 +14,8 @@ use std::alloc::{AllocError, Global};
 pub fn dynamic_sets<F: ExactField>(alloc: Global, program: &Program<F>) -> Result<Marks, AllocError>
     ensures { IfOk result (λ marks. marks ≡ with_marks (replicate (length program.now.names) false) (dynamic_sets program.now)) }
 {
-    let store = Store::new(alloc, program)?;
     let mut marks = Marks::new(alloc, program.names.len())?;
+    let store = Store::new(alloc, program)?;
     mark_assigned(&program.statements, &store, &mut marks);
     Ok(marks)
 }

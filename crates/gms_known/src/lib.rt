@@ -1,4 +1,4 @@
-//! What is known before a statement of a program: what the statements before it declare, define and give.
+//! Floor 3, state and checks. What is known before a statement of a program: what the statements before it declare, define and give.
 #![tactic(auto)]
 
 mod data;

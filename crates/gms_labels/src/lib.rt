@@ -1,12 +1,10 @@
-//! Tables of labels: distinct texts in the order of their first appearance, letter case ignored; and places in a source.
+//! Floor 2, source to tree. Tables of labels: distinct texts in the order of their first appearance, letter case ignored; and places in a source.
 #![tactic(auto)]
 
 mod fault;
 mod folded;
 mod labels;
 mod place;
-#[cfg(test)]
-mod tests;
 
 pub use fault::LabelFault;
 pub use labels::{Labels, MOST_BYTES, MOST_LABELS};

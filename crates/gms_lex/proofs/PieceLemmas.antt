@@ -6,10 +6,10 @@ use Rattle.std.proofs.lemmas.List.Sums.{prefix_len-le-length}
 use Rattle.std.specs.List.{prefix_len}
 use Rattle.gms_lines.specs.Lines.{begins, before, content, is_blank, is_line_end}
 use Rattle.gms_lines.proofs.LineLemmas.{true_or_false, before-le-length, before_more}
-use Rattle.gms_tokens.specs.declared.kind.Kind.TheVariants.{Label, Text}
-use Rattle.gms_tokens.specs.Shapes.{IsWithin}
-use Rattle.gms_tokens.specs.TableLines.{table_bytes}
-use Rattle.gms_tokens.proofs.WithinLemmas.{if_within, run_within, begins_some, table_bytes_le, symbol_within, code_token_within, label_token_within, remark_within, table_line_within}
+use Rattle.gms_lexemes.specs.declared.kind.Kind.TheVariants.{Label, Text}
+use Rattle.gms_lexemes.specs.Shapes.{IsWithin}
+use Rattle.gms_lexemes.specs.TableLines.{table_bytes}
+use Rattle.gms_lexemes.proofs.WithinLemmas.{if_within, run_within, begins_some, table_bytes_le, symbol_within, code_token_within, label_token_within, remark_within, table_line_within}
 use Rattle.gms_lex.specs.declared.keyword.Shape.{Shape}
 use Rattle.gms_lex.specs.declared.keyword.Shape.TheVariants.{Set, Parameter, Scalar, Model}
 use Rattle.gms_lex.specs.declared.mode.Stage.{Stage}

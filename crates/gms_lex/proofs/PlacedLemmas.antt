@@ -6,11 +6,11 @@ use Rattle.std.specs.Str.{IsAscii}
 use Rattle.gms_lines.specs.declared.fault.ByteFault.{ByteFault}
 use Rattle.gms_lines.specs.Lines.{code_text}
 use Rattle.gms_lines.specs.LineFaults.{IsLineFault}
-use Rattle.gms_tokens.specs.declared.kind.Kind.{Kind}
-use Rattle.gms_tokens.specs.declared.kind.Kind.TheVariants.{Word, Label, Number, Text, Symbol, Break, TableLine, End}
-use Rattle.gms_tokens.specs.declared.lexeme.Piece.{Piece}
-use Rattle.gms_tokens.specs.declared.lexeme.Piece.TheVariants.{Gap, LineEnd, Remark, Token}
-use Rattle.gms_tokens.specs.declared.lexeme.Lexeme.{Lexeme}
+use Rattle.gms_lexemes.specs.declared.kind.Kind.{Kind}
+use Rattle.gms_lexemes.specs.declared.kind.Kind.TheVariants.{Word, Label, Number, Text, Symbol, Break, TableLine, End}
+use Rattle.gms_lexemes.specs.declared.lexeme.Piece.{Piece}
+use Rattle.gms_lexemes.specs.declared.lexeme.Piece.TheVariants.{Gap, LineEnd, Remark, Token}
+use Rattle.gms_lexemes.specs.declared.lexeme.Lexeme.{Lexeme}
 use Rattle.gms_lex.specs.declared.mode.Mode.{Mode}
 use Rattle.gms_lex.specs.declared.mode.Mode.TheVariants.{Code}
 use Rattle.gms_lex.specs.declared.token.Token.{Token as CodeToken}

@@ -3,9 +3,9 @@ use Rattle.std.proofs.Common.{◌≡◌, ◌⊎◌, inl, inr, ℕ, zero, suc, �
 use Rattle.std.proofs.lemmas.List.{length-drop, drop-drop, drop_all}
 use Rattle.gms_lines.specs.declared.fault.ByteFault.{ByteFault}
 use Rattle.gms_lines.specs.Errors.{error_code, IsFirstFault}
-use Rattle.gms_tokens.specs.declared.lexeme.Lexeme.{Lexeme}
-use Rattle.gms_tokens.specs.declared.lexeme.Misread.{Misread}
-use Rattle.gms_tokens.specs.Shapes.{Read, IsWithin}
+use Rattle.gms_lexemes.specs.declared.lexeme.Lexeme.{Lexeme}
+use Rattle.gms_lexemes.specs.declared.lexeme.Misread.{Misread}
+use Rattle.gms_lexemes.specs.Shapes.{Read, IsWithin}
 use Rattle.gms_lex.specs.declared.mode.Mode.{Mode}
 use Rattle.gms_lex.specs.declared.mode.Mode.TheVariants.{Code}
 use Rattle.gms_lex.specs.declared.token.Token.{Token}

@@ -8,17 +8,17 @@ use Rattle.std.specs.Str.{IsAscii}
 use Rattle.std.specs.Char.{is_ascii_alphabetic, is_ascii_alphanumeric}
 use Rattle.gms_lines.specs.Lines.{begins, before, is_blank, is_line_end, content}
 use Rattle.gms_lines.proofs.LineLemmas.{true_or_false, below_or, before-le-length}
-use Rattle.gms_tokens.specs.declared.kind.Kind.{Kind}
-use Rattle.gms_tokens.specs.declared.kind.Kind.TheVariants.{Word, Label, Text, TableLine}
-use Rattle.gms_tokens.specs.declared.kind.Sym.{Sym}
-use Rattle.gms_tokens.specs.declared.lexeme.Piece.{Piece}
-use Rattle.gms_tokens.specs.declared.lexeme.Piece.TheVariants.{Remark, Token}
-use Rattle.gms_tokens.specs.Bytes.{is_name_byte, is_label_byte, is_quote, is_text_byte, is_plain}
-use Rattle.gms_tokens.specs.Numbers.{begins_number}
-use Rattle.gms_tokens.specs.Symbols.{symbol_at}
-use Rattle.gms_tokens.specs.Shapes.{Read, longest_label, bounded, symbol_of, symbol, quoted_length, is_closed, quoted, code_token, label_token, remark}
-use Rattle.gms_tokens.specs.TableLines.{table_bytes}
-use Rattle.gms_tokens.proofs.WithinLemmas.{run_within, closed_more, table_bytes_le}
+use Rattle.gms_lexemes.specs.declared.kind.Kind.{Kind}
+use Rattle.gms_lexemes.specs.declared.kind.Kind.TheVariants.{Word, Label, Text, TableLine}
+use Rattle.gms_lexemes.specs.declared.kind.Sym.{Sym}
+use Rattle.gms_lexemes.specs.declared.lexeme.Piece.{Piece}
+use Rattle.gms_lexemes.specs.declared.lexeme.Piece.TheVariants.{Remark, Token}
+use Rattle.gms_lexemes.specs.Bytes.{is_name_byte, is_label_byte, is_quote, is_text_byte, is_plain}
+use Rattle.gms_lexemes.specs.Numbers.{begins_number}
+use Rattle.gms_lexemes.specs.Symbols.{symbol_at}
+use Rattle.gms_lexemes.specs.Shapes.{Read, longest_label, bounded, symbol_of, symbol, quoted_length, is_closed, quoted, code_token, label_token, remark}
+use Rattle.gms_lexemes.specs.TableLines.{table_bytes}
+use Rattle.gms_lexemes.proofs.WithinLemmas.{run_within, closed_more, table_bytes_le}
 use Rattle.gms_lex.specs.declared.keyword.Shape.{Shape}
 use Rattle.gms_lex.specs.declared.keyword.Shape.TheVariants.{Set, Parameter, Scalar, Model}
 use Rattle.gms_lex.specs.declared.mode.Stage.{Stage}

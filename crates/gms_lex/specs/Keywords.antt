@@ -2,8 +2,8 @@
 use Rattle.std.specs.Prelude.{ℕ, Bool, not, ◌&&◌, if◌then◌else◌, List, [], ◌∷◌, take, drop, Option, Some, None, is_some, codes}
 use Rattle.std.specs.List.{prefix_len}
 use Rattle.gms_lines.specs.ControlWords.{is_among}
-use Rattle.gms_tokens.specs.Bytes.{is_label_byte}
-use Rattle.gms_tokens.specs.Numbers.{begins_dot}
+use Rattle.gms_lexemes.specs.Bytes.{is_label_byte}
+use Rattle.gms_lexemes.specs.Numbers.{begins_dot}
 use Rattle.gms_lex.specs.declared.keyword.Shape.TheVariants.{Set, Parameter, Scalar, Model}
 use Rattle.gms_lex.specs.declared.keyword.Keyword.{Keyword}
 use Rattle.gms_lex.specs.declared.keyword.Keyword.TheVariants.{Declarer, Table, Other}

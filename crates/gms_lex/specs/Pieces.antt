@@ -4,11 +4,11 @@ use Rattle.std.specs.Prelude.{ℕ, Bool, true, false, not, ◌&&◌, ◌||◌, �
 use Rattle.std.specs.List.{prefix_len}
 use Rattle.std.specs.Char.{is_ascii_digit}
 use Rattle.gms_lines.specs.Lines.{begins, before, content, is_blank, is_line_end}
-use Rattle.gms_tokens.specs.declared.kind.Kind.TheVariants.{Label, Text, Break}
-use Rattle.gms_tokens.specs.declared.lexeme.Piece.TheVariants.{Gap, LineEnd, Token}
-use Rattle.gms_tokens.specs.Numbers.{begins_dot}
-use Rattle.gms_tokens.specs.Shapes.{Read, lexeme, symbol, code_token, label_token, remark}
-use Rattle.gms_tokens.specs.TableLines.{table_bytes, table_line}
+use Rattle.gms_lexemes.specs.declared.kind.Kind.TheVariants.{Label, Text, Break}
+use Rattle.gms_lexemes.specs.declared.lexeme.Piece.TheVariants.{Gap, LineEnd, Token}
+use Rattle.gms_lexemes.specs.Numbers.{begins_dot}
+use Rattle.gms_lexemes.specs.Shapes.{Read, lexeme, symbol, code_token, label_token, remark}
+use Rattle.gms_lexemes.specs.TableLines.{table_bytes, table_line}
 use Rattle.gms_lex.specs.declared.keyword.Shape.{Shape}
 use Rattle.gms_lex.specs.declared.keyword.Shape.TheVariants.{Set, Parameter, Scalar, Model}
 use Rattle.gms_lex.specs.declared.mode.Stage.{Stage}

@@ -2,10 +2,10 @@
 use Rattle.std.specs.Prelude.{◌≡◌, ℕ, ◌-◌, ◌≤◌, if◌then◌else◌, List, [], ◌∷◌, length, take, drop}
 use Rattle.std.specs.Str.{IsAscii}
 use Rattle.gms_lines.specs.LineFaults.{longest_line}
-use Rattle.gms_tokens.specs.declared.kind.Kind.{Kind}
-use Rattle.gms_tokens.specs.declared.kind.Kind.TheVariants.{Word, Label, Number, Text, Symbol, Break, TableLine, End}
-use Rattle.gms_tokens.specs.Bytes.{is_quote}
-use Rattle.gms_tokens.specs.Shapes.{longest_label}
+use Rattle.gms_lexemes.specs.declared.kind.Kind.{Kind}
+use Rattle.gms_lexemes.specs.declared.kind.Kind.TheVariants.{Word, Label, Number, Text, Symbol, Break, TableLine, End}
+use Rattle.gms_lexemes.specs.Bytes.{is_quote}
+use Rattle.gms_lexemes.specs.Shapes.{longest_label}
 use Rattle.gms_lex.specs.declared.token.Token.{Token}
 use Rattle.gms_lex.specs.Places.{place_of}
 

@@ -5,11 +5,11 @@ use Rattle.gms_lines.specs.declared.fault.ByteFault.{ByteFault}
 use Rattle.gms_lines.specs.Errors.{IsBefore}
 use Rattle.gms_lines.specs.Lines.{code_text}
 use Rattle.gms_lines.specs.LineFaults.{IsLineFault}
-use Rattle.gms_tokens.specs.declared.kind.Kind.TheVariants.{End}
-use Rattle.gms_tokens.specs.declared.lexeme.Piece.{Piece}
-use Rattle.gms_tokens.specs.declared.lexeme.Piece.TheVariants as piece
-use Rattle.gms_tokens.specs.declared.lexeme.Lexeme.{Lexeme}
-use Rattle.gms_tokens.specs.declared.lexeme.Misread.{Misread}
+use Rattle.gms_lexemes.specs.declared.kind.Kind.TheVariants.{End}
+use Rattle.gms_lexemes.specs.declared.lexeme.Piece.{Piece}
+use Rattle.gms_lexemes.specs.declared.lexeme.Piece.TheVariants as piece
+use Rattle.gms_lexemes.specs.declared.lexeme.Lexeme.{Lexeme}
+use Rattle.gms_lexemes.specs.declared.lexeme.Misread.{Misread}
 use Rattle.gms_lex.specs.declared.mode.Mode.{Mode}
 use Rattle.gms_lex.specs.declared.mode.Mode.TheVariants.{Code}
 use Rattle.gms_lex.specs.declared.token.Token.{Token}

@@ -2,8 +2,8 @@
 ghost use Rattle.std.specs.Prelude.{◌≡◌};
 ghost use Rattle.gms_lex.specs.Keywords.{keyword_of, begins_statement};
 
+use gms_lexemes::label_length;
 use gms_lines::is_among;
-use gms_tokens::label_length;
 
 /// How the items of a declaration are written.
 #[derive(Clone, Copy, Debug, PartialEq, Eq)]

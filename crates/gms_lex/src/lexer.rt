@@ -10,8 +10,8 @@ use crate::piece::piece_at;
 use crate::place::{SOURCE_START, place_behind, place_of};
 use crate::token::Token;
 use gms_labels::Place;
+use gms_lexemes::{Kind, Piece};
 use gms_lines::{ByteFault, code_text};
-use gms_tokens::{Kind, Piece};
 use std::alloc::{AllocError, Global};
 
 /// How many bytes a source may have.

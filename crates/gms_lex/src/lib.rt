@@ -1,4 +1,4 @@
-//! Tokens of the whole language: words, labels, numbers, texts and symbols of a source, each with its place, or the first
+//! Floor 2, source to tree. Tokens of the whole language: words, labels, numbers, texts and symbols of a source, each with its place, or the first
 //! lexical fault of the source.
 #![tactic(auto)]
 
@@ -13,8 +13,8 @@ mod place;
 mod token;
 
 pub use fault::{LexFault, LexFaultOrMemory};
+pub use gms_lexemes::{Kind, Sym};
 pub use gms_lines::LexError;
-pub use gms_tokens::{Kind, Sym};
 pub use laws::{token_laws, token_texts};
 pub use lexer::{MOST_BYTES, lex};
 pub use token::Token;

@@ -5,7 +5,7 @@ ghost use Rattle.gms_lex.specs.Depths.{depth_of};
 
 use crate::keyword::{Keyword, Shape, keyword_of};
 use crate::mode::{Mode, Stage};
-use gms_tokens::{Kind, Piece, Sym};
+use gms_lexemes::{Kind, Piece, Sym};
 
 /// Where a list begins, and where it goes on behind a comma.
 fn list_start(shape: Shape) -> Mode

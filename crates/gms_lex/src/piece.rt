@@ -2,16 +2,16 @@
 ghost use Rattle.std.specs.Prelude.{◌≡◌, ◌≤◌, ◌<◌, length};
 ghost use Rattle.std.specs.List.{prefix_len};
 ghost use Rattle.gms_lines.specs.Lines.{begins, is_blank};
-ghost use Rattle.gms_tokens.specs.Shapes.{IsWithin};
+ghost use Rattle.gms_lexemes.specs.Shapes.{IsWithin};
 ghost use Rattle.gms_lex.specs.Pieces.{begins_other, space_length, line_end_length, ends_or_begins, passes, line_end, is_item_mark, behind_name, behind_domain, is_element_mark, begins_value_dot, element_tail, behind_label, in_list, token_at, table_piece_of, table_piece, plain_piece, piece_at};
 
 use crate::keyword::{Shape, begins_statement};
 use crate::mode::{LineEnds, Mode, Stage, line_ends, passes};
-use gms_lines::{content_length, is_blank, is_line_end};
-use gms_tokens::{
+use gms_lexemes::{
     Kind, Lexeme, Misread, Piece, code_token, label_token, read_symbol, remark, table_bytes,
     table_line,
 };
+use gms_lines::{content_length, is_blank, is_line_end};
 
 /// Whether a text begins with a blank.
 fn begins_blank(text: &[u8]) -> bool

@@ -1,6 +1,6 @@
 //! Tokens and where they stand.
 use gms_labels::Place;
-use gms_tokens::Kind;
+use gms_lexemes::Kind;
 
 /// A token: what it is, which bytes of the source it takes, and its place.
 #[derive(Clone, Copy, Debug, PartialEq, Eq)]

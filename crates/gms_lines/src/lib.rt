@@ -1,12 +1,10 @@
-//! Lines: what each line of a source is, the text that is left for tokens, and the lexical errors of lines.
+//! Floor 2, source to tree. Lines: what each line of a source is, the text that is left for tokens, and the lexical errors of lines.
 #![tactic(auto)]
 
 mod blanking;
 mod fault;
 mod line;
 mod line_faults;
-#[cfg(test)]
-mod tests;
 
 pub use blanking::{CodeText, code_text};
 pub use fault::{ByteFault, LexError};

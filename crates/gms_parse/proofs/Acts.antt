@@ -32,9 +32,9 @@ use Rattle.gms_grammar.specs.GamsGrammar.{Attribute, Condition, Shown, ShownList
 use Rattle.gms_grammar.specs.GamsLookAhead.{look_ahead}
 use Rattle.gms_grammar.proofs.Basics.{and_both, and_second, or_right}
 use Rattle.gms_grammar.proofs.Checks.{left_and}
-use Rattle.gms_parse_x.specs.ExpressionTrees.{unquoted, suffix_of, inside as inside_of, first_in, second_in}
-use Rattle.gms_parse_x.specs.Outcomes.{open_after}
-use Rattle.gms_parse_x.proofs.TokenKinds.{also, same_test}
+use Rattle.gms_expressions.specs.ExpressionTrees.{unquoted, suffix_of, inside as inside_of, first_in, second_in}
+use Rattle.gms_expressions.specs.Outcomes.{open_after}
+use Rattle.gms_expressions.proofs.TokenKinds.{also, same_test}
 use Rattle.gms_parse.specs.declared.fault.SourceFault.{SourceFault}
 use Rattle.gms_parse.specs.declared.fault.SourceFaultOrMemory.{SourceFaultOrMemory}
 use Rattle.gms_parse.specs.declared.reader.Reader.{Reader}

@@ -6,11 +6,11 @@ use Rattle.gms_lex.specs.TokenTexts.{token_text}
 use Rattle.gms_grammar.specs.declared.terminal.Terminal.{Terminal}
 use Rattle.gms_grammar.specs.declared.terminal.Terminal.TheVariants.{Name, Suffix, Function, OrdCard, FoldOp, Infinity, NotAvailable, YesNo, Not, And, Or, RelationWord, Number, Text, Power, Relation, Circular, Sign, Star, Slash, Equals, LeftParen, RightParen, Comma, Dot, Dollar, Using, Display, Abort, Option, Table, Label, TableLine}
 use Rattle.gms_grammar.specs.Terminals.{is, is_among}
-use Rattle.gms_parse_x.specs.ExpressionTrees.{unquoted}
-use Rattle.gms_parse_x.specs.declared.fault.SyntaxError.{SyntaxError}
-use Rattle.gms_parse_x.specs.declared.fault.SyntaxError.TheVariants as syntax
-use Rattle.gms_parse_x.specs.Outcomes as inner
-use Rattle.gms_parse_x.proofs.TokenKinds.{also}
+use Rattle.gms_expressions.specs.ExpressionTrees.{unquoted}
+use Rattle.gms_expressions.specs.declared.fault.SyntaxError.{SyntaxError}
+use Rattle.gms_expressions.specs.declared.fault.SyntaxError.TheVariants as syntax
+use Rattle.gms_expressions.specs.Outcomes as inner
+use Rattle.gms_expressions.proofs.TokenKinds.{also}
 use Rattle.gms_parse.specs.declared.fault.SourceFault.{SourceFault}
 use Rattle.gms_parse.specs.Faults.{error_of_syntax}
 use Rattle.gms_parse.specs.Tables.{labels_of_lines}

@@ -5,7 +5,7 @@ use Rattle.gms_grammar.specs.declared.terminal.Terminal.{Terminal}
 use Rattle.gms_grammar.specs.Grammar.{one, the, ◌·◌, ◌∣◌, opt, many, leaf, pair, left, right, none, some, more, node, yield, IsTree}
 use Rattle.gms_grammar.specs.GamsGrammar.{Nonterminal, productions}
 use Rattle.gms_grammar.proofs.Checks.{left_and, right_and}
-use Rattle.gms_parse_x.proofs.TokenKinds.{implies, also}
+use Rattle.gms_expressions.proofs.TokenKinds.{implies, also}
 use Rattle.gms_parse.specs.Walks.{Seen}
 use Rattle.gms_parse.specs.Readings.{Derivation, GamsPart}
 

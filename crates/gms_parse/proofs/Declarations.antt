@@ -18,8 +18,8 @@ use Rattle.gms_grammar.specs.Reading.{leads}
 use Rattle.gms_grammar.specs.Terminals.{is, is_among}
 use Rattle.gms_grammar.specs.GamsGrammar.{SetItems, ParameterItems, ScalarItems, PlainItems, VariableStatement, productions, token, name, items}
 use Rattle.gms_grammar.specs.GamsLookAhead.{look_ahead}
-use Rattle.gms_parse_x.proofs.TokenKinds.{also, same_test}
-use Rattle.gms_parse_x.specs.ExpressionTrees.{second_in}
+use Rattle.gms_expressions.proofs.TokenKinds.{also, same_test}
+use Rattle.gms_expressions.specs.ExpressionTrees.{second_in}
 use Rattle.gms_parse.specs.declared.declaration.Form.{Form}
 use Rattle.gms_parse.specs.declared.declaration.Form.TheVariants as form
 use Rattle.gms_parse.specs.declared.fault.SourceFaultOrMemory.{SourceFaultOrMemory}

@@ -6,8 +6,8 @@ use Rattle.gms_grammar.specs.declared.terminal.Terminal.TheVariants.{Text, LeftP
 use Rattle.gms_grammar.specs.Grammar.{one, the, ◌·◌, ◌∣◌, opt, many, leaf, pair, left, right, none, some, more, node, yield, IsTree}
 use Rattle.gms_grammar.specs.Terminals.{is_among}
 use Rattle.gms_grammar.specs.GamsGrammar.{Nonterminal, Expression, Conjunction, Negation, Comparison, Sum, Product, PowerTerm, Guarded, Condition, Primary, Target, Attribute, IndexList, Index, Lag, LagAmount, Call, ExpressionList, Fold, Control, NameList, productions, token, bracketed}
-use Rattle.gms_parse_x.proofs.TokenKinds.{implies, also}
-use Rattle.gms_parse_x.specs.Outcomes.{open_after}
+use Rattle.gms_expressions.proofs.TokenKinds.{implies, also}
+use Rattle.gms_expressions.specs.Outcomes.{open_after}
 use Rattle.gms_parse.specs.Walks.{Seen}
 use Rattle.gms_parse.specs.Readings.{Derivation, GamsPart}
 use Rattle.gms_parse.proofs.TokenKinds.{same_kind}

@@ -12,8 +12,8 @@ use Rattle.gms_grammar.specs.Reading.{leads}
 use Rattle.gms_grammar.specs.Terminals.{is}
 use Rattle.gms_grammar.specs.GamsGrammar.{Nonterminal, Expression, Domain, DomainList, DomainPosition, productions, token, name}
 use Rattle.gms_grammar.specs.GamsLookAhead.{look_ahead}
-use Rattle.gms_parse_x.proofs.TokenKinds.{same_test}
-use Rattle.gms_parse_x.specs.ExpressionTrees.{inside as inside_of}
+use Rattle.gms_expressions.proofs.TokenKinds.{same_test}
+use Rattle.gms_expressions.specs.ExpressionTrees.{inside as inside_of}
 use Rattle.gms_parse.specs.declared.fault.SourceFaultOrMemory.{SourceFaultOrMemory}
 use Rattle.gms_parse.specs.declared.reader.Reader.{Reader}
 use Rattle.gms_parse.specs.declared.reader.Tables.{Tables}

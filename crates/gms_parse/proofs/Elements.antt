@@ -10,8 +10,8 @@ use Rattle.gms_grammar.specs.Reading.{read, stuck, leads, Reads, taken, refused,
 use Rattle.gms_grammar.specs.Terminals.{is}
 use Rattle.gms_grammar.specs.GamsGrammar.{Range, RangeList, ElementPart, productions, token, bracketed}
 use Rattle.gms_grammar.specs.GamsLookAhead.{look_ahead}
-use Rattle.gms_parse_x.specs.ExpressionTrees.{second_in}
-use Rattle.gms_parse_x.proofs.TokenKinds.{same_test}
+use Rattle.gms_expressions.specs.ExpressionTrees.{second_in}
+use Rattle.gms_expressions.proofs.TokenKinds.{same_test}
 use Rattle.gms_parse.specs.declared.data.Part.{Part as Position}
 use Rattle.gms_parse.specs.declared.fault.SourceFaultOrMemory.{SourceFaultOrMemory}
 use Rattle.gms_parse.specs.declared.reader.Reader.{Reader}

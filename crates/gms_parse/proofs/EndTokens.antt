@@ -5,18 +5,18 @@ use Rattle.std.specs.List.{prefix_len}
 use Rattle.std.specs.Char.{is_ascii_alphabetic, is_ascii_alphanumeric}
 use Rattle.gms_labels.specs.declared.place.Place.{Place}
 use Rattle.gms_lines.specs.Lines.{begins, is_blank, is_line_end, content}
-use Rattle.gms_tokens.specs.declared.kind.Kind.{Kind}
-use Rattle.gms_tokens.specs.declared.kind.Kind.TheVariants as kind
-use Rattle.gms_tokens.specs.declared.kind.Sym.{Sym}
-use Rattle.gms_tokens.specs.declared.kind.Sym.TheVariants as symbol_kind
-use Rattle.gms_tokens.specs.declared.lexeme.Piece.{Piece}
-use Rattle.gms_tokens.specs.declared.lexeme.Piece.TheVariants as piece
-use Rattle.gms_tokens.specs.declared.lexeme.Lexeme.{Lexeme}
-use Rattle.gms_tokens.specs.Bytes.{is_quote, is_plain, is_name_byte, is_label_byte, is_text_byte}
-use Rattle.gms_tokens.specs.Numbers.{begins_number}
-use Rattle.gms_tokens.specs.Symbols.{symbol_at}
-use Rattle.gms_tokens.specs.Shapes.{Read, longest_label, symbol_of, symbol, quoted_length, is_closed, is_label, quoted, code_token, label_token, remark}
-use Rattle.gms_tokens.specs.TableLines.{table_bytes}
+use Rattle.gms_lexemes.specs.declared.kind.Kind.{Kind}
+use Rattle.gms_lexemes.specs.declared.kind.Kind.TheVariants as kind
+use Rattle.gms_lexemes.specs.declared.kind.Sym.{Sym}
+use Rattle.gms_lexemes.specs.declared.kind.Sym.TheVariants as symbol_kind
+use Rattle.gms_lexemes.specs.declared.lexeme.Piece.{Piece}
+use Rattle.gms_lexemes.specs.declared.lexeme.Piece.TheVariants as piece
+use Rattle.gms_lexemes.specs.declared.lexeme.Lexeme.{Lexeme}
+use Rattle.gms_lexemes.specs.Bytes.{is_quote, is_plain, is_name_byte, is_label_byte, is_text_byte}
+use Rattle.gms_lexemes.specs.Numbers.{begins_number}
+use Rattle.gms_lexemes.specs.Symbols.{symbol_at}
+use Rattle.gms_lexemes.specs.Shapes.{Read, longest_label, symbol_of, symbol, quoted_length, is_closed, is_label, quoted, code_token, label_token, remark}
+use Rattle.gms_lexemes.specs.TableLines.{table_bytes}
 use Rattle.gms_lex.specs.declared.keyword.Shape.{Shape}
 use Rattle.gms_lex.specs.declared.keyword.Shape.TheVariants.{Set, Parameter, Scalar, Model}
 use Rattle.gms_lex.specs.declared.mode.Stage.{Stage}
@@ -38,9 +38,9 @@ use Rattle.gms_grammar.specs.declared.terminal.Terminal.TheVariants.{Label, Text
 use Rattle.gms_grammar.specs.Grammar.{the, yield, IsTree, Begins}
 use Rattle.gms_grammar.specs.Terminals.{is, is_among}
 use Rattle.gms_grammar.specs.GamsGrammar.{Nonterminal, Expression, Program, productions}
-use Rattle.gms_parse_x.specs.Words.{terminal_of, terminal_of_word, terminal_of_symbol}
-use Rattle.gms_parse_x.specs.Outcomes.{seen}
-use Rattle.gms_parse_x.proofs.TokenKinds.{also}
+use Rattle.gms_expressions.specs.Words.{terminal_of, terminal_of_word, terminal_of_symbol}
+use Rattle.gms_expressions.specs.Outcomes.{seen}
+use Rattle.gms_expressions.proofs.TokenKinds.{also}
 use Rattle.gms_parse.specs.Walks.{Seen}
 use Rattle.gms_parse.specs.Readings.{Derivation, kind_of}
 use Rattle.gms_parse.proofs.Alphabet.{AllPass, pass_front, pass_rest, only, all_pass}

@@ -10,7 +10,7 @@ use Rattle.gms_grammar.specs.Reading.{leads}
 use Rattle.gms_grammar.specs.GamsGrammar.{productions}
 use Rattle.gms_grammar.specs.GamsLookAhead.{look_ahead}
 use Rattle.gms_grammar.specs.Terminals.{is}
-use Rattle.gms_parse_x.specs.Words.{terminal_of}
+use Rattle.gms_expressions.specs.Words.{terminal_of}
 use Rattle.gms_parse.specs.declared.reader.Reader.{Reader}
 use Rattle.gms_parse.specs.Walks.{Seen}
 use Rattle.gms_parse.specs.Readings.{GamsPart, IsReady, IsNext, seen_from}

@@ -17,7 +17,7 @@ use Rattle.gms_grammar.specs.Reading.{leads}
 use Rattle.gms_grammar.specs.Terminals.{is, is_among}
 use Rattle.gms_grammar.specs.GamsGrammar.{name, token, productions}
 use Rattle.gms_grammar.specs.GamsLookAhead.{look_ahead}
-use Rattle.gms_parse_x.specs.ExpressionTrees.{or_0, is_minus}
+use Rattle.gms_expressions.specs.ExpressionTrees.{or_0, is_minus}
 use Rattle.gms_parse.specs.declared.fault.SourceFault.{SourceFault}
 use Rattle.gms_parse.specs.declared.fault.SourceFaultOrMemory.{SourceFaultOrMemory}
 use Rattle.gms_parse.specs.declared.fault.SourceError.TheVariants.{Depth, NotInProfile, Expected}

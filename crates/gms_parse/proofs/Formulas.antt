@@ -8,13 +8,13 @@ use Rattle.gms_grammar.specs.Grammar.{the, yield, IsTree}
 use Rattle.gms_grammar.specs.Terminals.{is}
 use Rattle.gms_grammar.specs.GamsGrammar.{Nonterminal, Expression, productions}
 use Rattle.std.proofs.lemmas.List.{length-drop, length-map, length-append}
-use Rattle.gms_parse_x.specs.declared.fault.SyntaxError.TheVariants as syntax_error
-use Rattle.gms_parse_x.specs.declared.fault.SyntaxFaultOrMemory.{SyntaxFaultOrMemory}
-use Rattle.gms_parse_x.specs.declared.fault.SyntaxFaultOrMemory.TheVariants as syntax
-use Rattle.gms_parse_x.specs.Outcomes as inner
-use Rattle.gms_parse_x.specs.Words.{terminal_of}
+use Rattle.gms_expressions.specs.declared.fault.SyntaxError.TheVariants as syntax_error
+use Rattle.gms_expressions.specs.declared.fault.SyntaxFaultOrMemory.{SyntaxFaultOrMemory}
+use Rattle.gms_expressions.specs.declared.fault.SyntaxFaultOrMemory.TheVariants as syntax
+use Rattle.gms_expressions.specs.Outcomes as inner
+use Rattle.gms_expressions.specs.Words.{terminal_of}
 use Rattle.gms_lex.specs.TokenTexts.{token_text}
-use Rattle.gms_parse_x.specs.Calls.{walk_from, IsRead, IsRefusal}
+use Rattle.gms_expressions.specs.Calls.{walk_from, IsRead, IsRefusal}
 use Rattle.gms_parse.specs.declared.fault.SourceError.{SourceError}
 use Rattle.gms_parse.specs.declared.fault.SourceError.TheVariants as source_error
 use Rattle.gms_parse.specs.declared.fault.SourceFaultOrMemory.TheVariants as source_fault

@@ -8,7 +8,7 @@ use Rattle.gms_grammar.proofs.Basics.{behind_same}
 use Rattle.gms_grammar.proofs.Sound.{sound}
 use Rattle.gms_grammar.proofs.Stopping.{stops_once}
 use Rattle.gms_grammar.proofs.Language.{gams_unique, gams_read_tree, gams_read_stops, gams_stuck_stops, gams_stuck_none, gams_finds}
-use Rattle.gms_parse_x.specs.ExpressionTrees.{no_token}
+use Rattle.gms_expressions.specs.ExpressionTrees.{no_token}
 use Rattle.gms_parse.specs.Walks.{Seen}
 use Rattle.gms_parse.specs.Readings.{Derivation, GamsPart}
 

@@ -13,8 +13,8 @@ use Rattle.gms_grammar.specs.GamsGrammar.{Nonterminal, Expression, Condition, Ta
 use Rattle.gms_grammar.specs.GamsLookAhead.{look_ahead}
 use Rattle.gms_grammar.proofs.Basics.{and_first, or_both, both_ways, end_nil}
 use Rattle.gms_lex.specs.TokenTexts.{token_text}
-use Rattle.gms_parse_x.specs.ExpressionTrees.{is_word, suffix_of, token_of, second_in, inside, index, more_indices}
-use Rattle.gms_parse_x.proofs.TokenKinds.{same_test}
+use Rattle.gms_expressions.specs.ExpressionTrees.{is_word, suffix_of, token_of, second_in, inside, index, more_indices}
+use Rattle.gms_expressions.proofs.TokenKinds.{same_test}
 use Rattle.gms_parse.specs.Statements.{target_at, target_in, head_indices, act_of_head, after_head, after_target, named_act}
 use Rattle.gms_parse.specs.Walks.{Seen}
 use Rattle.gms_parse.specs.Readings.{Derivation, GamsPart, Sense}

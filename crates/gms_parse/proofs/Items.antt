@@ -14,8 +14,8 @@ use Rattle.gms_grammar.specs.Terminals.{is, is_among}
 use Rattle.gms_grammar.specs.GamsGrammar.{Element, ElementPart, Entry, Value, productions, token}
 use Rattle.gms_grammar.specs.GamsLookAhead.{look_ahead}
 use Rattle.gms_labels.specs.declared.place.Place.{Place}
-use Rattle.gms_parse_x.specs.Outcomes.{next_place}
-use Rattle.gms_parse_x.specs.ExpressionTrees.{second_in}
+use Rattle.gms_expressions.specs.Outcomes.{next_place}
+use Rattle.gms_expressions.specs.ExpressionTrees.{second_in}
 use Rattle.gms_parse.specs.declared.data.ListOf.{ListOf}
 use Rattle.gms_parse.specs.declared.data.ListOf.TheVariants as list_of_kind
 use Rattle.gms_parse.specs.declared.data.Part.{Part as Position}

@@ -12,7 +12,7 @@ use Rattle.gms_grammar.specs.Terminals.{is_among}
 use Rattle.gms_grammar.specs.GamsGrammar.{KeywordStatement, SetStatement, ParameterStatement, ScalarStatement, TableStatement, VariableStatement, EquationStatement, ModelStatement, AliasStatement, productions}
 use Rattle.gms_grammar.specs.GamsLookAhead.{look_ahead}
 use Rattle.gms_grammar.proofs.Sound.{sound}
-use Rattle.gms_parse_x.proofs.TokenKinds.{implies, also}
+use Rattle.gms_expressions.proofs.TokenKinds.{implies, also}
 use Rattle.gms_parse.specs.declared.fault.SourceFaultOrMemory.{SourceFaultOrMemory}
 use Rattle.gms_parse.specs.declared.reader.Reader.{Reader}
 use Rattle.gms_parse.specs.declared.reader.Tables.{Tables}

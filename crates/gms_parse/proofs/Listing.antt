@@ -11,8 +11,8 @@ use Rattle.gms_grammar.specs.Reading.{leads}
 use Rattle.gms_grammar.specs.GamsGrammar.{productions}
 use Rattle.gms_grammar.specs.GamsLookAhead.{look_ahead}
 use Rattle.gms_lex.specs.declared.token.Token.{Token}
-use Rattle.gms_parse_x.proofs.TokenKinds.{implies, also}
-use Rattle.gms_parse_x.specs.ExpressionTrees.{second_in}
+use Rattle.gms_expressions.proofs.TokenKinds.{implies, also}
+use Rattle.gms_expressions.specs.ExpressionTrees.{second_in}
 use Rattle.gms_parse.specs.declared.fault.SourceFaultOrMemory.{SourceFaultOrMemory}
 use Rattle.gms_parse.specs.declared.reader.Reader.{Reader}
 use Rattle.gms_parse.specs.declared.reader.Tables.{Tables}

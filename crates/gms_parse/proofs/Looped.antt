@@ -22,9 +22,9 @@ use Rattle.gms_grammar.specs.Reading.{stuck, Reads, leads, in_neither}
 use Rattle.gms_grammar.specs.Terminals.{is, is_among}
 use Rattle.gms_grammar.specs.GamsGrammar.{Control, LoopStatement, LoopBody, InnerStatement, Assignment, DisplayStatement, OptionStatement, SolveStatement, AbortStatement, productions, token, any_of}
 use Rattle.gms_grammar.specs.GamsLookAhead.{look_ahead}
-use Rattle.gms_parse_x.specs.ExpressionTrees.{place_in}
-use Rattle.gms_parse_x.specs.Outcomes.{next_place}
-use Rattle.gms_parse_x.proofs.TokenKinds.{same_test}
+use Rattle.gms_expressions.specs.ExpressionTrees.{place_in}
+use Rattle.gms_expressions.specs.Outcomes.{next_place}
+use Rattle.gms_expressions.proofs.TokenKinds.{same_test}
 use Rattle.gms_parse.specs.declared.fault.SourceFault.{SourceFault}
 use Rattle.gms_parse.specs.declared.fault.SourceFaultOrMemory.{SourceFaultOrMemory}
 use Rattle.gms_parse.specs.declared.reader.Reader.{Reader}

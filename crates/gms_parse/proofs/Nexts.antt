@@ -10,7 +10,7 @@ use Rattle.gms_grammar.specs.GamsLookAhead.{look_ahead}
 use Rattle.gms_grammar.proofs.Checks.{left_and, right_and}
 use Rattle.gms_lex.specs.declared.token.Token.{Token}
 use Rattle.gms_labels.specs.Labels.{place_of}
-use Rattle.gms_parse_x.proofs.TokenKinds.{implies, also}
+use Rattle.gms_expressions.proofs.TokenKinds.{implies, also}
 use Rattle.gms_parse.specs.declared.fault.SourceFault.{SourceFault}
 use Rattle.gms_parse.specs.declared.fault.SourceFaultOrMemory.{SourceFaultOrMemory}
 use Rattle.gms_parse.specs.declared.reader.Reader.{Reader}

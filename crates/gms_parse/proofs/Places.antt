@@ -7,8 +7,8 @@ use Rattle.gms_grammar.specs.GamsLookAhead.{look_ahead}
 use Rattle.gms_grammar.proofs.Decided.{gams_decided}
 use Rattle.gms_grammar.proofs.Sound.{sound}
 use Rattle.gms_grammar.proofs.Starts.{Starts, starts}
-use Rattle.gms_parse_x.specs.ExpressionTrees.{first_place, place_in}
-use Rattle.gms_parse_x.specs.Outcomes.{next_place}
+use Rattle.gms_expressions.specs.ExpressionTrees.{first_place, place_in}
+use Rattle.gms_expressions.specs.Outcomes.{next_place}
 use Rattle.gms_parse.specs.Walks.{Seen, Walk}
 use Rattle.gms_parse.specs.Readings.{Derivation, GamsPart, Gives}
 

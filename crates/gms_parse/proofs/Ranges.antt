@@ -6,9 +6,9 @@ use Rattle.std.proofs.Math.Seq.{take-suc}
 use Rattle.gq_number.specs.Number.{neg_ℚ}
 use Rattle.gms_labels.specs.Labels.{place_of, entered, IsFullFor}
 use Rattle.gms_labels.proofs.Places.{place_of-entered_kept}
-use Rattle.gms_tokens.specs.Bytes.{is_quote}
-use Rattle.gms_tokens.specs.declared.kind.Kind.{Kind}
-use Rattle.gms_tokens.specs.declared.kind.Kind.TheVariants as token_kind
+use Rattle.gms_lexemes.specs.Bytes.{is_quote}
+use Rattle.gms_lexemes.specs.declared.kind.Kind.{Kind}
+use Rattle.gms_lexemes.specs.declared.kind.Kind.TheVariants as token_kind
 use Rattle.gms_lex.specs.declared.token.Token.{Token}
 use Rattle.gms_lex.specs.TokenTexts.{token_text, unquoted, IsSpelled}
 use Rattle.gms_set.specs.Ranges.{is_range, members, IsRangeError}
@@ -22,7 +22,7 @@ use Rattle.gms_grammar.specs.Reading.{leads}
 use Rattle.gms_grammar.specs.Terminals.{is}
 use Rattle.gms_grammar.specs.GamsGrammar.{Range, productions, token}
 use Rattle.gms_grammar.specs.GamsLookAhead.{look_ahead}
-use Rattle.gms_parse_x.specs.ExpressionTrees.{or_0}
+use Rattle.gms_expressions.specs.ExpressionTrees.{or_0}
 use Rattle.gms_parse.specs.declared.data.Part.{Part as Position}
 use Rattle.gms_parse.specs.declared.fault.SourceFault.{SourceFault}
 use Rattle.gms_parse.specs.declared.fault.SourceFaultOrMemory.{SourceFaultOrMemory}

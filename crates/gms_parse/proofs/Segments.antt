@@ -20,8 +20,8 @@ use Rattle.gms_grammar.specs.GamsLookAhead.{look_ahead}
 use Rattle.gms_grammar.proofs.Decided.{gams_decided}
 use Rattle.gms_grammar.proofs.Sound.{sound}
 use Rattle.gms_grammar.proofs.Starts.{Starts as StartsAs, starts}
-use Rattle.gms_parse_x.specs.Outcomes.{next_place}
-use Rattle.gms_parse_x.proofs.TokenKinds.{also, same_test}
+use Rattle.gms_expressions.specs.Outcomes.{next_place}
+use Rattle.gms_expressions.proofs.TokenKinds.{also, same_test}
 use Rattle.gms_parse.specs.declared.fault.SourceFaultOrMemory.{SourceFaultOrMemory}
 use Rattle.gms_parse.specs.declared.reader.Reader.{Reader}
 use Rattle.gms_parse.specs.declared.reader.Tables.{Tables}

@@ -16,9 +16,9 @@ use Rattle.gms_grammar.specs.GamsLookAhead.{look_ahead}
 use Rattle.gms_grammar.proofs.Basics.{behind_same}
 use Rattle.gms_grammar.proofs.Sound.{sound}
 use Rattle.gms_grammar.proofs.Language.{gams_read_stops, gams_stuck_stops, gams_stuck_none, gams_takes, gams_stops}
-use Rattle.gms_parse_x.specs.ExpressionTrees.{no_token, first_place}
-use Rattle.gms_parse_x.specs.Outcomes.{seen, next_place}
-use Rattle.gms_parse_x.proofs.Opening.{ends_at}
+use Rattle.gms_expressions.specs.ExpressionTrees.{no_token, first_place}
+use Rattle.gms_expressions.specs.Outcomes.{seen, next_place}
+use Rattle.gms_expressions.proofs.Opening.{ends_at}
 use Rattle.gms_parse.specs.declared.fault.SourceFault.{SourceFault}
 use Rattle.gms_parse.specs.declared.fault.SourceFaultOrMemory.{SourceFaultOrMemory}
 use Rattle.gms_parse.specs.declared.fault.SourceFaultOrMemory.TheVariants.{Fault, Memory}

@@ -2,10 +2,10 @@
 use Rattle.std.proofs.Common.{◌≡◌, ℕ, ◌≤◌, Bool, true, false, not, ◌&&◌, cond, ltb, Option, Some, None, List, [], ◌∷◌, length, refl, sym, ap, ◌∙◌, arith}
 use Rattle.std.proofs.lemmas.Bool.{ltb-false, eqb-true}
 use Rattle.std.specs.Str.{IsAscii}
-use Rattle.gms_tokens.specs.declared.kind.Kind.{Kind}
-use Rattle.gms_tokens.specs.declared.kind.Kind.TheVariants as kind
-use Rattle.gms_tokens.specs.declared.kind.Sym.{Sym}
-use Rattle.gms_tokens.specs.declared.kind.Sym.TheVariants as sym_kind
+use Rattle.gms_lexemes.specs.declared.kind.Kind.{Kind}
+use Rattle.gms_lexemes.specs.declared.kind.Kind.TheVariants as kind
+use Rattle.gms_lexemes.specs.declared.kind.Sym.{Sym}
+use Rattle.gms_lexemes.specs.declared.kind.Sym.TheVariants as sym_kind
 use Rattle.gms_lex.specs.declared.token.Token.{Token}
 use Rattle.gms_lex.specs.TokenTexts.{IsSpelled, token_text}
 use Rattle.gms_grammar.specs.declared.terminal.Terminal.{Terminal}
@@ -13,11 +13,11 @@ use Rattle.gms_grammar.specs.declared.terminal.Terminal.TheVariants.{Name, Suffi
 use Rattle.gms_grammar.specs.Terminals.{is, is_among, number_of}
 use Rattle.gms_lines.specs.ControlWords.{is_among as is_listed}
 use Rattle.gms_grammar.proofs.Checks.{left_and, right_and}
-use Rattle.gms_parse_x.specs.Words.{Words, statement_words, expression_words, other_words, kind_among, or_else, or_name, terminal_of, terminal_of_word, terminal_of_symbol}
+use Rattle.gms_expressions.specs.Words.{Words, statement_words, expression_words, other_words, kind_among, or_else, or_name, terminal_of, terminal_of_word, terminal_of_symbol}
 use Rattle.gms_parse.specs.Meanings.{IsLabelToken}
 use Rattle.gms_parse.specs.declared.reader.Reader.{Reader}
 use Rattle.gms_parse.specs.Readings.{IsNext}
-use Rattle.gms_parse_x.proofs.TokenKinds.{same_number}
+use Rattle.gms_expressions.proofs.TokenKinds.{same_number}
 
 abbrev is_named : Terminal → Bool
 is_named = is_among (Name ∷ Suffix ∷ [])

@@ -9,10 +9,10 @@ use Rattle.gq_number.specs.Number.{Number as Rational, neg_ℚ}
 use Rattle.gq_text.proofs.Splits.{one_number}
 use Rattle.gms_labels.specs.Labels.{place_of}
 use Rattle.gms_labels.specs.declared.place.Place.{Place}
-use Rattle.gms_tokens.specs.declared.kind.Kind.{Kind}
-use Rattle.gms_tokens.specs.declared.kind.Kind.TheVariants as token_kind
-use Rattle.gms_tokens.specs.declared.kind.Sym.{Sym}
-use Rattle.gms_tokens.specs.declared.kind.Sym.TheVariants as sym_kind
+use Rattle.gms_lexemes.specs.declared.kind.Kind.{Kind}
+use Rattle.gms_lexemes.specs.declared.kind.Kind.TheVariants as token_kind
+use Rattle.gms_lexemes.specs.declared.kind.Sym.{Sym}
+use Rattle.gms_lexemes.specs.declared.kind.Sym.TheVariants as sym_kind
 use Rattle.gms_lex.specs.declared.token.Token.{Token}
 use Rattle.gms_lex.specs.TokenTexts.{token_text, IsSpelled}
 use Rattle.gms_ast.specs.declared.word.Named.{Named}
@@ -41,9 +41,9 @@ use Rattle.gms_grammar.specs.Terminals.{is, is_among}
 use Rattle.gms_grammar.specs.GamsGrammar.{Nonterminal, Expression, Domain, DomainList, DomainPosition, TableStatement, productions, token, name}
 use Rattle.gms_grammar.specs.GamsLookAhead.{look_ahead}
 use Rattle.gms_grammar.proofs.Sound.{sound}
-use Rattle.gms_parse_x.specs.Words.{terminal_of, terminal_of_word, terminal_of_symbol}
-use Rattle.gms_parse_x.specs.Outcomes.{next_place}
-use Rattle.gms_parse_x.proofs.TokenKinds.{also}
+use Rattle.gms_expressions.specs.Words.{terminal_of, terminal_of_word, terminal_of_symbol}
+use Rattle.gms_expressions.specs.Outcomes.{next_place}
+use Rattle.gms_expressions.proofs.TokenKinds.{also}
 use Rattle.gms_parse.specs.declared.fault.SourceError.TheVariants.{NoHeading}
 use Rattle.gms_parse.specs.declared.fault.SourceFault.{SourceFault}
 use Rattle.gms_parse.specs.declared.fault.SourceFaultOrMemory.{SourceFaultOrMemory}

@@ -5,7 +5,7 @@ use Rattle.gms_ast.specs.Trees.{Tree as Syntax, reference}
 use Rattle.gms_ast.specs.StatementTrees.{Target}
 use Rattle.gms_grammar.specs.Grammar.{the, pair, none, some, node, IsTree}
 use Rattle.gms_grammar.specs.GamsGrammar.{Target as TargetPart, productions}
-use Rattle.gms_parse_x.specs.ExpressionTrees as trees
+use Rattle.gms_expressions.specs.ExpressionTrees as trees
 use Rattle.gms_parse.specs.Statements.{target_in}
 use Rattle.gms_parse.specs.Readings.{Derivation}
 

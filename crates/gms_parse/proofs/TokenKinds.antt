@@ -11,7 +11,7 @@ use Rattle.gms_grammar.specs.Terminals.{is, is_among}
 use Rattle.gms_grammar.specs.GamsGrammar.{productions}
 use Rattle.gms_grammar.specs.GamsLookAhead.{look_ahead}
 use Rattle.gms_grammar.proofs.Basics.{or_left}
-use Rattle.gms_parse_x.proofs.TokenKinds.{implies, also, same_number}
+use Rattle.gms_expressions.proofs.TokenKinds.{implies, also, same_number}
 use Rattle.gms_parse.specs.Walks.{Seen, is_keyword}
 use Rattle.gms_parse.specs.Readings.{GamsPart, kind_of}
 

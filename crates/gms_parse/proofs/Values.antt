@@ -16,8 +16,8 @@ use Rattle.gms_grammar.specs.Terminals.{is, is_among}
 use Rattle.gms_grammar.specs.GamsGrammar.{Value, productions, token, any_of}
 use Rattle.gms_grammar.specs.GamsLookAhead.{look_ahead}
 use Rattle.gms_grammar.proofs.Basics.{or_left, or_right, or_both, not_true}
-use Rattle.gms_parse_x.specs.ExpressionTrees.{second_in}
-use Rattle.gms_parse_x.specs.Outcomes.{next_place}
+use Rattle.gms_expressions.specs.ExpressionTrees.{second_in}
+use Rattle.gms_expressions.specs.Outcomes.{next_place}
 use Rattle.gms_parse.proofs.TokenKinds.{is_quiet, same_kind, unled_next}
 use Rattle.gms_parse.proofs.Walks.{quiet_sound}
 use Rattle.gms_parse.proofs.Places.{place_read}

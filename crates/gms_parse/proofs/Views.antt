@@ -9,7 +9,6 @@ use Rattle.gms_ast.specs.declared.declaration.Decl.{Decl}
 use Rattle.gms_ast.specs.declared.declaration.DeclKind.{DeclKind}
 use Rattle.gms_ast.specs.declared.program.Side.{Side}
 use Rattle.gms_ast.specs.declared.program.Right.{Right}
-use Rattle.gms_ast.specs.declared.program.Right.TheVariants as right
 use Rattle.gms_ast.specs.declared.program.Target.{Target as TargetNode}
 use Rattle.gms_ast.specs.declared.program.Act.TheVariants.{Declare, Assign, Define, rolls-Declare, rolls-Assign, rolls-Define}
 use Rattle.gms_ast.specs.declared.program.Act.TheOpen.{Act-F}
@@ -29,14 +28,3 @@ module _ {F : Type 0} (value : F → Number) where
       act_view value (Define equation indices condition left_at left_side side right_at right_side) ≡ defines equation (shown_indices value indices) (option_map (shown_tree value) condition) (record { left_at = left_at; left = shown_tree value left_side; side = side; right_at = right_at; right = shown_tree value right_side })
   view-Define equation indices condition left_at left_side side right_at right_side =
       ap (act_view value) (sym (rolls-Define equation indices condition left_at left_side side right_at right_side)) ∙ fold-roll-Act F (Act Number) (Statements Number → Statements Number) (act_step value) (statement_step value) (Act-F.Define equation indices condition left_at left_side side right_at right_side)
-
-  pub assign_shown : (target : TargetNode F) (condition : Maybe (Expr F)) (at place : Place) (e : Expr F) → at ≡ place → act_view value (Assign target condition at (right.Value e)) ≡ assigns (shown_target value target) (option_map (shown_tree value) condition) place (shown_tree value e)
-  assign_shown target condition at place e same = view-Assign target condition at (right.Value e) ∙ ap (λ (p : Place). assigns (shown_target value target) (option_map (shown_tree value) condition) p (shown_tree value e)) same
-
-  pub define_shown : (equation : Named) (indices : List (Index F)) (condition : Maybe (Expr F)) (left_at left_place : Place) (left_side : Expr F) (side told : Side) (right_at right_place : Place) (right_side : Expr F) → left_at ≡ left_place → side ≡ told → right_at ≡ right_place →
-      act_view value (Define equation indices condition left_at left_side side right_at right_side) ≡ defines equation (shown_indices value indices) (option_map (shown_tree value) condition) (record { left_at = left_place; left = shown_tree value left_side; side = told; right_at = right_place; right = shown_tree value right_side })
-  define_shown equation indices condition left_at left_place left_side side told right_at right_place right_side l s r =
-      view-Define equation indices condition left_at left_side side right_at right_side
-      ∙ ap (λ (p : Place). defines equation (shown_indices value indices) (option_map (shown_tree value) condition) (record { left_at = p; left = shown_tree value left_side; side = side; right_at = right_at; right = shown_tree value right_side })) l
-      ∙ ap (λ (k : Side). defines equation (shown_indices value indices) (option_map (shown_tree value) condition) (record { left_at = left_place; left = shown_tree value left_side; side = k; right_at = right_at; right = shown_tree value right_side })) s
-      ∙ ap (λ (p : Place). defines equation (shown_indices value indices) (option_map (shown_tree value) condition) (record { left_at = left_place; left = shown_tree value left_side; side = told; right_at = p; right = shown_tree value right_side })) r

@@ -8,7 +8,7 @@ use Rattle.gms_grammar.specs.declared.terminal.Terminal.{Terminal}
 use Rattle.gms_grammar.specs.declared.terminal.Terminal.TheVariants.{LeftParen, RightParen, Name, Suffix, Text, Label, Number, TableLine}
 use Rattle.gms_grammar.specs.Terminals.{is_among}
 use Rattle.gms_grammar.proofs.Checks.{left_and}
-use Rattle.gms_parse_x.proofs.TokenKinds.{also}
+use Rattle.gms_expressions.proofs.TokenKinds.{also}
 use Rattle.gms_parse.specs.declared.fault.SourceFault.{SourceFault}
 use Rattle.gms_parse.specs.Walks.{Seen, Walk, kind_ahead, is_name, all_entered, LacksRoom, new_labels, walk_after, walk_behind, IsFaulty, deep, out_of_range, many_names, many_labels, in_table, without_lines, AreSound}
 use Rattle.gms_parse.proofs.TokenKinds.{begins, is_quiet}

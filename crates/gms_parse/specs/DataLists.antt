@@ -12,7 +12,7 @@ use Rattle.gms_set.specs.Ranges.{is_range, members}
 use Rattle.gq_extended.specs.declared.extended.Ext.{Ext}
 use Rattle.gq_extended.specs.declared.extended.Ext.TheVariants.{Number, PlusInf, MinusInf, Na}
 use Rattle.gms_ast.specs.declared.declaration.Item.{Item}
-use Rattle.gms_parse_x.specs.ExpressionTrees.{or_0, token_of, terminal_in, first_in, second_in, inside, is_minus, place_in}
+use Rattle.gms_expressions.specs.ExpressionTrees.{or_0, token_of, terminal_in, first_in, second_in, inside, is_minus, place_in}
 
 -- what the parts of a repetition mean, in order
 abbrev pub each_in : {A T : Type 0} → (Tree T → A) → Tree T → List A

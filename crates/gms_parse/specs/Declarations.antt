@@ -11,7 +11,7 @@ use Rattle.gms_ast.specs.declared.declaration.Decl.{Decl}
 use Rattle.gms_ast.specs.declared.declaration.Item.{Item}
 use Rattle.gms_ast.specs.declared.declaration.ModelDecl.{ModelDecl}
 use Rattle.gms_lex.specs.TokenTexts.{token_text}
-use Rattle.gms_parse_x.specs.ExpressionTrees.{is_word, token_of, first_in, second_in, inside, name_in}
+use Rattle.gms_expressions.specs.ExpressionTrees.{is_word, token_of, first_in, second_in, inside, name_in}
 use Rattle.gms_ast.specs.StatementTrees.{Act, declares, declares_models}
 use Rattle.gms_parse.specs.DataLists.{listed_in, optional_in, between, elements_in, entries_in, scalar_in}
 

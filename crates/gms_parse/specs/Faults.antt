@@ -6,10 +6,10 @@ use Rattle.gms_lines.specs.declared.fault.LexError.{LexError}
 use Rattle.gms_lines.specs.declared.fault.LexError.TheVariants as lexical
 use Rattle.gms_lex.specs.declared.fault.LexFaultOrMemory.{LexFaultOrMemory}
 use Rattle.gms_lex.specs.declared.fault.LexFaultOrMemory.TheVariants as lexed
-use Rattle.gms_parse_x.specs.declared.fault.SyntaxError.{SyntaxError}
-use Rattle.gms_parse_x.specs.declared.fault.SyntaxError.TheVariants as syntax
-use Rattle.gms_parse_x.specs.declared.fault.SyntaxFaultOrMemory.{SyntaxFaultOrMemory}
-use Rattle.gms_parse_x.specs.declared.fault.SyntaxFaultOrMemory.TheVariants as read
+use Rattle.gms_expressions.specs.declared.fault.SyntaxError.{SyntaxError}
+use Rattle.gms_expressions.specs.declared.fault.SyntaxError.TheVariants as syntax
+use Rattle.gms_expressions.specs.declared.fault.SyntaxFaultOrMemory.{SyntaxFaultOrMemory}
+use Rattle.gms_expressions.specs.declared.fault.SyntaxFaultOrMemory.TheVariants as read
 use Rattle.gms_table.specs.declared.fault.TableError.{TableError}
 use Rattle.gms_table.specs.declared.fault.TableError.TheVariants as table
 use Rattle.gms_table.specs.declared.fault.TableFaultOrMemory.{TableFaultOrMemory}

@@ -1,8 +1,9 @@
 -- What was read of a part is what its derivation means.
 use Rattle.std.specs.Prelude.{◌≡◌, ◌⊎◌, ℕ, Bool, true, false, not, ◌&&◌, ◌||◌, if◌then◌else◌, List, [], ◌∷◌, ◌++◌, map, Option, Some, None, option_map, Vec}
 use Rattle.std.specs.declared.alloc.Global.{Global}
+use Rattle.gms_labels.specs.declared.place.Place.{Place}
 use Rattle.gms_labels.specs.Labels.{place_of}
-use Rattle.gms_tokens.specs.declared.kind.Kind.TheVariants as token_kind
+use Rattle.gms_lexemes.specs.declared.kind.Kind.TheVariants as token_kind
 use Rattle.gms_lex.specs.declared.token.Token.{Token}
 use Rattle.gms_lex.specs.TokenTexts.{token_text, unquoted, IsPlaced}
 use Rattle.gms_set.specs.Ranges.{is_range}
@@ -24,18 +25,20 @@ use Rattle.gms_ast.specs.declared.declaration.ModelDecl.{ModelDecl}
 use Rattle.gms_ast.specs.declared.program.Act.{Act as ActNode}
 use Rattle.gms_ast.specs.declared.program.Act.TheFolds.{fold-Act}
 use Rattle.gms_ast.specs.declared.program.Setting.{Setting}
+use Rattle.gms_ast.specs.declared.program.Side.{Side}
 use Rattle.gms_ast.specs.declared.program.Show.{Show}
 use Rattle.gms_ast.specs.declared.program.Stmt.{Stmt}
 use Rattle.gms_ast.specs.declared.program.Target.{Target as TargetNode}
 use Rattle.gms_ast.specs.Trees.{Tree as Syntax, not_so, Indices, no_index, label, set, lagged}
 use Rattle.gms_ast.specs.TreeView.{control_tree}
 use Rattle.gms_ast.specs.Numbers.{control_in_numbers}
-use Rattle.gms_ast.specs.StatementTrees.{Act, declares, assigns, defines, Statements, Target}
+use Rattle.gms_ast.specs.StatementTrees.{Act, declares, assigns, defines, Statements, Target, Sides}
 use Rattle.gms_ast.specs.StatementView.{extended_in, item_in, declared_in, setting_in, shown_tree, shown_indices, shown_target, in_order, act_step, statement_step, statement_view}
-use Rattle.gms_parse_x.specs.ExpressionTrees.{or_0, negated_by, negated_primary, expression, primary, control, suffix_in, first_in, second_in, inside as inside_of, place_in, token_of}
+use Rattle.gms_expressions.specs.ExpressionTrees.{or_0, negated_by, negated_primary, expression, primary, control, suffix_in, first_in, second_in, inside as inside_of, place_in, token_of}
 use Rattle.gms_parse.specs.declared.fault.SourceError.TheVariants.{TooManyLabels}
 use Rattle.gms_parse.specs.declared.fault.SourceFaultOrMemory.{SourceFaultOrMemory}
 use Rattle.gms_parse.specs.declared.fault.SourceFaultOrMemory.TheVariants.{Fault, Memory}
+use Rattle.gms_parse.specs.declared.assign.Relation.{Relation}
 use Rattle.gms_parse.specs.declared.reader.Tables.{Tables}
 use Rattle.gms_parse.specs.declared.data.ListOf.{ListOf}
 use Rattle.gms_parse.specs.declared.data.ListOf.TheVariants as list
@@ -45,7 +48,7 @@ use Rattle.gms_parse.specs.declared.declaration.Form.{Form}
 use Rattle.gms_parse.specs.declared.declaration.Form.TheVariants as form
 use Rattle.gms_parse.specs.DataLists.{listed_in, optional_in, between, any_true, opposed, signed_value, labels_in_range, is_bad_range, labels_in_part, has_bad_range, value_of_token, value_in, item_of, entry_of, elements_in, entries_in, scalar_in}
 use Rattle.gms_parse.specs.Declarations.{variable_kind, items_in, named_in, position_in, domain_in, optional_domain, plain_in, has_all, equations_in, model_in, set_in, parameter_in, scalar_item_in}
-use Rattle.gms_parse.specs.Statements.{bytes_in, word_in, shown_in, shown_list, setting_in as setting_of, condition_in, target_in, sides_in, is_maximizing}
+use Rattle.gms_parse.specs.Statements.{bytes_in, word_in, shown_in, shown_list, setting_in as setting_of, condition_in, target_in, side_of, sides_in, is_maximizing}
 use Rattle.gms_parse.specs.Programs.{loop_body, inner_act, named_first, segment, statements_of}
 use Rattle.gms_parse.specs.Walks.{Seen, LacksRoom, all_entered, range_texts}
 use Rattle.gms_parse.specs.Outcomes.{HaveItems, AreAllItems}
@@ -221,6 +224,16 @@ act_view {F} value act = fold-Act F (Act Number) (Statements Number → Statemen
 
 -- ---- assignments and definitions
 
+-- the two sides of a definition, over numbers
+abbrev pub shown_sides : {F : Type 0} → (F → Number) → Relation F → Sides Number
+shown_sides value relation = record {
+  left_at = relation.left_at;
+  left = shown_tree value relation.left;
+  side = relation.side;
+  right_at = relation.right_at;
+  right = shown_tree value relation.right;
+}
+
 -- an index with a lag comes first
 abbrev pub begins_lagged : {N : Type 0} → Indices N → Bool
 begins_lagged (lagged name op at amount rest) = true
@@ -298,6 +311,18 @@ module _ {F : Type 0} (value : F → Number) (source : List ℕ) where
   -- a statement does what its derivation means
   abbrev pub IsAct : (List ℕ → List (List ℕ) → List (List ℕ) → (List ℕ → Number) → Derivation → Act Number) → Sense → Derivation → ActNode F → Type 0
   IsAct meaning sense tree act = act_view value act ≡ meaning source sense.names sense.labels sense.value tree
+
+  -- a right side behind its `=`, and its place
+  abbrev pub IsRightSide : Sense → Derivation → Place × Expr F → Type 0
+  IsRightSide sense tree found = (found.0 ≡ place_in (second_in tree)) × (shown_tree value found.1 ≡ expression source sense.names sense.labels sense.value (second_in tree))
+
+  -- how two sides relate, and the right one, with its place
+  abbrev pub IsRelated : Sense → Derivation → Side × Place × Expr F → Type 0
+  IsRelated sense tree found = (found.0 ≡ side_of (token_of (first_in tree)).kind) × IsRightSide sense tree (found.1, found.2)
+
+  -- the two sides of a definition
+  abbrev pub IsRelation : Sense → Derivation → Relation F → Type 0
+  IsRelation sense tree relation = shown_sides value relation ≡ sides_in source sense.names sense.labels sense.value tree
 
   -- the assignment to a target, under a condition, of a right side behind its `=`
   abbrev pub IsAssigned : TargetNode F → Option (Expr F) → Sense → Derivation → ActNode F → Type 0

@@ -13,9 +13,9 @@ use Rattle.gms_grammar.specs.Terminals.{is}
 use Rattle.gms_grammar.specs.GamsGrammar.{Program, productions}
 use Rattle.gms_ast.specs.declared.declaration.Item.{Item}
 use Rattle.gms_ast.specs.declared.program.Program.{Program as ProgramNode}
-use Rattle.gms_parse_x.specs.ExpressionTrees.{first_place}
-use Rattle.gms_parse_x.specs.Outcomes.{seen}
-use Rattle.gms_parse_x.specs.Valuations.{IsValuation}
+use Rattle.gms_expressions.specs.ExpressionTrees.{first_place}
+use Rattle.gms_expressions.specs.Outcomes.{seen}
+use Rattle.gms_expressions.specs.Valuations.{IsValuation}
 use Rattle.gms_parse.specs.declared.fault.SourceError.{SourceError}
 use Rattle.gms_parse.specs.declared.fault.SourceError.TheVariants.{TooLong, Expected, NotInProfile}
 use Rattle.gms_parse.specs.declared.fault.SourceFault.{SourceFault}

@@ -4,7 +4,7 @@ use Rattle.gms_lex.specs.declared.token.Token.{Token}
 use Rattle.gms_grammar.specs.declared.terminal.Terminal.{Terminal}
 use Rattle.gms_grammar.specs.Grammar.{Tree, pair, left, right, some, more, node}
 use Rattle.gms_ast.specs.declared.declaration.Item.{Item}
-use Rattle.gms_parse_x.specs.ExpressionTrees.{place_in, control}
+use Rattle.gms_expressions.specs.ExpressionTrees.{place_in, control}
 use Rattle.gms_ast.specs.StatementTrees.{Act, loops, displays, Statements, no_statement, statement, followed_by}
 use Rattle.gms_parse.specs.Declarations.{variable_act, equation_act, model_act, set_act, parameter_act, scalar_act, table_act}
 use Rattle.gms_parse.specs.Statements.{named_act, assignment_act, alias_act, display_act, option_act, solve_act, abort_act}

@@ -17,9 +17,9 @@ use Rattle.gms_grammar.specs.Reading.{read, stuck, leads, Reads, Takes}
 use Rattle.gms_grammar.specs.Terminals.{is, is_among}
 use Rattle.gms_grammar.specs.GamsGrammar.{Nonterminal, Program, productions, token, name}
 use Rattle.gms_grammar.specs.GamsLookAhead.{look_ahead}
-use Rattle.gms_parse_x.specs.Words.{terminal_of}
-use Rattle.gms_parse_x.specs.Outcomes.{seen, next_place}
-use Rattle.gms_parse_x.specs.Valuations.{IsValuation}
+use Rattle.gms_expressions.specs.Words.{terminal_of}
+use Rattle.gms_expressions.specs.Outcomes.{seen, next_place}
+use Rattle.gms_expressions.specs.Valuations.{IsValuation}
 use Rattle.gms_parse.specs.declared.fault.SourceError.TheVariants.{Number as OutOfRange, TooManyLabels, NoHeading}
 use Rattle.gms_parse.specs.declared.fault.SourceFault.{SourceFault}
 use Rattle.gms_parse.specs.declared.fault.SourceFaultOrMemory.{SourceFaultOrMemory}

@@ -1,9 +1,9 @@
 -- What the derivations of statements mean (GAMS User's Guide, "Data Manipulation", "Equations", "Model and Solve Statements",
 -- "Display", "Programming Flow Control Features").
 use Rattle.std.specs.Prelude.{ℕ, Bool, false, List, [], Option, Some, None, codes}
-use Rattle.gms_tokens.specs.declared.kind.Sym.TheVariants as sym
-use Rattle.gms_tokens.specs.declared.kind.Kind.{Kind}
-use Rattle.gms_tokens.specs.declared.kind.Kind.TheVariants as token_kind
+use Rattle.gms_lexemes.specs.declared.kind.Sym.TheVariants as sym
+use Rattle.gms_lexemes.specs.declared.kind.Kind.{Kind}
+use Rattle.gms_lexemes.specs.declared.kind.Kind.TheVariants as token_kind
 use Rattle.gms_lex.specs.declared.token.Token.{Token}
 use Rattle.gms_grammar.specs.declared.terminal.Terminal.{Terminal}
 use Rattle.gms_grammar.specs.Grammar.{Tree, pair, left, right, none, some, node}
@@ -19,7 +19,7 @@ use Rattle.gms_ast.specs.declared.program.Setting.{Setting}
 use Rattle.gms_ast.specs.declared.program.Setting.TheVariants as setting
 use Rattle.gms_ast.specs.Trees as trees
 use Rattle.gms_lex.specs.TokenTexts.{token_text}
-use Rattle.gms_parse_x.specs.ExpressionTrees.{is_word, unquoted, token_of, first_in, second_in, inside, place_in, name_in, label_in, suffix_in, suffix_of, expression, condition, index, more_indices, lag}
+use Rattle.gms_expressions.specs.ExpressionTrees.{is_word, unquoted, token_of, first_in, second_in, inside, place_in, name_in, label_in, suffix_in, suffix_of, expression, condition, index, more_indices, lag}
 use Rattle.gms_ast.specs.StatementTrees.{Act, aliases, assigns, defines, solves, displays, sets_options, aborts, Target, Sides}
 use Rattle.gms_parse.specs.DataLists.{listed_in, optional_in, between}
 use Rattle.gms_parse.specs.Declarations.{named_in}

@@ -12,8 +12,8 @@ use Rattle.gms_grammar.specs.declared.terminal.Terminal.{Terminal}
 use Rattle.gms_grammar.specs.declared.terminal.Terminal.TheVariants as terminal
 use Rattle.gms_grammar.specs.Terminals.{is, is_among}
 use Rattle.gms_set.specs.Ranges.{is_range, members}
-use Rattle.gms_parse_x.specs.ExpressionTrees.{unquoted as between_marks}
-use Rattle.gms_parse_x.specs.Outcomes.{open_after}
+use Rattle.gms_expressions.specs.ExpressionTrees.{unquoted as between_marks}
+use Rattle.gms_expressions.specs.Outcomes.{open_after}
 use Rattle.gms_parse.specs.declared.fault.SourceError.TheVariants.{Depth, Number as OutOfRange, TooManyLabels, NoHeading}
 use Rattle.gms_parse.specs.declared.fault.SourceFault.{SourceFault}
 use Rattle.gms_parse.specs.Tables.{labels_of_lines, IsLineFault}

@@ -16,9 +16,9 @@ use crate::fault::SourceFaultOrMemory;
 use crate::reader::{Read, Reader, Tables};
 use crate::spelling::{between_marks, is_maximizing};
 use gms_ast::{Act, Named, Sequence, Setting, Show, Suffix, Word};
+use gms_expressions::suffix_of;
 use gms_grammar::Terminal;
 use gms_lex::Token;
-use gms_parse_x::suffix_of;
 use gq_field::ExactField;
 
 /// The kinds of what is shown: texts and names.

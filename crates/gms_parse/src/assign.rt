@@ -2,19 +2,32 @@
 ghost use Rattle.std.specs.Prelude.{◌≡◌, ◌<◌, ◌||◌, length};
 ghost use Rattle.gms_grammar.specs.Grammar.{the, ◌·◌};
 ghost use Rattle.gms_grammar.specs.GamsGrammar.{Expression, Sides as SidesPart, Assignment, NamedStatement, token};
-ghost use Rattle.gms_grammar.specs.declared.terminal.Terminal.TheVariants.{Equals};
+ghost use Rattle.gms_grammar.specs.declared.terminal.Terminal.TheVariants.{Equals, Sense};
 ghost use Rattle.gms_ast.specs.Trees.{Indices};
 ghost use Rattle.gms_ast.specs.TreeView.{index_tree};
 ghost use Rattle.gms_ast.specs.StatementView.{shown_target};
 ghost use Rattle.gms_parse.specs.Statements.{assignment_act, named_act};
 ghost use Rattle.gms_parse.specs.Readings.{IsReady, AnswersPart};
-ghost use Rattle.gms_parse.specs.Meanings.{IsAssigned, IsDefined, IsAct, is_plain_target, has_lag};
+ghost use Rattle.gms_parse.specs.Meanings.{IsAssigned, IsDefined, IsRightSide, IsRelated, IsRelation, IsAct, is_plain_target, has_lag};
 
 use crate::reader::{Read, Reader, Tables};
 use crate::spelling::side_of;
-use gms_ast::{Act, Expr, Index, Named, Right, Suffix, Target};
+use gms_ast::{Act, Expr, Index, Named, Right, Side, Suffix, Target};
 use gms_grammar::Terminal;
+use gms_labels::Place;
 use gq_field::ExactField;
+
+/// The two sides of a definition, and how they relate.
+#[derive(Drop)]
+struct Relation<F> {
+    /// The place of the first character of the left side.
+    left_at: Place,
+    left: Expr<F>,
+    side: Side,
+    /// The place of the first character of the right side.
+    right_at: Place,
+    right: Expr<F>,
+}
 
 /// Whether an index has a lag.
 fn has_lag<F: ExactField>(index: &Index<F>) -> bool
@@ -39,6 +52,16 @@ fn is_plain<F: ExactField>(target: &Target<F>) -> bool
 }
 
 impl<'s> Reader<'s> {
+    /// The right side behind the `=` that stands here, and its place.
+    fn right_value<F: ExactField>(&self, tables: &mut Tables, at: usize) -> Read<(Place, Expr<F>)>
+        requires { IsReady self.now }
+        ensures { AnswersPart F.limit (IsRightSide F.value self.now.source.now) (token Equals · the Expression) self.now at tables.old tables.new result }
+    {
+        let right = self.behind(Terminal::Equals, at)?;
+        let (value, next) = self.expression(tables, right)?;
+        Ok(((self.place(right), value), next))
+    }
+
     /// The assignment to a target, under a condition, of the right side behind the `=` that stands here.
     fn right_side<F: ExactField>(
         &self,
@@ -50,15 +73,47 @@ impl<'s> Reader<'s> {
         requires { IsReady self.now }
         ensures { AnswersPart F.limit (IsAssigned F.value self.now.source.now target condition) (token Equals · the Expression) self.now at tables.old tables.new result }
     {
-        let right = self.behind(Terminal::Equals, at)?;
-        let (value, next) = self.expression(tables, right)?;
-        let act = Act::Assign {
-            target,
-            condition,
-            right_at: self.place(right),
-            right: Right::Value(value),
-        };
-        Ok((act, next))
+        let right = self.right_value(tables, at);
+        right.map(|((right_at, value), next)| {
+            let act = Act::Assign {
+                target,
+                condition,
+                right_at,
+                right: Right::Value(value),
+            };
+            (act, next)
+        })
+    }
+
+    /// How two sides relate, by the symbol that stands here, and the right side behind it with its place.
+    fn related<F: ExactField>(&self, tables: &mut Tables, at: usize) -> Read<(Side, Place, Expr<F>)>
+        requires { IsReady self.now }
+        ensures { AnswersPart F.limit (IsRelated F.value self.now.source.now) (token Sense · the Expression) self.now at tables.old tables.new result }
+    {
+        let (sense, behind) = self.take(Terminal::Sense, at)?;
+        let (right, next) = self.expression(tables, behind)?;
+        Ok(((side_of(sense.kind), self.place(behind), right), next))
+    }
+
+    /// The two sides that stand here, and how they relate.
+    fn relation<F: ExactField>(&self, tables: &mut Tables, at: usize) -> Read<Relation<F>>
+        requires ready { IsReady self.now }
+        requires within { at < length self.now.tokens.now }
+        ensures { AnswersPart F.limit (IsRelation F.value self.now.source.now) (the SidesPart) self.now at tables.old tables.new result }
+    {
+        let left_at = self.place(at);
+        let (left, next) = self.expression(tables, at)?;
+        let related = self.related(tables, next);
+        related.map(|((side, right_at, right), next)| {
+            let relation = Relation {
+                left_at,
+                left,
+                side,
+                right_at,
+                right,
+            };
+            (relation, next)
+        })
     }
 
     /// The definition of an equation, under a condition, by the two sides that stand here.
@@ -73,23 +128,25 @@ impl<'s> Reader<'s> {
         requires within { at < length self.now.tokens.now }
         ensures { AnswersPart F.limit (IsDefined F.value self.now.source.now equation condition) (the SidesPart) self.now at tables.old tables.new result }
     {
-        let (left, next) = self.expression(tables, at)?;
-        let (sense, behind) = self.take(Terminal::Sense, next)?;
-        let (right, next) = self.expression(tables, behind)?;
-        let act = Act::Define {
-            equation: Named {
-                at: equation.at,
-                name: equation.name,
-            },
-            indices: equation.indices,
-            condition,
-            left_at: self.place(at),
-            left,
-            side: side_of(sense.kind),
-            right_at: self.place(behind),
-            right,
+        let name = Named {
+            at: equation.at,
+            name: equation.name,
         };
-        Ok((act, next))
+        let indices = equation.indices;
+        let relation = self.relation(tables, at);
+        relation.map(|(relation, next)| {
+            let act = Act::Define {
+                equation: name,
+                indices,
+                condition,
+                left_at: relation.left_at,
+                left: relation.left,
+                side: relation.side,
+                right_at: relation.right_at,
+                right: relation.right,
+            };
+            (act, next)
+        })
     }
 
     /// The assignment that stands here.

@@ -3,9 +3,9 @@ ghost use Rattle.std.specs.Prelude.{◌≡◌};
 ghost use Rattle.gms_parse.specs.declared.fault.SourceFaultOrMemory.TheVariants.{Memory};
 ghost use Rattle.gms_parse.specs.Faults.{error_code, error_name, error_of_lexical, error_of_syntax, fault_at, fault_of_lexical, fault_of_syntax};
 
+use gms_expressions::{SyntaxError, SyntaxFaultOrMemory};
 use gms_labels::Place;
 use gms_lex::{LexError, LexFaultOrMemory};
-use gms_parse_x::{SyntaxError, SyntaxFaultOrMemory};
 use std::alloc::{AllocError, AllocFailed};
 use thiserror::Error;
 

@@ -25,7 +25,7 @@ impl<'s> Reader<'s> {
         requires within { at < length self.now.tokens.now }
         ensures { AnswersFormula F.limit (IsExpression F.value self.now.source.now) (the Expression) self.now at tables.old tables.new result }
     {
-        Ok(gms_parse_x::expression(
+        Ok(gms_expressions::expression(
             self.alloc,
             self.source,
             self.tokens,
@@ -42,7 +42,7 @@ impl<'s> Reader<'s> {
         requires within { at < length self.now.tokens.now }
         ensures { AnswersFormula F.limit (IsOperand F.value self.now.source.now) (the Primary) self.now at tables.old tables.new result }
     {
-        Ok(gms_parse_x::primary(
+        Ok(gms_expressions::primary(
             self.alloc,
             self.source,
             self.tokens,
@@ -59,7 +59,7 @@ impl<'s> Reader<'s> {
         requires within { at < length self.now.tokens.now }
         ensures { AnswersFormula F.limit (IsControl F.value self.now.source.now) (the ControlPart) self.now at tables.old tables.new result }
     {
-        Ok(gms_parse_x::control(
+        Ok(gms_expressions::control(
             self.alloc,
             self.source,
             self.tokens,
@@ -76,7 +76,7 @@ impl<'s> Reader<'s> {
         requires within { at < length self.now.tokens.now }
         ensures { AnswersFormula F.limit (IsTarget F.value self.now.source.now) (the TargetPart) self.now at tables.old tables.new result }
     {
-        Ok(gms_parse_x::target(
+        Ok(gms_expressions::target(
             self.alloc,
             self.source,
             self.tokens,

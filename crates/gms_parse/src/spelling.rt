@@ -1,6 +1,6 @@
 //! What words and symbols of statements mean.
 ghost use Rattle.std.specs.Prelude.{◌≡◌};
-ghost use Rattle.gms_parse_x.specs.ExpressionTrees.{unquoted, is_minus};
+ghost use Rattle.gms_expressions.specs.ExpressionTrees.{unquoted, is_minus};
 ghost use Rattle.gms_parse.specs.Statements.{is_maximizing, side_of};
 
 use gms_ast::Side;

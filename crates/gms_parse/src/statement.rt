@@ -111,10 +111,8 @@ impl<'s> Reader<'s> {
         let (control, next) = inner.control(tables, start)?;
         let first = inner.behind(Terminal::Comma, next)?;
         let (body, next) = inner.loop_body(tables, first)?;
-        Ok((
-            Act::Loop { control, body },
-            self.behind(Terminal::RightParen, next)?,
-        ))
+        let behind = self.behind(Terminal::RightParen, next)?;
+        Ok((Act::Loop { control, body }, behind))
     }
 
     /// The statements of a loop that stand here, and the semicolon behind the last, where there is one.

@@ -1,4 +1,4 @@
-//! Rows: the affine forms of equations, and the linear program that a solve means.
+//! Floor 5, the run. Rows: the affine forms of equations, and the linear program that a solve means.
 #![tactic(auto)]
 
 mod columns;

@@ -1,9 +1,10 @@
 //! The affine form of an expression.
-ghost use Rattle.std.specs.Prelude.{map};
+ghost use Rattle.std.specs.Prelude.{map, ◌≡◌};
 ghost use Rattle.gms_ast.specs.Trees.{signed};
 ghost use Rattle.gms_ast.specs.TreeView.{tree_of, control_tree, index_tree, indices_of};
+ghost use Rattle.gms_eval.specs.Bindings.{controlled};
 ghost use Rattle.gms_eval.specs.Gives.{Gives};
-ghost use Rattle.gms_rows.specs.Affine.{affine, operand, plain_operand, variable_form, total_form, joined, plus_part, times_part, meant};
+ghost use Rattle.gms_rows.specs.Affine.{affine, operand, plain_operand, variable_form, total, total_form, joined, plus_part, times_part, meant};
 ghost use Rattle.gms_rows.specs.Forms.{form_in};
 ghost use Rattle.gms_rows.specs.Walks.{operand_in, parts_in, part_meant};
 
@@ -14,6 +15,7 @@ use gms_ast::{Control, Expr, Index};
 use gms_eval::{Binding, StopOrMemory, all_hold, domain, tuple_of, value};
 use gms_labels::Place;
 use gms_store::Store;
+use gms_tuple::Tuple;
 use gq_extended::Ext;
 use gq_field::ExactField;
 use lp_form::{Form, Key};
@@ -26,6 +28,7 @@ use std::alloc::Global;
 /// The expression is linear, and its first character stands at `at`. What has no variables has its value; where that is no number the stop
 /// is `Undefined` at its first character. All other steps are taken entry by entry, the constant first, and a stop is the first that does
 /// not fit. GAMS User's Guide, "Equations".
+#[cycle(operand)]
 pub fn affine<F: ExactField>(
     alloc: Global,
     store: &Store<F>,
@@ -130,17 +133,46 @@ fn total<F: ExactField>(
 ) -> Result<Form<F>, StopOrMemory<F>>
     ensures { Gives F.value (form_in F.value) result (total_form F.value F.limit store.now at b.now (control_tree control.now) (tree_of body.now)) }
 {
+    let mut inner = b.copy(alloc)?;
     let elements = domain(alloc, store, control, at, b)?;
     let mut total = FormSum::new(alloc);
-    let mut inner = b.copy(alloc)?;
-    for element in &elements {
-        inner.control(b.len(), control.sets.as_slice(), element.as_slice())?;
-        let part = operand(alloc, store, body, at, &inner)?;
-        let form = part.into_form(alloc, at, &inner)?;
-        add_to(alloc, &mut total, &form, at, b)?;
-    }
+    add_elements(
+        alloc,
+        store,
+        body,
+        control.sets.as_slice(),
+        at,
+        b,
+        &elements,
+        &mut inner,
+        &mut total,
+    )?;
     let sum = finished(alloc, total)?;
     Ok(sum)
+}
+
+/// Adds the forms of an expression at elements, to whose labels these sets are bound behind those of a binding.
+#[cycle(operand)]
+fn add_elements<F: ExactField>(
+    alloc: Global,
+    store: &Store<F>,
+    body: &Expr<F>,
+    sets: &[u32],
+    at: Place,
+    b: &Binding,
+    elements: &[Tuple],
+    inner: &mut Binding,
+    so_far: &mut FormSum<F>,
+) -> Result<(), StopOrMemory<F>>
+    requires { inner.old ≡ b.now }
+    ensures { Gives F.value (λ _. form_in F.value so_far.new) result (total F.limit at b.now (form_in F.value so_far.old) (map (λ element. affine F.value F.limit store.now at (controlled b.now sets.now element) (tree_of body.now)) elements.now)) }
+{
+    for element in elements {
+        inner.control(b.len(), sets, element.as_slice())?;
+        let form = affine(alloc, store, body, at, inner)?;
+        add_to(alloc, so_far, &form, at, b)?;
+    }
+    Ok(())
 }
 
 /// What a sum means, from the left: a value while no part has variables.

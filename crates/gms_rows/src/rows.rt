@@ -103,18 +103,17 @@ pub(crate) fn push_rows<F: ExactField>(
         (rows_of F.value F.limit store.now (definition_in definition.now) and_then λ those. Ok (map (form_row_in F.value) rows.old.items ++ those)) }
     ensures ordered { OnOk result (HaveOrder store.now (definition_in definition.now ∷ [])) }
 {
-    let none = Binding::new(alloc);
     let sets = sets_of(alloc, definition.indices)?;
     look_at(store, &sets);
+    let mut inner = Binding::new(alloc);
     let elements = domain_over(
         alloc,
         store,
         &sets,
         definition.condition,
         definition.at,
-        &none,
+        &inner,
     )?;
-    let mut inner = none.copy(alloc)?;
     for element in &elements {
         inner.control(0, &sets, element.as_slice())?;
         let row = row(alloc, store, definition, &inner)?;

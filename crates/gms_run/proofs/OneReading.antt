@@ -10,7 +10,7 @@ use Rattle.gms_grammar.specs.Grammar.{the, yield, Stops}
 use Rattle.gms_grammar.specs.GamsGrammar.{Program, productions}
 use Rattle.gms_grammar.proofs.Basics.{behind_same}
 use Rattle.gms_grammar.proofs.Stopping.{stops_once}
-use Rattle.gms_parse_x.specs.Outcomes.{seen}
+use Rattle.gms_expressions.specs.Outcomes.{seen}
 use Rattle.gms_parse.specs.declared.fault.SourceFault.{SourceFault}
 use Rattle.gms_parse.specs.Outcomes.{IsProgram, IsProgramOf, IsFault, IsNoProgram, IsFirstFaulty, IsUnexpected}
 use Rattle.gms_parse.specs.Walks.{Seen, Walk, start, kind_ahead, walk_after, walk_behind, IsFaulty, AreSound}

@@ -1,4 +1,4 @@
-//! The top call: a run of `gams25` from the words of its command line to the bytes of its listing.
+//! Floor 7, outside. The top call: a run of `gams25` from the words of its command line to the bytes of its listing.
 #![tactic(auto)]
 
 mod closing;

@@ -4,7 +4,7 @@ use Rattle.std.specs.List.{onto_first}
 use Rattle.std.proofs.lemmas.Bool.Decides.{nat_tests}
 use Rattle.gms_lines.specs.Lines.{is_blank}
 use Rattle.gms_lines.proofs.LineLemmas.{true_or_false}
-use Rattle.gms_tokens.specs.Bytes.{is_quote}
+use Rattle.gms_lexemes.specs.Bytes.{is_quote}
 use Rattle.gms_table.specs.declared.stretch.Stand.{Stand}
 use Rattle.gms_table.specs.declared.stretch.Stand.TheVariants.{First, Marked, Inner}
 use Rattle.gms_table.specs.Words.{is_dot, behind_plain, behind, parts, parted}

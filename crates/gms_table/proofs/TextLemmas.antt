@@ -9,7 +9,7 @@ use Rattle.std.proofs.lemmas.Bool.Decides.{nat_tests}
 use Rattle.std.proofs.lemmas.Str.{IsUtf8-from_ascii}
 use Rattle.std.proofs.lemmas.Str.Ascii.{IsAscii-nil, IsAscii-cons}
 use Rattle.gms_lines.proofs.LineLemmas.{true_or_false}
-use Rattle.gms_tokens.specs.Bytes.{is_label_byte, is_plain}
+use Rattle.gms_lexemes.specs.Bytes.{is_label_byte, is_plain}
 
 IsAscii-plain : (bytes : List ℕ) → list_all is_plain bytes ≡ true → IsAscii bytes
 IsAscii-plain [] h = IsAscii-nil

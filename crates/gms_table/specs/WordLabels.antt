@@ -6,8 +6,8 @@ use Rattle.std.specs.Char.{is_ascii_alphanumeric}
 use Rattle.gms_lines.specs.Lines.{begins}
 use Rattle.gms_labels.specs.Labels.{entered, place_of}
 use Rattle.gms_table.specs.declared.stretch.Stand.TheVariants.{First}
-use Rattle.gms_tokens.specs.Bytes.{is_label_byte, is_quote, is_plain}
-use Rattle.gms_tokens.specs.Shapes.{longest_label}
+use Rattle.gms_lexemes.specs.Bytes.{is_label_byte, is_quote, is_plain}
+use Rattle.gms_lexemes.specs.Shapes.{longest_label}
 use Rattle.gms_table.specs.Words.{Word, is_dot, parted}
 
 -- the label that stands behind its first mark: the text before the mark comes again, with nothing behind that; it is of ASCII

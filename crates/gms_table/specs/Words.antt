@@ -4,7 +4,7 @@ use Rattle.std.specs.Prelude.{ℕ, ◌+◌, ◌*◌, ◌/◌, Bool, false, ◌&&
 use Rattle.std.specs.List.{list_any, onto_first}
 use Rattle.gms_labels.specs.declared.place.Place.{Place}
 use Rattle.gms_lines.specs.Lines.{is_blank}
-use Rattle.gms_tokens.specs.Bytes.{is_quote}
+use Rattle.gms_lexemes.specs.Bytes.{is_quote}
 use Rattle.gms_table.specs.declared.stretch.Stand.{Stand}
 use Rattle.gms_table.specs.declared.stretch.Stand.TheVariants.{First, Marked, Inner}
 

@@ -4,7 +4,7 @@ ghost use Rattle.std.specs.List.{list_all, prefix_len};
 ghost use Rattle.std.specs.Char.{is_ascii_alphanumeric};
 ghost use Rattle.std.specs.Option.{option_copied};
 ghost use Rattle.gms_lines.specs.Lines.{begins};
-ghost use Rattle.gms_tokens.specs.Bytes.{is_plain};
+ghost use Rattle.gms_lexemes.specs.Bytes.{is_plain};
 ghost use Rattle.gms_table.specs.WordLabels.{quoted_label, plain_label, label_of, labels_of, GoesOn};
 ghost use Rattle.gms_table.specs.Names.{Enters, IsEntering, read, read_all};
 ghost use Rattle.gms_table.specs.Shown.{seen};
@@ -13,7 +13,7 @@ use crate::fault::{TableError, TableFaultOrMemory};
 use crate::stretch::{Separator, stretch_length};
 use crate::word::Word;
 use gms_labels::{LabelFault, Labels, MOST_BYTES};
-use gms_tokens::label_length;
+use gms_lexemes::label_length;
 use std::alloc::{AllocError, Global};
 
 /// Whether all bytes are of ASCII.

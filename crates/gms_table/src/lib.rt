@@ -1,4 +1,4 @@
-//! Tables of data: numbers under headings and behind row labels, each with its entry, or the first fault of the table.
+//! Floor 2, source to tree. Tables of data: numbers under headings and behind row labels, each with its entry, or the first fault of the table.
 #![tactic(auto)]
 
 mod entry;

@@ -1,7 +1,7 @@
 //! The stretches of a text between blanks or dots, where labels in quotation marks may hold both.
 ghost use Rattle.std.specs.Prelude.{◌≡◌, ◌≤◌, ◌&&◌, ◌==◌, length};
 ghost use Rattle.std.specs.List.{list_any};
-ghost use Rattle.gms_tokens.specs.Bytes.{is_quote};
+ghost use Rattle.gms_lexemes.specs.Bytes.{is_quote};
 ghost use Rattle.gms_table.specs.declared.stretch.Stand.TheVariants.{First};
 ghost use Rattle.gms_table.specs.Words.{behind, parts};
 ghost use Rattle.gms_table.specs.Stretches.{is_separator, stretch_length};

@@ -1,4 +1,4 @@
-//! Tuples of labels in their one order, and sets of tuples as ordered lists.
+//! Floor 3, state and checks. Tuples of labels in their one order, and sets of tuples as ordered lists.
 #![tactic(auto)]
 
 mod merge;

@@ -1,4 +1,4 @@
-//! The words of the command line.
+//! Floor 7, outside. The words of the command line.
 #![tactic(auto)]
 
 mod command_line;
@@ -9,6 +9,3 @@ pub use command_line::{
     usage_line,
 };
 pub use laws::words_laws;
-
-#[cfg(test)]
-mod tests;

@@ -1,4 +1,4 @@
-//! Exact numbers with a limit: fields of fractions whose parts fit, and what a step answers that does not.
+//! Floor 1, numbers. Exact numbers with a limit: fields of fractions whose parts fit, and what a step answers that does not.
 #![tactic(auto)]
 
 mod compare;

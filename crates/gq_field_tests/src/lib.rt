@@ -1,4 +1,4 @@
-//! Tests of `gq_field`, in a crate of their own so that `gq_field` is not proved a second time with them.
+//! Floor 1, numbers. The steps of `Tiny` over all pairs of its numbers, by the rules of whole numbers.
 #![tactic(auto)]
 
 #[cfg(test)]

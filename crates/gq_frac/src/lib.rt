@@ -1,10 +1,8 @@
-//! Exact numbers over 128 bits, and how they are those of the field with 63 bits.
+//! Floor 1, numbers. Exact numbers over 128 bits, and how they are those of the field with 63 bits.
 #![tactic(auto)]
 
 mod frac;
 mod laws;
-#[cfg(test)]
-mod tests;
 mod widths;
 
 pub use frac::Frac;

@@ -1,4 +1,4 @@
-//! What exact numbers are, and their laws.
+//! Floor 1, numbers. What exact numbers are, and their laws.
 #![tactic(auto)]
 
 mod divisors;

@@ -1,4 +1,4 @@
-//! The texts of exact numbers: how decimals are read, and how numbers are shown.
+//! Floor 1, numbers. The texts of exact numbers: how decimals are read, and how numbers are shown.
 #![tactic(auto)]
 
 mod digits;
@@ -9,8 +9,6 @@ mod literal;
 mod parts;
 mod read;
 mod show;
-#[cfg(test)]
-mod tests;
 
 pub use digits::Digits;
 pub use fault::NumberFault;

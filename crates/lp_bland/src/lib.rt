@@ -1,4 +1,4 @@
-//! Bland's rule: a linear program goes in, and an answer that proves itself comes out.
+//! Floor 4, linear programs. Bland's rule: a linear program goes in, and an answer that proves itself comes out.
 #![tactic(auto)]
 
 mod answer;

@@ -1,4 +1,4 @@
-//! Linear programs and their answers: what is feasible, what bounds the objective, what proves an answer, and what an
+//! Floor 4, linear programs. Linear programs and their answers: what is feasible, what bounds the objective, what proves an answer, and what an
 //! answer of the dictionary simplex method is.
 #![tactic(auto)]
 

@@ -1,4 +1,4 @@
-//! The dictionary of the simplex method, sparse and exact, over any field.
+//! Floor 4, linear programs. The dictionary of the simplex method, sparse and exact, over any field.
 #![tactic(auto)]
 
 mod choice;

@@ -1,12 +1,10 @@
-//! Affine forms: a constant and a number for each key, computed with exactly and entry by entry.
+//! Floor 4, linear programs. Affine forms: a constant and a number for each key, computed with exactly and entry by entry.
 #![tactic(auto)]
 
 mod fault;
 mod form;
 mod key;
 mod terms;
-#[cfg(test)]
-mod tests;
 
 pub use fault::FormFault;
 pub use form::Form;

@@ -1,4 +1,4 @@
-//! The slot for a solver: what each solver of linear programs tells of itself, and what it answers.
+//! Floor 4, linear programs. The slot for a solver: what each solver of linear programs tells of itself, and what it answers.
 #![tactic(auto)]
 
 mod solver;

@@ -1,4 +1,4 @@
-//! Linear programs in standard form, and the way back from a last dictionary to an answer of the program.
+//! Floor 4, linear programs. Linear programs in standard form, and the way back from a last dictionary to an answer of the program.
 #![tactic(auto)]
 
 mod back;
@@ -9,8 +9,6 @@ mod laws;
 mod levels;
 mod rows;
 mod stop;
-#[cfg(test)]
-mod tests;
 mod types;
 
 pub use back::recover;

@@ -1,5 +1,5 @@
 use Rattle.std.proofs.Common.{length, refl, sym, ap, ◌∙◌, arith}
-use Rattle.gms_parse_x.proofs.Signs.{handed_on}
+use Rattle.gms_expressions.proofs.Signs.{handed_on}
 use Rattle.gms_parse.proofs.Sources.{ready_of, refusal_of, program_of}
 use Rattle.gms_parse.proofs.source.parse.Goals as goal
 

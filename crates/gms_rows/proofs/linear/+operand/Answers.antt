@@ -59,31 +59,45 @@ operand-returns-else-branch g t c =
 
 pub total-returns-in_err-elements : goal.total-returns-in_err-elements
 total-returns-in_err-elements g t c =
-    handed_on g.F.ExactField.value (form_in g.F.ExactField.value) c.from_residual.result c.in_err-elements.field-0.0 (total_form g.F.ExactField.value g.F.ExactField.limit c.args.store.now c.args.at c.args.b.now (control_tree c.args.control.now) (tree_of c.args.body.now)) c.from_residual.ensures.1 (stops-then g.F.ExactField.value c.in_err-elements.field-0.0 (domain g.F.ExactField.value g.F.ExactField.limit c.args.store.now c.args.b.now c.args.at (control_tree c.args.control.now)) (λ elements. total g.F.ExactField.limit c.args.at c.args.b.now (constant_form (whole (pos 0))) (map (λ element. affine g.F.ExactField.value g.F.ExactField.limit c.args.store.now c.args.at (controlled c.args.b.now (sets_of (control_tree c.args.control.now)) element) (tree_of c.args.body.now)) elements)) c.in_err-elements.ensures)
+    handed_on g.F.ExactField.value (form_in g.F.ExactField.value) c.from_residual-in_err-elements.result c.in_err-elements.field-0.0 (total_form g.F.ExactField.value g.F.ExactField.limit c.args.store.now c.args.at c.args.b.now (control_tree c.args.control.now) (tree_of c.args.body.now)) c.from_residual-in_err-elements.ensures.1 (stops-then g.F.ExactField.value c.in_err-elements.field-0.0 (domain g.F.ExactField.value g.F.ExactField.limit c.args.store.now c.args.b.now c.args.at (control_tree c.args.control.now)) (λ elements. total g.F.ExactField.limit c.args.at c.args.b.now (constant_form (whole (pos 0))) (map (λ element. affine g.F.ExactField.value g.F.ExactField.limit c.args.store.now c.args.at (controlled c.args.b.now (sets_of (control_tree c.args.control.now)) element) (tree_of c.args.body.now)) elements)) c.in_err-elements.ensures)
 
-pub total-loop-element-init : goal.total-loop-element-init
-total-loop-element-init g t c =
-    (ap (λ a. a and_then (λ elements. total g.F.ExactField.limit c.args.at c.args.b.now (constant_form (whole (pos 0))) (map (λ element. affine g.F.ExactField.value g.F.ExactField.limit c.args.store.now c.args.at (controlled c.args.b.now (sets_of (control_tree c.args.control.now)) element) (tree_of c.args.body.now)) elements))) c.in_ok-elements.ensures ∙ ap (λ f. total g.F.ExactField.limit c.args.at c.args.b.now f (map (λ element. affine g.F.ExactField.value g.F.ExactField.limit c.args.store.now c.args.at (controlled c.args.b.now (sets_of (control_tree c.args.control.now)) element) (tree_of c.args.body.now)) c.in_ok-elements.elements.items)) (constant-shows g.F.ExactField.value c.new-total.result (whole (pos 0)) c.new-total.ensures.constant c.new-total.ensures.keys) ∙ ap (λ es. total g.F.ExactField.limit c.args.at c.args.b.now (form_in g.F.ExactField.value c.new-total.result) (map (λ element. affine g.F.ExactField.value g.F.ExactField.limit c.args.store.now c.args.at (controlled c.args.b.now (sets_of (control_tree c.args.control.now)) element) (tree_of c.args.body.now)) es)) (sym c.deref-element-items.ensures.value), inner-start c.args.b.now c.in_ok-inner.inner c.in_ok-inner.ensures)
-
-pub total-returns-in_err-part : goal.total-returns-in_err-part
-total-returns-in_err-part g t c =
-    handed_on g.F.ExactField.value (form_in g.F.ExactField.value) c.from_residual-in_err-part.result c.in_err-part.field-0.0 (total_form g.F.ExactField.value g.F.ExactField.limit c.args.store.now c.args.at c.args.b.now (control_tree c.args.control.now) (tree_of c.args.body.now)) c.from_residual-in_err-part.ensures.1 (element-stops g.F.ExactField.value g.F.ExactField.limit c.args.at c.args.b.now (λ element. affine g.F.ExactField.value g.F.ExactField.limit c.args.store.now c.args.at (controlled c.args.b.now (sets_of (control_tree c.args.control.now)) element) (tree_of c.args.body.now)) c.in_err-part.field-0.0 (total_form g.F.ExactField.value g.F.ExactField.limit c.args.store.now c.args.at c.args.b.now (control_tree c.args.control.now) (tree_of c.args.body.now)) (form_in g.F.ExactField.value c.loop-element.total) c.deref-element-items.result.now c.loop-element.element-index c.element-item.result c.loop-element.invariant.0 c.loop-element-test.true c.element-item.is (affine-part-stops g.F.ExactField.value g.F.ExactField.limit c.args.store.now c.args.at (controlled c.args.b.now (sets_of (control_tree c.args.control.now)) c.element-item.result) c.control.new.self (inner-controlled c.args.b.now c.loop-element.inner c.control.new.self c.as_slice.result.now c.element-item.result c.as_slice-in-loop-element.result.now c.len.result c.loop-element.invariant.1 c.len.ensures c.as_slice-in-loop-element.ensures.value c.in_ok-control.ensures ∙ ap (λ sets. controlled c.args.b.now sets c.element-item.result) (c.as_slice.ensures ∙ sym (tree-sets c.args.control.now))) (tree_of c.args.body.now) c.in_err-part.field-0.0 c.in_err-part.ensures))
-
-pub total-returns-in_err-form : goal.total-returns-in_err-form
-total-returns-in_err-form g t c =
-    handed_on g.F.ExactField.value (form_in g.F.ExactField.value) c.from_residual-in_err-form.result c.in_err-form.field-0.0 (total_form g.F.ExactField.value g.F.ExactField.limit c.args.store.now c.args.at c.args.b.now (control_tree c.args.control.now) (tree_of c.args.body.now)) c.from_residual-in_err-form.ensures.1 (element-stops g.F.ExactField.value g.F.ExactField.limit c.args.at c.args.b.now (λ element. affine g.F.ExactField.value g.F.ExactField.limit c.args.store.now c.args.at (controlled c.args.b.now (sets_of (control_tree c.args.control.now)) element) (tree_of c.args.body.now)) c.in_err-form.field-0.0 (total_form g.F.ExactField.value g.F.ExactField.limit c.args.store.now c.args.at c.args.b.now (control_tree c.args.control.now) (tree_of c.args.body.now)) (form_in g.F.ExactField.value c.loop-element.total) c.deref-element-items.result.now c.loop-element.element-index c.element-item.result c.loop-element.invariant.0 c.loop-element-test.true c.element-item.is (affine-form-stops g.F.ExactField.value g.F.ExactField.limit c.args.store.now c.args.at (controlled c.args.b.now (sets_of (control_tree c.args.control.now)) c.element-item.result) c.control.new.self (inner-controlled c.args.b.now c.loop-element.inner c.control.new.self c.as_slice.result.now c.element-item.result c.as_slice-in-loop-element.result.now c.len.result c.loop-element.invariant.1 c.len.ensures c.as_slice-in-loop-element.ensures.value c.in_ok-control.ensures ∙ ap (λ sets. controlled c.args.b.now sets c.element-item.result) (c.as_slice.ensures ∙ sym (tree-sets c.args.control.now))) (tree_of c.args.body.now) c.in_err-form.field-0.0 (operand_in g.F.ExactField.value c.in_ok-part.part) c.in_ok-part.ensures c.in_err-form.ensures))
-
-pub total-returns-in_err-add_to : goal.total-returns-in_err-add_to
-total-returns-in_err-add_to g t c =
-    handed_on g.F.ExactField.value (form_in g.F.ExactField.value) c.from_residual-in_err-add_to.result c.in_err-add_to.field-0.0 (total_form g.F.ExactField.value g.F.ExactField.limit c.args.store.now c.args.at c.args.b.now (control_tree c.args.control.now) (tree_of c.args.body.now)) c.from_residual-in_err-add_to.ensures.1 (sum-stops g.F.ExactField.value g.F.ExactField.limit c.args.at c.args.b.now (λ element. affine g.F.ExactField.value g.F.ExactField.limit c.args.store.now c.args.at (controlled c.args.b.now (sets_of (control_tree c.args.control.now)) element) (tree_of c.args.body.now)) c.in_err-add_to.field-0.0 (total_form g.F.ExactField.value g.F.ExactField.limit c.args.store.now c.args.at c.args.b.now (control_tree c.args.control.now) (tree_of c.args.body.now)) (form_in g.F.ExactField.value c.loop-element.total) (form_in g.F.ExactField.value c.in_ok-form.form) c.deref-element-items.result.now c.loop-element.element-index c.element-item.result c.loop-element.invariant.0 c.loop-element-test.true c.element-item.is (affine-value g.F.ExactField.value g.F.ExactField.limit c.args.store.now c.args.at (controlled c.args.b.now (sets_of (control_tree c.args.control.now)) c.element-item.result) c.control.new.self (inner-controlled c.args.b.now c.loop-element.inner c.control.new.self c.as_slice.result.now c.element-item.result c.as_slice-in-loop-element.result.now c.len.result c.loop-element.invariant.1 c.len.ensures c.as_slice-in-loop-element.ensures.value c.in_ok-control.ensures ∙ ap (λ sets. controlled c.args.b.now sets c.element-item.result) (c.as_slice.ensures ∙ sym (tree-sets c.args.control.now))) (tree_of c.args.body.now) (operand_in g.F.ExactField.value c.in_ok-part.part) (form_in g.F.ExactField.value c.in_ok-form.form) c.in_ok-part.ensures c.in_ok-form.ensures) c.in_err-add_to.ensures)
-
-pub total-loop-element-preserved : goal.total-loop-element-preserved
-total-loop-element-preserved g t c =
-    (c.loop-element.invariant.0 ∙ element-more g.F.ExactField.value g.F.ExactField.limit c.args.at c.args.b.now (λ element. affine g.F.ExactField.value g.F.ExactField.limit c.args.store.now c.args.at (controlled c.args.b.now (sets_of (control_tree c.args.control.now)) element) (tree_of c.args.body.now)) (form_in g.F.ExactField.value c.loop-element.total) (form_in g.F.ExactField.value c.in_ok-form.form) (form_in g.F.ExactField.value c.add_to.new.sum) c.deref-element-items.result.now c.loop-element.element-index c.element-item.result c.loop-element-test.true c.element-item.is (affine-value g.F.ExactField.value g.F.ExactField.limit c.args.store.now c.args.at (controlled c.args.b.now (sets_of (control_tree c.args.control.now)) c.element-item.result) c.control.new.self (inner-controlled c.args.b.now c.loop-element.inner c.control.new.self c.as_slice.result.now c.element-item.result c.as_slice-in-loop-element.result.now c.len.result c.loop-element.invariant.1 c.len.ensures c.as_slice-in-loop-element.ensures.value c.in_ok-control.ensures ∙ ap (λ sets. controlled c.args.b.now sets c.element-item.result) (c.as_slice.ensures ∙ sym (tree-sets c.args.control.now))) (tree_of c.args.body.now) (operand_in g.F.ExactField.value c.in_ok-part.part) (form_in g.F.ExactField.value c.in_ok-form.form) c.in_ok-part.ensures c.in_ok-form.ensures) c.in_ok-add_to.ensures, inner-kept c.args.b.now c.control.new.self (sets_of (control_tree c.args.control.now)) c.element-item.result (inner-controlled c.args.b.now c.loop-element.inner c.control.new.self c.as_slice.result.now c.element-item.result c.as_slice-in-loop-element.result.now c.len.result c.loop-element.invariant.1 c.len.ensures c.as_slice-in-loop-element.ensures.value c.in_ok-control.ensures ∙ ap (λ sets. controlled c.args.b.now sets c.element-item.result) (c.as_slice.ensures ∙ sym (tree-sets c.args.control.now))))
+pub total-returns-in_err-add_elements : goal.total-returns-in_err-add_elements
+total-returns-in_err-add_elements g t c =
+    handed_on g.F.ExactField.value (form_in g.F.ExactField.value) c.from_residual-in_err-add_elements.result c.in_err-add_elements.field-0.0 (total_form g.F.ExactField.value g.F.ExactField.limit c.args.store.now c.args.at c.args.b.now (control_tree c.args.control.now) (tree_of c.args.body.now)) c.from_residual-in_err-add_elements.ensures.1 (stops-same g.F.ExactField.value c.in_err-add_elements.field-0.0 (total_form g.F.ExactField.value g.F.ExactField.limit c.args.store.now c.args.at c.args.b.now (control_tree c.args.control.now) (tree_of c.args.body.now)) _
+    (ap (λ a. a and_then λ elements. total g.F.ExactField.limit c.args.at c.args.b.now (constant_form (whole (pos 0))) (map (λ element. affine g.F.ExactField.value g.F.ExactField.limit c.args.store.now c.args.at (controlled c.args.b.now (sets_of (control_tree c.args.control.now)) element) (tree_of c.args.body.now)) elements)) c.in_ok-elements.ensures
+    ∙ ap (λ es. total g.F.ExactField.limit c.args.at c.args.b.now (constant_form (whole (pos 0))) (map (λ element. affine g.F.ExactField.value g.F.ExactField.limit c.args.store.now c.args.at (controlled c.args.b.now (sets_of (control_tree c.args.control.now)) element) (tree_of c.args.body.now)) es)) (sym c.deref.ensures.value)
+    ∙ ap (λ sets. total g.F.ExactField.limit c.args.at c.args.b.now (constant_form (whole (pos 0))) (map (λ element. affine g.F.ExactField.value g.F.ExactField.limit c.args.store.now c.args.at (controlled c.args.b.now sets element) (tree_of c.args.body.now)) c.deref.result.now)) (sym (c.as_slice.ensures ∙ sym (tree-sets c.args.control.now)))
+    ∙ ap (λ f. total g.F.ExactField.limit c.args.at c.args.b.now f (map (λ element. affine g.F.ExactField.value g.F.ExactField.limit c.args.store.now c.args.at (controlled c.args.b.now c.as_slice.result.now element) (tree_of c.args.body.now)) c.deref.result.now)) (constant-shows g.F.ExactField.value c.new-total.result (whole (pos 0)) c.new-total.ensures.constant c.new-total.ensures.keys))
+    c.in_err-add_elements.ensures)
 
 pub total-returns : goal.total-returns
 total-returns g t c =
-    c.loop-element.invariant.0 ∙ element-end g.F.ExactField.value g.F.ExactField.limit c.args.at c.args.b.now (λ element. affine g.F.ExactField.value g.F.ExactField.limit c.args.store.now c.args.at (controlled c.args.b.now (sets_of (control_tree c.args.control.now)) element) (tree_of c.args.body.now)) (form_in g.F.ExactField.value c.loop-element.total) c.deref-element-items.result.now c.loop-element.element-index c.loop-element-test.false ∙ ap Ok (sym c.in_ok-sum.ensures)
+    (ap (λ a. a and_then λ elements. total g.F.ExactField.limit c.args.at c.args.b.now (constant_form (whole (pos 0))) (map (λ element. affine g.F.ExactField.value g.F.ExactField.limit c.args.store.now c.args.at (controlled c.args.b.now (sets_of (control_tree c.args.control.now)) element) (tree_of c.args.body.now)) elements)) c.in_ok-elements.ensures
+    ∙ ap (λ es. total g.F.ExactField.limit c.args.at c.args.b.now (constant_form (whole (pos 0))) (map (λ element. affine g.F.ExactField.value g.F.ExactField.limit c.args.store.now c.args.at (controlled c.args.b.now (sets_of (control_tree c.args.control.now)) element) (tree_of c.args.body.now)) es)) (sym c.deref.ensures.value)
+    ∙ ap (λ sets. total g.F.ExactField.limit c.args.at c.args.b.now (constant_form (whole (pos 0))) (map (λ element. affine g.F.ExactField.value g.F.ExactField.limit c.args.store.now c.args.at (controlled c.args.b.now sets element) (tree_of c.args.body.now)) c.deref.result.now)) (sym (c.as_slice.ensures ∙ sym (tree-sets c.args.control.now)))
+    ∙ ap (λ f. total g.F.ExactField.limit c.args.at c.args.b.now f (map (λ element. affine g.F.ExactField.value g.F.ExactField.limit c.args.store.now c.args.at (controlled c.args.b.now c.as_slice.result.now element) (tree_of c.args.body.now)) c.deref.result.now)) (constant-shows g.F.ExactField.value c.new-total.result (whole (pos 0)) c.new-total.ensures.constant c.new-total.ensures.keys))
+    ∙ c.in_ok-add_elements.ensures
+    ∙ ap Ok (sym c.in_ok-sum.ensures)
+
+pub add_elements-loop-element-init : goal.add_elements-loop-element-init
+add_elements-loop-element-init g t c =
+    (refl, inner-start c.args.b.now c.args.inner.now c.requires)
+
+pub add_elements-returns-in_err-form : goal.add_elements-returns-in_err-form
+add_elements-returns-in_err-form g t c =
+    handed_on g.F.ExactField.value _ c.from_residual-in_err-form.result c.in_err-form.field-0.0 (total g.F.ExactField.limit c.args.at c.args.b.now (form_in g.F.ExactField.value c.args.so_far.now) (map (λ element. affine g.F.ExactField.value g.F.ExactField.limit c.args.store.now c.args.at (controlled c.args.b.now c.args.sets.now element) (tree_of c.args.body.now)) c.args.elements.now)) c.from_residual-in_err-form.ensures.1 (element-stops g.F.ExactField.value g.F.ExactField.limit c.args.at c.args.b.now (λ element. affine g.F.ExactField.value g.F.ExactField.limit c.args.store.now c.args.at (controlled c.args.b.now c.args.sets.now element) (tree_of c.args.body.now)) c.in_err-form.field-0.0 (total g.F.ExactField.limit c.args.at c.args.b.now (form_in g.F.ExactField.value c.args.so_far.now) (map (λ element. affine g.F.ExactField.value g.F.ExactField.limit c.args.store.now c.args.at (controlled c.args.b.now c.args.sets.now element) (tree_of c.args.body.now)) c.args.elements.now)) (form_in g.F.ExactField.value c.loop-element.so_far) c.args.elements.now c.loop-element.element-index c.element-item.result c.loop-element.invariant.0 c.loop-element-test.true c.element-item.is (stops-same g.F.ExactField.value c.in_err-form.field-0.0 (affine g.F.ExactField.value g.F.ExactField.limit c.args.store.now c.args.at (controlled c.args.b.now c.args.sets.now c.element-item.result) (tree_of c.args.body.now)) (affine g.F.ExactField.value g.F.ExactField.limit c.args.store.now c.args.at c.control.new.self (tree_of c.args.body.now)) (ap (λ pairs. affine g.F.ExactField.value g.F.ExactField.limit c.args.store.now c.args.at pairs (tree_of c.args.body.now)) (sym (inner-controlled c.args.b.now c.loop-element.inner c.control.new.self c.args.sets.now c.element-item.result c.as_slice.result.now c.len.result c.loop-element.invariant.1 c.len.ensures c.as_slice.ensures.value c.in_ok-control.ensures))) c.in_err-form.ensures))
+
+pub add_elements-returns-in_err-add_to : goal.add_elements-returns-in_err-add_to
+add_elements-returns-in_err-add_to g t c =
+    handed_on g.F.ExactField.value _ c.from_residual-in_err-add_to.result c.in_err-add_to.field-0.0 (total g.F.ExactField.limit c.args.at c.args.b.now (form_in g.F.ExactField.value c.args.so_far.now) (map (λ element. affine g.F.ExactField.value g.F.ExactField.limit c.args.store.now c.args.at (controlled c.args.b.now c.args.sets.now element) (tree_of c.args.body.now)) c.args.elements.now)) c.from_residual-in_err-add_to.ensures.1 (sum-stops g.F.ExactField.value g.F.ExactField.limit c.args.at c.args.b.now (λ element. affine g.F.ExactField.value g.F.ExactField.limit c.args.store.now c.args.at (controlled c.args.b.now c.args.sets.now element) (tree_of c.args.body.now)) c.in_err-add_to.field-0.0 (total g.F.ExactField.limit c.args.at c.args.b.now (form_in g.F.ExactField.value c.args.so_far.now) (map (λ element. affine g.F.ExactField.value g.F.ExactField.limit c.args.store.now c.args.at (controlled c.args.b.now c.args.sets.now element) (tree_of c.args.body.now)) c.args.elements.now)) (form_in g.F.ExactField.value c.loop-element.so_far) (form_in g.F.ExactField.value c.in_ok-form.form) c.args.elements.now c.loop-element.element-index c.element-item.result c.loop-element.invariant.0 c.loop-element-test.true c.element-item.is (ap (λ pairs. affine g.F.ExactField.value g.F.ExactField.limit c.args.store.now c.args.at pairs (tree_of c.args.body.now)) (sym (inner-controlled c.args.b.now c.loop-element.inner c.control.new.self c.args.sets.now c.element-item.result c.as_slice.result.now c.len.result c.loop-element.invariant.1 c.len.ensures c.as_slice.ensures.value c.in_ok-control.ensures)) ∙ c.in_ok-form.ensures) c.in_err-add_to.ensures)
+
+pub add_elements-loop-element-preserved : goal.add_elements-loop-element-preserved
+add_elements-loop-element-preserved g t c =
+    (c.loop-element.invariant.0 ∙ element-more g.F.ExactField.value g.F.ExactField.limit c.args.at c.args.b.now (λ element. affine g.F.ExactField.value g.F.ExactField.limit c.args.store.now c.args.at (controlled c.args.b.now c.args.sets.now element) (tree_of c.args.body.now)) (form_in g.F.ExactField.value c.loop-element.so_far) (form_in g.F.ExactField.value c.in_ok-form.form) (form_in g.F.ExactField.value c.add_to.new.sum) c.args.elements.now c.loop-element.element-index c.element-item.result c.loop-element-test.true c.element-item.is (ap (λ pairs. affine g.F.ExactField.value g.F.ExactField.limit c.args.store.now c.args.at pairs (tree_of c.args.body.now)) (sym (inner-controlled c.args.b.now c.loop-element.inner c.control.new.self c.args.sets.now c.element-item.result c.as_slice.result.now c.len.result c.loop-element.invariant.1 c.len.ensures c.as_slice.ensures.value c.in_ok-control.ensures)) ∙ c.in_ok-form.ensures) c.in_ok-add_to.ensures, inner-kept c.args.b.now c.control.new.self c.args.sets.now c.element-item.result (inner-controlled c.args.b.now c.loop-element.inner c.control.new.self c.args.sets.now c.element-item.result c.as_slice.result.now c.len.result c.loop-element.invariant.1 c.len.ensures c.as_slice.ensures.value c.in_ok-control.ensures))
+
+pub add_elements-returns : goal.add_elements-returns
+add_elements-returns g t c =
+    c.loop-element.invariant.0 ∙ element-end g.F.ExactField.value g.F.ExactField.limit c.args.at c.args.b.now (λ element. affine g.F.ExactField.value g.F.ExactField.limit c.args.store.now c.args.at (controlled c.args.b.now c.args.sets.now element) (tree_of c.args.body.now)) (form_in g.F.ExactField.value c.loop-element.so_far) c.args.elements.now c.loop-element.element-index c.loop-element-test.false
 
 pub sum-returns-in_default : goal.sum-returns-in_default
 sum-returns-in_default g t c =

@@ -1,16 +1,15 @@
 use Rattle.std.proofs.Common.{◌≡◌, map, drop, take, length}
-use Rattle.gms_ast.specs.TreeView.{tree_of, control_tree}
+use Rattle.gms_ast.specs.TreeView.{tree_of}
 use Rattle.gms_eval.specs.Bindings.{controlled}
-use Rattle.gms_eval.specs.Value.{sets_of}
-use Rattle.gms_rows.specs.Affine.{affine, total, total_form, joined, meant, plus_part, times_part}
+use Rattle.gms_rows.specs.Affine.{affine, total, joined, meant, plus_part, times_part}
 use Rattle.gms_rows.specs.Forms.{form_in}
 use Rattle.gms_rows.specs.Walks.{operand_in, parts_in}
 use Rattle.gms_rows.proofs.Parts.{from_part}
 use Rattle.gms_rows.proofs.linear.+operand.Given as goal
 
-abbrev pub invariant-total-loop-element : goal.invariant-total-loop-element
-invariant-total-loop-element g l =
-    (total_form g.F.ExactField.value g.F.ExactField.limit l.store l.at l.b (control_tree l.control) (tree_of l.body) ≡ total g.F.ExactField.limit l.at l.b (form_in g.F.ExactField.value l.total) (map (λ element. affine g.F.ExactField.value g.F.ExactField.limit l.store l.at (controlled l.b (sets_of (control_tree l.control)) element) (tree_of l.body)) (drop l.element-index l.element-items)))
+abbrev pub invariant-add_elements-loop-element : goal.invariant-add_elements-loop-element
+invariant-add_elements-loop-element g l =
+    (total g.F.ExactField.limit l.at l.b (form_in g.F.ExactField.value l.fn.so_far) (map (λ element. affine g.F.ExactField.value g.F.ExactField.limit l.store l.at (controlled l.b l.sets element) (tree_of l.body)) l.elements) ≡ total g.F.ExactField.limit l.at l.b (form_in g.F.ExactField.value l.so_far) (map (λ element. affine g.F.ExactField.value g.F.ExactField.limit l.store l.at (controlled l.b l.sets element) (tree_of l.body)) (drop l.element-index l.elements)))
     × (take (length l.b) l.inner ≡ l.b)
 
 abbrev pub invariant-sum-loop-at : goal.invariant-sum-loop-at

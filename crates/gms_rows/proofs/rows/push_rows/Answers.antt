@@ -10,11 +10,11 @@ use Rattle.gms_rows.proofs.rows.push_rows.Goals as goal
 
 pub returns-in_err-elements-clause-rows : goal.returns-in_err-elements-clause-rows
 returns-in_err-elements-clause-rows g c =
-    handed_on g.F.ExactField.value _ c.from_residual-in_err-elements.result c.in_err-elements.field-0.0 (rows_of g.F.ExactField.value g.F.ExactField.limit c.args.store.now (definition_in c.args.definition.now) and_then λ those. Ok (map (form_row_in g.F.ExactField.value) c.args.rows.now.items ++ those)) c.from_residual-in_err-elements.ensures.1 (rows_of-stops g.F.ExactField.value g.F.ExactField.limit c.args.store.now (definition_in c.args.definition.now) _ _ _ c.new-none.ensures (c.deref-2.ensures.value ∙ c.in_ok-sets.ensures) (lent-condition c.args.definition.now.condition) (map (form_row_in g.F.ExactField.value) c.args.rows.now.items) c.in_err-elements.field-0.0 c.in_err-elements.ensures)
+    handed_on g.F.ExactField.value _ c.from_residual-in_err-elements.result c.in_err-elements.field-0.0 (rows_of g.F.ExactField.value g.F.ExactField.limit c.args.store.now (definition_in c.args.definition.now) and_then λ those. Ok (map (form_row_in g.F.ExactField.value) c.args.rows.now.items ++ those)) c.from_residual-in_err-elements.ensures.1 (rows_of-stops g.F.ExactField.value g.F.ExactField.limit c.args.store.now (definition_in c.args.definition.now) _ _ _ c.new-inner.ensures (c.deref-2.ensures.value ∙ c.in_ok-sets.ensures) (lent-condition c.args.definition.now.condition) (map (form_row_in g.F.ExactField.value) c.args.rows.now.items) c.in_err-elements.field-0.0 c.in_err-elements.ensures)
 
 pub loop-element-init : goal.loop-element-init
 loop-element-init g c =
-    rows_of-given g.F.ExactField.value g.F.ExactField.limit c.args.store.now (definition_in c.args.definition.now) _ _ _ c.new-none.ensures (c.deref-2.ensures.value ∙ c.in_ok-sets.ensures) (lent-condition c.args.definition.now.condition) (map (form_row_in g.F.ExactField.value) c.args.rows.now.items) c.in_ok-elements.elements.items c.in_ok-elements.ensures
+    rows_of-given g.F.ExactField.value g.F.ExactField.limit c.args.store.now (definition_in c.args.definition.now) _ _ _ c.new-inner.ensures (c.deref-2.ensures.value ∙ c.in_ok-sets.ensures) (lent-condition c.args.definition.now.condition) (map (form_row_in g.F.ExactField.value) c.args.rows.now.items) c.in_ok-elements.elements.items c.in_ok-elements.ensures
     ∙ ap (rows_from (row_of g.F.ExactField.value g.F.ExactField.limit c.args.store.now (definition_in c.args.definition.now)) (map (form_row_in g.F.ExactField.value) c.args.rows.now.items)) (sym c.deref-element-items.ensures.value)
 
 pub returns-in_err-row-clause-rows : goal.returns-in_err-row-clause-rows

@@ -1,4 +1,4 @@
-use Rattle.gms_parse_x.proofs.Signs.{handed_on}
+use Rattle.gms_expressions.proofs.Signs.{handed_on}
 use Rattle.std.proofs.Common.{[], ◌∷◌, refl, sym, ◌∙◌}
 use Rattle.std.proofs.lemmas.Slice.{pushed}
 use Rattle.gms_grammar.specs.Grammar.{the}

@@ -1,6 +1,6 @@
 use Rattle.std.proofs.Common.{refl}
 use Rattle.gms_grammar.specs.GamsGrammar.{Range}
-use Rattle.gms_parse_x.proofs.Signs.{handed_on}
+use Rattle.gms_expressions.proofs.Signs.{handed_on}
 use Rattle.gms_parse.proofs.Spelled.{label_token}
 use Rattle.gms_parse.proofs.Steps.{refuses_the, refuses_first, refuses_memory}
 use Rattle.gms_parse.proofs.Nexts.{refuses_lacking}

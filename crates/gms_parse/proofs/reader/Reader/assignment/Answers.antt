@@ -1,5 +1,5 @@
 use Rattle.gms_grammar.specs.GamsGrammar.{Assignment, AfterTarget}
-use Rattle.gms_parse_x.proofs.Signs.{handed_on, answered}
+use Rattle.gms_expressions.proofs.Signs.{handed_on, answered}
 use Rattle.gms_parse.proofs.Steps.{refuses_the, refuses_first, refuses_second}
 use Rattle.gms_parse.proofs.Nexts.{tableless_on}
 use Rattle.gms_parse.proofs.Conditions.{open_starts}

@@ -1,6 +1,6 @@
 use Rattle.std.proofs.Common.{sym, ◌∙◌}
 use Rattle.gms_grammar.proofs.Basics.{both_ways}
-use Rattle.gms_parse_x.proofs.Signs.{handed_on, answered}
+use Rattle.gms_expressions.proofs.Signs.{handed_on, answered}
 use Rattle.gms_parse.proofs.Nexts.{tableless_on}
 use Rattle.gms_parse.proofs.Conditions.{open_starts}
 use Rattle.gms_parse.proofs.Named.{target_refused, condition_refused, assigned_got, assigned_refused, defined_got, defined_refused, dots_starts, dots_tableless}

@@ -1,6 +1,6 @@
 use Rattle.std.proofs.Common.{refl}
 use Rattle.gms_grammar.specs.declared.terminal.Terminal.TheVariants.{Dollar}
-use Rattle.gms_parse_x.proofs.Signs.{handed_on}
+use Rattle.gms_expressions.proofs.Signs.{handed_on}
 use Rattle.gms_parse.proofs.Ends.{behind_within}
 use Rattle.gms_parse.proofs.Conditions.{condition_none, condition_got, condition_refused, dollar_starts, dollar_tableless}
 use Rattle.gms_parse.proofs.reader.Reader.condition.Goals as goal

@@ -1,4 +1,4 @@
-use Rattle.gms_parse_x.proofs.Signs.{handed_on}
+use Rattle.gms_expressions.proofs.Signs.{handed_on}
 use Rattle.gms_parse.proofs.Steps.{refuses_first, refuses_second}
 use Rattle.gms_parse.proofs.Nexts.{optionless_on, tableless_on}
 use Rattle.gms_parse.proofs.Declaring.{refuses_data, data_got}

@@ -1,4 +1,4 @@
-use Rattle.gms_parse_x.proofs.Signs.{handed_on}
+use Rattle.gms_expressions.proofs.Signs.{handed_on}
 use Rattle.gms_parse.proofs.Domains.{star_got, position_got, position_refused}
 use Rattle.gms_parse.proofs.reader.Reader.domain_position.Goals as goal
 

@@ -1,7 +1,7 @@
 use Rattle.std.proofs.Common.{[], ◌∷◌, ◌++◌, refl, ap, ◌∙◌}
 use Rattle.std.proofs.lemmas.Slice.{pushed}
 use Rattle.gms_grammar.specs.GamsGrammar.{Element}
-use Rattle.gms_parse_x.proofs.Signs.{handed_on}
+use Rattle.gms_expressions.proofs.Signs.{handed_on}
 use Rattle.gms_parse.proofs.Steps.{refuses_the, refuses_first, refuses_memory}
 use Rattle.gms_parse.proofs.Nexts.{falls, tableless_on, starts_somewhere}
 use Rattle.gms_parse.proofs.Listing.{listing_refuses, separated_stays, separated_starless}

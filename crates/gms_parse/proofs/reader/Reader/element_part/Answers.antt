@@ -1,6 +1,6 @@
 use Rattle.std.proofs.Common.{false, refl, sym, ◌∙◌}
 use Rattle.gms_grammar.specs.GamsGrammar.{RangeList}
-use Rattle.gms_parse_x.proofs.Signs.{handed_on}
+use Rattle.gms_expressions.proofs.Signs.{handed_on}
 use Rattle.gms_parse.proofs.Steps.{refuses_the, refuses_first}
 use Rattle.gms_parse.proofs.Nexts.{falls, opened, open_has, tableless_on, refuses_within, starts_somewhere}
 use Rattle.gms_parse.proofs.Elements.{gathering_start, gathering_on, gathering_refuses, comma_stays, lone_got, lone_refused, part_refused, part_unclosed, part_got, unopened_part}

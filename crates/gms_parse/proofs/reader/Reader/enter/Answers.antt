@@ -1,4 +1,4 @@
-use Rattle.gms_parse_x.proofs.Signs.{handed_on}
+use Rattle.gms_expressions.proofs.Signs.{handed_on}
 use Rattle.gms_parse.proofs.Entering.{unopened_lacking, unopened_deep}
 use Rattle.gms_parse.proofs.reader.Reader.enter.Goals as goal
 

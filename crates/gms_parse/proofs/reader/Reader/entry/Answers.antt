@@ -1,5 +1,5 @@
 use Rattle.gms_grammar.specs.GamsGrammar.{Entry}
-use Rattle.gms_parse_x.proofs.Signs.{handed_on}
+use Rattle.gms_expressions.proofs.Signs.{handed_on}
 use Rattle.gms_parse.proofs.Steps.{refuses_the, refuses_first, refuses_second}
 use Rattle.gms_parse.proofs.Items.{entry_got}
 use Rattle.gms_parse.proofs.reader.Reader.entry.Goals as goal

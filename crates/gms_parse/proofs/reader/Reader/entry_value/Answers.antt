@@ -1,6 +1,6 @@
 use Rattle.std.proofs.Common.{refl}
 use Rattle.gms_grammar.specs.declared.terminal.Terminal.TheVariants.{Equals}
-use Rattle.gms_parse_x.proofs.Signs.{answered}
+use Rattle.gms_expressions.proofs.Signs.{answered}
 use Rattle.gms_parse.proofs.Values.{equals_got, equals_refused, no_equals_got, no_equals_refused}
 use Rattle.gms_parse.proofs.Nexts.{kind_stays}
 use Rattle.gms_parse.proofs.reader.Reader.entry_value.Goals as goal

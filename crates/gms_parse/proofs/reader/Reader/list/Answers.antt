@@ -1,6 +1,6 @@
 use Rattle.std.proofs.Common.{[], ◌∷◌, refl}
 use Rattle.std.proofs.lemmas.Slice.{pushed}
-use Rattle.gms_parse_x.proofs.Signs.{handed_on}
+use Rattle.gms_expressions.proofs.Signs.{handed_on}
 use Rattle.gms_parse.proofs.Steps.{refuses_first, refuses_memory}
 use Rattle.gms_parse.proofs.Nexts.{falls, tableless_on, starts_somewhere}
 use Rattle.gms_parse.proofs.Values.{slash_stays}

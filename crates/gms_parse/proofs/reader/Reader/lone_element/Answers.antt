@@ -1,4 +1,4 @@
-use Rattle.gms_parse_x.proofs.Signs.{handed_on}
+use Rattle.gms_expressions.proofs.Signs.{handed_on}
 use Rattle.gms_parse.proofs.Items.{lone_item}
 use Rattle.gms_parse.proofs.reader.Reader.lone_element.Goals as goal
 

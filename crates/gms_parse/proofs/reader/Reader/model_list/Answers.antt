@@ -1,4 +1,4 @@
-use Rattle.gms_parse_x.proofs.Signs.{handed_on}
+use Rattle.gms_expressions.proofs.Signs.{handed_on}
 use Rattle.gms_parse.proofs.Models.{list_none, list_all, list_all_open, list_starts, list_named, list_unnamed, list_named_open}
 use Rattle.gms_parse.proofs.reader.Reader.model_list.Goals as goal
 

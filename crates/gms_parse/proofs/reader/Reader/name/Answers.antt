@@ -1,6 +1,6 @@
 use Rattle.std.proofs.Common.{refl, sym, ◌∙◌, subst}
 use Rattle.std.specs.Str.{IsAscii}
-use Rattle.gms_parse_x.proofs.Signs.{handed_on}
+use Rattle.gms_expressions.proofs.Signs.{handed_on}
 use Rattle.gms_parse.proofs.Nexts.{refuses_lacking}
 use Rattle.gms_parse.proofs.Spelled.{name_spelled}
 use Rattle.gms_parse.proofs.Entering.{name_got, name_refused}

@@ -1,4 +1,4 @@
-use Rattle.gms_parse_x.proofs.Signs.{handed_on}
+use Rattle.gms_expressions.proofs.Signs.{handed_on}
 use Rattle.std.proofs.Common.{◌∙◌, ap, refl}
 use Rattle.gms_grammar.specs.declared.terminal.Terminal.TheVariants.{Direction}
 use Rattle.gms_parse.specs.Statements.{is_maximizing}

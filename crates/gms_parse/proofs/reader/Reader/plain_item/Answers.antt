@@ -1,7 +1,7 @@
 use Rattle.std.proofs.Common.{ap, map, ◌∙◌}
 use Rattle.gms_grammar.specs.GamsGrammar.{PlainItem}
 use Rattle.gms_ast.specs.StatementView.{item_in}
-use Rattle.gms_parse_x.proofs.Signs.{handed_on}
+use Rattle.gms_expressions.proofs.Signs.{handed_on}
 use Rattle.gms_parse.proofs.Steps.{refuses_the, refuses_first, refuses_second}
 use Rattle.gms_parse.proofs.Nexts.{optionless_on, tableless_on}
 use Rattle.gms_parse.proofs.Declaring.{plain_got}

@@ -1,30 +1,10 @@
-use Rattle.std.proofs.Common.{refl}
-use Rattle.gms_grammar.specs.declared.terminal.Terminal.TheVariants.{Equals}
-use Rattle.gms_parse_x.proofs.Signs.{handed_on}
-use Rattle.gms_parse.proofs.Views.{assign_shown}
-use Rattle.gms_parse.proofs.Ends.{behind_within}
-use Rattle.gms_parse.proofs.Steps.{refuses_first, refuses_second}
-use Rattle.gms_parse.proofs.Nexts.{gives_exact, plain_starts, kind_stays, tableless_on, refuses_lacking}
-use Rattle.gms_parse.proofs.Assigning.{right_side_got}
+use Rattle.std.proofs.Common.{rules}
+use Rattle.gms_ast.specs.declared.program.Act.TheVariants.{Assign}
+use Rattle.gms_ast.specs.declared.program.Right.TheVariants as right
+use Rattle.gms_parse.proofs.Assigning.{assigned_as, mapped}
 use Rattle.gms_parse.proofs.reader.Reader.right_side.Goals as goal
-
-pub returns-in_err-right : goal.returns-in_err-right
-returns-in_err-right g c walk s other = handed_on _ _ c.from_residual.result _ c.from_residual.ensures.1 (refuses_first (refuses_lacking c.in_err-right.ensures))
-
-pub expression-requires-clause-within : goal.expression-requires-clause-within
-expression-requires-clause-within g c = behind_within Equals c.requires c.in_ok-right.ensures.next refl
-
-pub returns-in_err-value : goal.returns-in_err-value
-returns-in_err-value g c walk s other =
-    let n = c.in_ok-right.ensures.next in
-    let k = kind_stays Equals n refl s.has in
-    handed_on _ _ c.from_residual-in_err-value.result _ c.from_residual-in_err-value.ensures.1
-    (refuses_second (gives_exact {kind = Equals} n refl) (c.in_err-value.ensures _ (plain_starts c.args.self.now walk Equals c.in_ok-right.ensures.token c.in_ok-right.right refl refl s.has s.optionless) (tableless_on k.keyword other)))
 
 pub returns : goal.returns
 returns g c walk s other =
-    let n = c.in_ok-right.ensures.next in
-    let k = kind_stays Equals n refl s.has in
-    right_side_got g.F.ExactField.value c.args.target c.args.condition _ s.has n
-    (assign_shown g.F.ExactField.value c.args.target c.args.condition c.place.result _ c.in_ok-value.value c.place.ensures)
-    (c.in_ok-value.ensures _ (plain_starts c.args.self.now walk Equals c.in_ok-right.ensures.token c.in_ok-right.right refl refl s.has s.optionless) (tableless_on k.keyword other))
+    mapped _ (λ x. (Assign c.args.target c.args.condition x.0.0 (right.Value x.0.1), x.1)) c.right_value-right.result c.map.result (c.right_value-right.ensures walk s other) c.map.ensures.cases (λ x y k. search rules)
+    (λ x got. assigned_as g.F.ExactField.value c.args.target c.args.condition x.0 got) (λ e r. r)

@@ -2,7 +2,7 @@ use Rattle.std.proofs.Common.{ℕ, List, Some, false, refl, ap₂, ◌∙◌, []
 use Rattle.gms_labels.specs.declared.place.Place.{Place}
 use Rattle.gms_ast.specs.StatementView.{extended_in}
 use Rattle.std.proofs.lemmas.Slice.{pushed}
-use Rattle.gms_parse_x.proofs.Signs.{handed_on}
+use Rattle.gms_expressions.proofs.Signs.{handed_on}
 use Rattle.gms_parse.proofs.Steps.{refuses_memory}
 use Rattle.gms_parse.proofs.Values.{no_value, some_value, slash_stays, value_unclosed, slashed_refused}
 use Rattle.gms_parse.proofs.reader.Reader.scalar_value.Goals as goal

@@ -1,6 +1,6 @@
-use Rattle.gms_parse_x.proofs.Signs.{handed_on}
+use Rattle.gms_expressions.proofs.Signs.{handed_on}
 use Rattle.std.proofs.Common.{◌∙◌, ap}
-use Rattle.gms_parse_x.specs.ExpressionTrees.{unquoted}
+use Rattle.gms_expressions.specs.ExpressionTrees.{unquoted}
 use Rattle.gms_parse.proofs.Steps.{refuses_memory}
 use Rattle.gms_parse.proofs.Acts.{text_got, symbol_got, symbol_unnamed, symbol_refused}
 use Rattle.gms_parse.proofs.reader.Reader.shown.Goals as goal

@@ -1,6 +1,6 @@
-use Rattle.gms_parse_x.proofs.Signs.{handed_on}
+use Rattle.gms_expressions.proofs.Signs.{handed_on}
 use Rattle.std.proofs.Common.{◌∙◌, ap}
-use Rattle.gms_parse_x.specs.ExpressionTrees.{suffix_of}
+use Rattle.gms_expressions.specs.ExpressionTrees.{suffix_of}
 use Rattle.gms_parse.proofs.Acts.{suffix_none, suffix_got, suffix_refused}
 use Rattle.gms_parse.proofs.reader.Reader.suffix.Goals as goal
 

@@ -1,6 +1,6 @@
 use Rattle.std.proofs.Common.{◌≡◌, ◌==◌, true, false, List, [], ◌∷◌, map, length, refl, sym, ap, ◌∙◌, inl, inr, arith}
 use Rattle.std.proofs.lemmas.Bool.{eqb-true}
-use Rattle.gms_parse_x.proofs.Signs.{handed_on}
+use Rattle.gms_expressions.proofs.Signs.{handed_on}
 use Rattle.gms_table.specs.declared.entry.TableLine.{TableLine}
 use Rattle.gms_table.specs.declared.fault.TableFaultOrMemory.TheVariants.{Memory}
 use Rattle.gms_parse.specs.Tables.{item_of_entry}

@@ -1,7 +1,7 @@
 use Rattle.std.proofs.Common.{refl}
 use Rattle.gms_ast.specs.StatementView.{shown_target}
 use Rattle.gms_grammar.specs.GamsGrammar.{Target}
-use Rattle.gms_parse_x.proofs.Signs.{handed_on}
+use Rattle.gms_expressions.proofs.Signs.{handed_on}
 use Rattle.gms_parse.specs.Meanings.{IsTarget}
 use Rattle.gms_parse.proofs.Formulas.{formula_got, formula_refused}
 use Rattle.gms_parse.proofs.Targets.{target_is}

@@ -1,5 +1,5 @@
 use Rattle.std.proofs.Common.{refl}
-use Rattle.gms_parse_x.proofs.Signs.{handed_on}
+use Rattle.gms_expressions.proofs.Signs.{handed_on}
 use Rattle.gms_parse.proofs.Entering.{number_refused}
 use Rattle.gms_parse.proofs.Values.{infinity_got, numeral_got, numeral_lacking}
 use Rattle.gms_parse.proofs.reader.Reader.unsigned.Goals as goal

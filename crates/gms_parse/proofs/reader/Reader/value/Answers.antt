@@ -1,4 +1,4 @@
-use Rattle.gms_parse_x.proofs.Signs.{handed_on}
+use Rattle.gms_expressions.proofs.Signs.{handed_on}
 use Rattle.gms_parse.proofs.Values.{not_available_got, value_got, value_refused}
 use Rattle.gms_parse.proofs.reader.Reader.value.Goals as goal
 

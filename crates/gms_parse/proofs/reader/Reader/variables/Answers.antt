@@ -1,5 +1,5 @@
 use Rattle.std.proofs.Common.{refl}
-use Rattle.gms_parse_x.proofs.Signs.{answered}
+use Rattle.gms_expressions.proofs.Signs.{answered}
 use Rattle.gms_parse.proofs.Declarations.{variables_got, variables_refused}
 use Rattle.gms_parse.proofs.reader.Reader.variables.Goals as goal
 

@@ -1,0 +1,47 @@
+-- A repetition, read in a loop.
+use Rattle.std.proofs.Common.{◌≡◌, ℕ, ◌≤◌, true, false, ap, ◌∙◌, arith}
+use Rattle.gms_grammar.specs.Grammar.{many, none, more}
+use Rattle.gms_grammar.specs.Reading.{leads}
+use Rattle.gms_grammar.specs.GamsGrammar.{productions}
+use Rattle.gms_grammar.specs.GamsLookAhead.{look_ahead}
+use Rattle.gms_expressions.specs.declared.fault.SyntaxFaultOrMemory.{SyntaxFaultOrMemory}
+use Rattle.gms_expressions.specs.declared.reader.Reader.{Reader}
+use Rattle.gms_expressions.specs.declared.reader.Tables.{Tables}
+use Rattle.gms_expressions.specs.Readings.{Derivation, GamsPart, Gives, Refuses, Sense, IsSense, IsGot, seen_from, walk_of}
+use Rattle.gms_expressions.proofs.Steps.{Within, within_then, within_again, gives_no_more, refuses_again}
+use Rattle.gms_expressions.proofs.Nexts.{earlier}
+
+-- A part ends with a repetition, of which so much was read. The whole is what is made of the rest.
+pub record Looping {Y Z : Type 0} (limit : ℕ) (part q : GamsPart) (whole : Sense → Derivation → Y) (others : Sense → Derivation → Z) (made : Z → Y) (reader : Reader) (start : ℕ) (old new : Tables) (at : ℕ) : Type 0 where
+  pub context : Derivation → Derivation
+  pub within : Within limit reader.source.now part (walk_of reader.unclosed old) (seen_from reader start) (many q) (walk_of reader.unclosed new) (seen_from reader at) context
+  pub means : (sense : Sense) → IsSense new sense → (b : Derivation) → whole sense (context b) ≡ made (others sense b)
+  pub further : start ≤ at
+
+module _ {Y Z : Type 0} {limit : ℕ} {part q : GamsPart} {whole : Sense → Derivation → Y} {others : Sense → Derivation → Z} {made : Z → Y} {reader : Reader} {start : ℕ} {old new : Tables} {at : ℕ} where
+  -- one more was read
+  pub loop_on : Looping limit part q whole others made reader start old new at → {newer : Tables} {after : ℕ} {tree : Derivation} → leads productions look_ahead q (seen_from reader at) ≡ true →
+      Gives limit reader.source.now q (walk_of reader.unclosed new) (seen_from reader at) tree (walk_of reader.unclosed newer) (seen_from reader after) → at ≤ after →
+      (put : Z → Z) → ((sense : Sense) → IsSense newer sense → (b : Derivation) → others sense (more tree b) ≡ put (others sense b)) → (made' : Z → Y) → ((z : Z) → made (put z) ≡ made' z) →
+      Looping limit part q whole others made' reader start old newer after
+  loop_on l {tree = tree} led g far put one_more made' same = record {
+    context = λ b. l.context (more tree b);
+    within = within_then l.within (within_again led g);
+    means = λ sense s b. l.means sense (earlier g s) (more tree b) ∙ ap made (one_more sense s b) ∙ same (others sense b);
+    further = (let f = l.further in omega arith);
+  }
+
+  -- no more is to be read
+  pub loop_got : Looping limit part q whole others made reader start old new at → leads productions look_ahead q (seen_from reader at) ≡ false → {T : Type 0} (Means : Sense → Derivation → T → Type 0) (x : T) →
+      ((sense : Sense) (tree : Derivation) → whole sense tree ≡ made (others sense none) → Means sense tree x) → IsGot limit Means part reader start old new x at
+  loop_got l unled Means x means = record {
+    tree = l.context none;
+    gives = l.within.gives none _ _ (gives_no_more unled);
+    means = λ sense s. means sense (l.context none) (l.means sense s none);
+    further = l.further;
+  }
+
+  -- the next is refused
+  pub loop_refuses : Looping limit part q whole others made reader start old new at → {e : SyntaxFaultOrMemory} → leads productions look_ahead q (seen_from reader at) ≡ true →
+      Refuses limit reader.source.now q (walk_of reader.unclosed new) (seen_from reader at) e → Refuses limit reader.source.now part (walk_of reader.unclosed old) (seen_from reader start) e
+  loop_refuses l led r = l.within.refuses _ (refuses_again led r)

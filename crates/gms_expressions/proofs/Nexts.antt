@@ -1,0 +1,109 @@
+-- Single tokens at places of a reader.
+use Rattle.std.proofs.Common.{◌≡◌, ℕ, ◌+◌, ◌<◌, ◌≤◌, Bool, true, false, ◌||◌, List, [], ◌∷◌, length, Some, refl, sym, ap, ◌∙◌, subst, arith, inl, inr, ◌-◌}
+use Rattle.gms_grammar.specs.declared.terminal.Terminal.{Terminal}
+use Rattle.gms_grammar.specs.declared.terminal.Terminal.TheVariants.{LeftParen, RightParen}
+use Rattle.gms_grammar.specs.Grammar.{one, ◌·◌, leaf, pair, yield}
+use Rattle.gms_grammar.specs.Reading.{leads, refused}
+use Rattle.gms_grammar.specs.Terminals.{is, number_of}
+use Rattle.std.proofs.lemmas.Bool.{eqb-true}
+use Rattle.gms_grammar.specs.GamsGrammar.{productions, token, bracketed}
+use Rattle.gms_grammar.specs.GamsLookAhead.{look_ahead}
+use Rattle.gms_grammar.proofs.Basics.{or_left}
+use Rattle.gms_lex.specs.declared.token.Token.{Token}
+use Rattle.gms_labels.specs.Labels.{place_of}
+use Rattle.gms_expressions.specs.declared.fault.SyntaxError.{SyntaxError}
+use Rattle.gms_expressions.specs.declared.fault.SyntaxFaultOrMemory.{SyntaxFaultOrMemory}
+use Rattle.gms_expressions.specs.declared.reader.Reader.{Reader}
+use Rattle.gms_expressions.specs.declared.reader.Tables.{Tables}
+use Rattle.gms_expressions.specs.Outcomes.{Walk, IsFaulty}
+use Rattle.gms_expressions.specs.Readings.{Seen, Derivation, GamsPart, Gives, Refuses, Sense, IsSense, IsNext, IsLacking, IsOpened, IsUnopened, seen_from, walk_of, kind_of}
+use Rattle.gms_expressions.proofs.TokenKinds.{is_plain, implies, also, same_number}
+use Rattle.gms_expressions.proofs.Walks.{plain_after, plain_sound, names_kept, labels_kept}
+use Rattle.gms_expressions.proofs.Steps.{gives_one, gives_both, refuses_at, refuses_first, refuses_second}
+
+-- the kind of a token that is next
+pub kind_next : {test : Terminal → Bool} {reader : Reader} {at behind : ℕ} {token : Token} (n : IsNext test reader at token behind) → kind_of (seen_from reader at) ≡ n.kind
+kind_next n = ap kind_of n.is
+
+-- the next token, of a plain kind
+pub gives_next : {limit : ℕ} {test : Terminal → Bool} {reader : Reader} {at behind : ℕ} {token : Token} (tables : Tables) (n : IsNext test reader at token behind) → implies test is_plain ≡ true →
+    Gives limit reader.source.now (one test) (walk_of reader.unclosed tables) (seen_from reader at) (leaf (n.kind, token)) (walk_of reader.unclosed tables) (seen_from reader behind)
+gives_next {limit = limit} {test = test} {reader = reader} {token = token} tables n plain =
+    let k = also test is_plain plain n.kind n.passes in
+    gives_one n.is n.passes (plain_sound limit reader.source.now (walk_of reader.unclosed tables) n.kind token k) (sym (plain_after reader.source.now reader.unclosed tables n.kind token k))
+
+-- another token is due
+pub refuses_lacking : {limit : ℕ} {test : Terminal → Bool} {reader : Reader} {at : ℕ} {w : Walk} {e : SyntaxFaultOrMemory} → IsLacking test reader at e → Refuses limit reader.source.now (one test) w (seen_from reader at) e
+refuses_lacking l = refuses_at (refused l.not_led) l.is
+
+-- the next token leads into a part that begins with it
+pub leads_next : {test : Terminal → Bool} {reader : Reader} {at behind : ℕ} {token : Token} (q : GamsPart) → IsNext test reader at token behind → leads productions look_ahead (one test · q) (seen_from reader at) ≡ true
+leads_next {test = test} q n = ap (leads productions look_ahead (one test · q)) n.is ∙ or_left (test n.kind) _ n.passes
+
+pub led_next : {test : Terminal → Bool} {reader : Reader} {at behind : ℕ} {token : Token} → IsNext test reader at token behind → leads productions look_ahead (one test) (seen_from reader at) ≡ true
+led_next {test = test} n = ap (leads productions look_ahead (one test)) n.is ∙ n.passes
+
+-- only what the next token tells leads into such a part
+pub unled_next : (test : Terminal → Bool) (q : GamsPart) (ts : List Seen) → leads productions look_ahead (one test) ts ≡ false → leads productions look_ahead (one test · q) ts ≡ false
+unled_next test q [] h = refl
+unled_next test q (t ∷ ts) h = ap (λ b. b || false) h
+
+-- what is so of the sense of later tables is so of that of earlier ones
+pub earlier : {limit : ℕ} {source : List ℕ} {part : GamsPart} {unclosed : ℕ} {old new : Tables} {ts rest : List Seen} {tree : Derivation} {sense : Sense} →
+    Gives limit source part (walk_of unclosed old) ts tree (walk_of unclosed new) rest → IsSense new sense → IsSense old sense
+earlier {source = source} {unclosed = unclosed} {old = old} {tree = tree} g s = record {
+  names = λ text n h. s.names text n (subst (λ (w : Walk). place_of w.names text ≡ Some n) (sym g.leaves) (names_kept source (walk_of unclosed old) (yield tree) text n h));
+  labels = λ text n h. s.labels text n (subst (λ (w : Walk). place_of w.labels text ≡ Some n) (sym g.leaves) (labels_kept source (walk_of unclosed old) (yield tree) text n h));
+  value = s.value;
+}
+
+-- the next token, of a kind that is known
+pub exact : {kind : Terminal} {reader : Reader} {at behind : ℕ} {token : Token} → IsNext (is kind) reader at token behind → seen_from reader at ≡ (kind, token) ∷ seen_from reader behind
+exact {kind = kind} {reader = reader} {behind = behind} {token = token} n =
+    let k : kind ≡ n.kind = same_number kind n.kind (eqb-true (number_of kind) (number_of n.kind) n.passes) in
+    n.is ∙ ap (λ (k : Terminal). (k, token) ∷ seen_from reader behind) (sym k)
+
+-- the parenthesis opens
+gives_open : {limit : ℕ} {reader : Reader} {at behind : ℕ} {inner : Reader} (tables : Tables) (o : IsOpened reader at inner behind) →
+    Gives limit reader.source.now (one (is LeftParen)) (walk_of reader.unclosed tables) (seen_from reader at) (leaf (LeftParen, o.token)) (walk_of (reader.unclosed + 1) tables) (seen_from reader behind)
+gives_open {limit = limit} {reader = reader} tables o = gives_one (exact o.next) refl sound refl
+  where
+    sound : (error : SyntaxError) → IsFaulty limit reader.source.now (walk_of reader.unclosed tables) (LeftParen, o.token) error → ⊥
+    sound error (inl f) = let room = o.room in absurd (omega (arith, f.1))
+    sound error (inr (inl f)) = let e = f.0 in cc
+    sound error (inr (inr (inl f))) = let e = f.0 in cc
+    sound error (inr (inr (inr f))) = let e = f.0 in cc
+
+-- the parenthesis closes
+gives_close : {limit : ℕ} {reader : Reader} {at behind : ℕ} {token : Token} (tables : Tables) → IsNext (is RightParen) reader at token behind →
+    Gives limit reader.source.now (one (is RightParen)) (walk_of (reader.unclosed + 1) tables) (seen_from reader at) (leaf (RightParen, token)) (walk_of reader.unclosed tables) (seen_from reader behind)
+gives_close {limit = limit} {reader = reader} {token = token} tables n = gives_one (exact n) refl sound (ap (λ k. walk_of k tables) (let e : reader.unclosed ≡ reader.unclosed + 1 - 1 = omega arith in e))
+  where
+    sound : (error : SyntaxError) → IsFaulty limit reader.source.now (walk_of (reader.unclosed + 1) tables) (RightParen, token) error → ⊥
+    sound error (inl f) = let e = f.0 in cc
+    sound error (inr (inl f)) = let e = f.0 in cc
+    sound error (inr (inr (inl f))) = let e = f.0 in cc
+    sound error (inr (inr (inr f))) = let e = f.0 in cc
+
+module _ {limit : ℕ} {reader : Reader} {at start : ℕ} {inner : Reader} {p : GamsPart} {old : Tables} (o : IsOpened reader at inner start) where
+  -- a part in parentheses
+  pub gives_bracketed : {new : Tables} {tree : Derivation} {next behind : ℕ} {token : Token} →
+      Gives limit reader.source.now p (walk_of (reader.unclosed + 1) old) (seen_from reader start) tree (walk_of (reader.unclosed + 1) new) (seen_from reader next) → IsNext (is RightParen) reader next token behind →
+      Gives limit reader.source.now (bracketed p) (walk_of reader.unclosed old) (seen_from reader at) (pair (leaf (LeftParen, o.token)) (pair tree (leaf (RightParen, token)))) (walk_of reader.unclosed new) (seen_from reader behind)
+  gives_bracketed {new = new} g n = gives_both (gives_open old o) (gives_both g (gives_close new n))
+
+  pub refuses_inside : {e : SyntaxFaultOrMemory} → Refuses limit reader.source.now p (walk_of (reader.unclosed + 1) old) (seen_from reader start) e → Refuses limit reader.source.now (bracketed p) (walk_of reader.unclosed old) (seen_from reader at) e
+  refuses_inside r = refuses_second (gives_open old o) (refuses_first r)
+
+  pub refuses_unclosed : {new : Tables} {tree : Derivation} {next : ℕ} {e : SyntaxFaultOrMemory} →
+      Gives limit reader.source.now p (walk_of (reader.unclosed + 1) old) (seen_from reader start) tree (walk_of (reader.unclosed + 1) new) (seen_from reader next) → IsLacking (is RightParen) reader next e →
+      Refuses limit reader.source.now (bracketed p) (walk_of reader.unclosed old) (seen_from reader at) e
+  refuses_unclosed g l = refuses_second (gives_open old o) (refuses_second g (refuses_lacking l))
+
+-- no parenthesis opens where one is due
+pub refuses_unopened : {limit : ℕ} {reader : Reader} {at : ℕ} {e : SyntaxFaultOrMemory} (p : GamsPart) (tables : Tables) → IsUnopened reader at e → Refuses limit reader.source.now (bracketed p) (walk_of reader.unclosed tables) (seen_from reader at) e
+refuses_unopened {limit = limit} p tables u = refuses_first (u.refuses limit tables)
+
+-- each step of a loop over tokens leaves fewer
+pub falls : {test : Terminal → Bool} {reader : Reader} {at behind : ℕ} {token : Token} → IsNext test reader at token behind → (after : ℕ) → behind ≤ after → length reader.tokens.now - after < length reader.tokens.now - at
+falls n after h = let w = n.within in let f = n.further in omega arith

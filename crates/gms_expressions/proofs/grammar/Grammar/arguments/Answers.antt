@@ -1,0 +1,48 @@
+use Rattle.std.proofs.Common.{◌+◌}
+use Rattle.std.proofs.Common.{[], ◌∷◌, refl, ap}
+use Rattle.std.proofs.lemmas.Slice.{pushed}
+use Rattle.gms_grammar.specs.Grammar.{the}
+use Rattle.gms_grammar.specs.GamsGrammar.{ExpressionList}
+use Rattle.gms_ast.specs.Trees.{plain}
+use Rattle.gms_expressions.specs.Nodes.{view, plain_views}
+use Rattle.gms_expressions.proofs.Signs.{handed_on}
+use Rattle.gms_expressions.proofs.Steps.{refuses_the, refuses_first, refuses_memory}
+use Rattle.gms_expressions.proofs.Nexts.{refuses_unopened, refuses_inside, falls}
+use Rattle.gms_expressions.proofs.Nesting.{callable_inside, reads_inside}
+use Rattle.gms_expressions.proofs.Closings.{next_inside, closing_answer, arguments_got, arguments_refuses}
+use Rattle.gms_expressions.proofs.Lists.{arguments_start, arguments_on}
+use Rattle.gms_expressions.proofs.Made.{views_push}
+use Rattle.gms_expressions.proofs.grammar.Grammar.arguments.Goals as goal
+
+pub nested-requires : goal.nested-requires
+nested-requires g c = callable_inside c.requires c.in_ok-inner.ensures _ _ _ _
+
+pub nested-requires-in-Some : goal.nested-requires-in-Some
+nested-requires-in-Some g c = callable_inside c.requires c.in_ok-inner.ensures _ _ _ _
+
+pub returns-in_err-inner : goal.returns-in_err-inner
+returns-in_err-inner g c = handed_on _ _ c.from_residual.result _ c.from_residual.ensures.1 (refuses_unopened (the ExpressionList) c.args.tables.now c.in_err-inner.ensures)
+
+pub returns-in_err-first : goal.returns-in_err-first
+returns-in_err-first g c = handed_on _ _ c.from_residual-in_err-first.result _ c.from_residual-in_err-first.ensures.1 (refuses_inside c.in_ok-inner.ensures (refuses_the ExpressionList (refuses_first (reads_inside c.requires c.in_ok-inner.ensures c.in_err-first.ensures))))
+
+pub returns-in_err-push : goal.returns-in_err-push
+returns-in_err-push g c = handed_on _ _ c.from_residual-in_err-push.result _ c.from_residual-in_err-push.ensures.1 (refuses_memory refl)
+
+pub loop-behind-init : goal.loop-behind-init
+loop-behind-init g c = arguments_start (reads_inside c.requires c.in_ok-inner.ensures c.in_ok-first.ensures) _ (ap (plain_views g.F.ExactField.value) (pushed (c.in_ok-first.first ∷ []) c.new-args.ensures.items c.in_ok-push.was c.push.ensures.items))
+
+pub returns-in_err-argument : goal.returns-in_err-argument
+returns-in_err-argument g c = handed_on _ _ c.from_residual-in_err-argument.result _ c.from_residual-in_err-argument.ensures.1 (refuses_inside c.in_ok-inner.ensures (arguments_refuses c.loop-behind.invariant (next_inside (c.args.self.now.reader.unclosed + 1) c.in-Some.ensures) (reads_inside c.requires c.in_ok-inner.ensures c.in_err-argument.ensures)))
+
+pub returns-in_err-push-2 : goal.returns-in_err-push-2
+returns-in_err-push-2 g c = handed_on _ _ c.from_residual-in_err-push-2.result _ c.from_residual-in_err-push-2.ensures.1 (refuses_memory refl)
+
+pub loop-behind-smaller : goal.loop-behind-smaller
+loop-behind-smaller g c = falls c.in-Some.ensures _ (reads_inside c.requires c.in_ok-inner.ensures c.in_ok-argument.ensures).further
+
+pub loop-behind-preserved : goal.loop-behind-preserved
+loop-behind-preserved g c = arguments_on c.loop-behind.invariant (next_inside (c.args.self.now.reader.unclosed + 1) c.in-Some.ensures) (reads_inside c.requires c.in_ok-inner.ensures c.in_ok-argument.ensures) _ (views_push (λ e. (plain, view g.F.ExactField.value e)) _ _ c.in_ok-push-2.ensures.items)
+
+pub returns : goal.returns
+returns g c = closing_answer c.before-2.result c.in_ok-inner.ensures (arguments_got g.F.ExactField.value c.loop-behind.args c.loop-behind.invariant c.in_default.ensures) c.before-2.ensures _ (λ sense tree l m k. k)

@@ -1,0 +1,11 @@
+use Rattle.std.proofs.Common.{length, ◌-◌, ◌+◌}
+use Rattle.gms_expressions.specs.Nodes.{plain_views}
+use Rattle.gms_expressions.specs.Readings.{inside}
+use Rattle.gms_expressions.proofs.Lists.{Arguments}
+use Rattle.gms_expressions.proofs.grammar.Grammar.arguments.Given as goal
+
+abbrev pub invariant-loop-behind : goal.invariant-loop-behind
+invariant-loop-behind g l = Arguments g.F.ExactField.limit (plain_views g.F.ExactField.value l.args.items) (inside l.self.reader (l.self.reader.unclosed + 1)) l.start l.fn.tables l.tables l.next
+
+abbrev pub decreases-loop-behind : goal.decreases-loop-behind
+decreases-loop-behind g l = length l.self.reader.tokens.now - l.next

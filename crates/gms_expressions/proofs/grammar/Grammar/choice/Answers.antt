@@ -1,0 +1,47 @@
+use Rattle.std.proofs.Common.{◌∷◌, [], false, codes, refl, sym, ap, ◌∙◌}
+use Rattle.std.proofs.lemmas.Slice.{pushed}
+use Rattle.gms_expressions.specs.ExpressionTrees.{is_word, conjunction, choices}
+use Rattle.gms_ast.specs.Trees.{chosen, part, one_of}
+use Rattle.gms_ast.specs.TreeView.{tree_of}
+use Rattle.gms_ast.proofs.TreeEquations.{tree_of-Or}
+use Rattle.gms_grammar.specs.Grammar.{the}
+use Rattle.gms_grammar.specs.GamsGrammar.{Expression, Conjunction}
+use Rattle.gms_grammar.specs.declared.terminal.Terminal.TheVariants.{Or}
+use Rattle.gms_ast.specs.Numbers.{in_numbers}
+use Rattle.gms_expressions.specs.Nodes.{chosen_views, view}
+use Rattle.gms_expressions.proofs.Made.{numbers_in_parts, views_push}
+use Rattle.gms_expressions.proofs.Signs.{handed_on}
+use Rattle.gms_expressions.proofs.Steps.{refuses_the, refuses_first, refuses_memory}
+use Rattle.gms_expressions.proofs.Nexts.{unled_next, falls}
+use Rattle.gms_expressions.proofs.Chains.{chain_first, chain_alone, chain_start, chain_on, chain_got, chain_refuses, in_sense}
+use Rattle.gms_grammar.specs.Terminals.{is}
+use Rattle.gms_expressions.specs.Readings.{seen_from}
+use Rattle.gms_expressions.proofs.Grows.{some_led, none_led}
+use Rattle.gms_expressions.proofs.grammar.Grammar.choice.Goals as goal
+
+pub returns-in_err-first : goal.returns-in_err-first
+returns-in_err-first g c = handed_on _ _ c.from_residual.result _ c.from_residual.ensures.1 (refuses_the Expression (refuses_first c.in_err-first.ensures))
+
+pub returns-then-not-is_next : goal.returns-then-not-is_next
+returns-then-not-is_next g c = chain_alone {others = choices} {make = one_of} (chain_first Expression (chosen false) refl c.in_ok-first.ensures (λ sense b. refl)) (unled_next (is Or) (the Conjunction) (seen_from c.args.self.now.reader c.in_ok-first.next) (none_led c.is_next.ensures c.if-not-is_next.true)) (λ sense. refl)
+
+pub returns-in_err-push : goal.returns-in_err-push
+returns-in_err-push g c = handed_on _ _ c.from_residual-in_err-push.result _ c.from_residual-in_err-push.ensures.1 (refuses_memory refl)
+
+pub loop-word-init : goal.loop-word-init
+loop-word-init g c = chain_start (chain_first Expression (chosen false) refl c.in_ok-first.ensures (λ sense b. refl)) (some_led (is Or) (the Conjunction) (seen_from c.args.self.now.reader c.in_ok-first.next) c.is_next.ensures c.if-not-is_next.false) _ (ap (chosen_views g.F.ExactField.value) (pushed ((false, c.in_ok-first.first) ∷ []) c.new-parts.ensures.items c.in_ok-push.was c.push.ensures.items))
+
+pub returns-in_err-part : goal.returns-in_err-part
+returns-in_err-part g c = handed_on _ _ c.from_residual-in_err-part.result _ c.from_residual-in_err-part.ensures.1 (chain_refuses c.loop-word.invariant c.in-Some.ensures refl c.in_err-part.ensures)
+
+pub returns-in_err-push-2 : goal.returns-in_err-push-2
+returns-in_err-push-2 g c = handed_on _ _ c.from_residual-in_err-push-2.result _ c.from_residual-in_err-push-2.ensures.1 (refuses_memory refl)
+
+pub loop-word-smaller : goal.loop-word-smaller
+loop-word-smaller g c = falls c.in-Some.ensures _ c.in_ok-part.ensures.further
+
+pub loop-word-preserved : goal.loop-word-preserved
+loop-word-preserved g c = chain_on c.loop-word.invariant c.in-Some.ensures refl c.in_ok-part.ensures (chosen c.is_xor.result) (λ sense b. ap (λ m. part (chosen m) (in_sense c.args.self.now.reader.source.now conjunction sense c.in_ok-part.ensures.tree) (in_sense c.args.self.now.reader.source.now choices sense b)) (sym (c.is_xor.ensures ∙ ap (λ t. is_word t (codes "xor")) c.text.ensures))) _ (views_push (λ p. (chosen p.0, view g.F.ExactField.value p.1)) _ _ c.in_ok-push-2.ensures.items)
+
+pub returns : goal.returns
+returns g c = chain_got c.loop-word.invariant c.in_default.ensures (λ sense. refl) (ap (in_numbers g.F.ExactField.value) (tree_of-Or c.loop-word.parts) ∙ ap one_of (numbers_in_parts g.F.ExactField.value (λ p. chosen p.0) (λ p. tree_of p.1) c.loop-word.parts.items))

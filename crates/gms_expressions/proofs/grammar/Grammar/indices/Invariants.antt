@@ -1,0 +1,10 @@
+use Rattle.std.proofs.Common.{length, ◌-◌, ◌+◌}
+use Rattle.gms_expressions.specs.Readings.{inside}
+use Rattle.gms_expressions.proofs.Indexing.{SomeIndices}
+use Rattle.gms_expressions.proofs.grammar.Grammar.indices.Given as goal
+
+abbrev pub invariant-loop-behind : goal.invariant-loop-behind
+invariant-loop-behind g l = SomeIndices g.F.ExactField.value g.F.ExactField.limit l.indices.items (inside l.self.reader (l.self.reader.unclosed + 1)) l.start l.fn.tables l.tables l.next
+
+abbrev pub decreases-loop-behind : goal.decreases-loop-behind
+decreases-loop-behind g l = length l.self.reader.tokens.now - l.next

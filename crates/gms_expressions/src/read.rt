@@ -1,0 +1,189 @@
+//! The four calls.
+ghost use Rattle.std.specs.Prelude.{◌≡◌, ◌<◌, ◌≤◌, length, map, MatchResult};
+ghost use Rattle.gms_lex.specs.Tokens.{IsTokens};
+ghost use Rattle.gms_ast.specs.Trees.{reference};
+ghost use Rattle.gms_ast.specs.TreeView.{tree_of, control_tree, indices_of, index_tree};
+ghost use Rattle.gms_grammar.specs.GamsGrammar.{Expression, Primary, Control as ControlPart, Target as TargetPart};
+ghost use Rattle.gms_expressions.specs.ExpressionTrees as trees;
+ghost use Rattle.gms_ast.specs.Numbers.{in_numbers, indices_in_numbers, control_in_numbers};
+ghost use Rattle.gms_expressions.specs.Calls.{walk_from, tokens_from, IsRead, IsRefusal};
+ghost use Rattle.gms_expressions.specs.Readings.{IsReady};
+
+use crate::fault::SyntaxFaultOrMemory;
+use crate::grammar::{Grammar, Inner, nested};
+use crate::reader::{Read, Reader, Tables};
+use gms_ast::{Control, Expr, Target};
+use gms_labels::Labels;
+use gms_lex::Token;
+use gq_field::ExactField;
+use std::alloc::Global;
+use std::marker::PhantomData;
+
+/// What reads the tokens of a source, before which so many parentheses are open.
+fn reader<'s>(alloc: Global, source: &'s [u8], tokens: &'s [Token], unclosed: u32) -> Reader<'s>
+    requires tokens { IsTokens source.now tokens.now }
+    requires few { unclosed ≤ 100 }
+    ensures ready { IsReady result }
+    ensures source { result.source.now ≡ source.now }
+    ensures tokens { result.tokens.now ≡ tokens.now }
+    ensures unclosed { result.unclosed ≡ unclosed }
+{
+    Reader {
+        alloc,
+        source,
+        tokens,
+        end: tokens[tokens.len() - 1].at,
+        unclosed,
+    }
+}
+
+impl Tables {
+    /// These tables, taken from where they are.
+    fn taken(alloc: Global, names: &mut Labels, labels: &mut Labels) -> Tables
+        ensures names { result.names ≡ names.old }
+        ensures labels { result.labels ≡ labels.old }
+    {
+        Tables {
+            names: std::mem::replace(names, Labels::new(alloc)),
+            labels: std::mem::replace(labels, Labels::new(alloc)),
+        }
+    }
+
+    /// Gives the tables back.
+    fn give_back(self, names: &mut Labels, labels: &mut Labels)
+        ensures names { names.new ≡ self.names }
+        ensures labels { labels.new ≡ self.labels }
+    {
+        let Tables {
+            names: own_names,
+            labels: own_labels,
+        } = self;
+        *names = own_names;
+        *labels = own_labels;
+    }
+}
+
+/// The longest expression that begins at a token, and the place of the token behind it.
+pub fn expression<F: ExactField>(
+    alloc: Global,
+    source: &[u8],
+    tokens: &[Token],
+    from: usize,
+    unclosed: u32,
+    names: &mut Labels,
+    labels: &mut Labels,
+) -> Result<(Expr<F>, usize), SyntaxFaultOrMemory>
+    requires tokens { IsTokens source.now tokens.now }
+    requires from { from < length tokens.now }
+    requires few { unclosed ≤ 100 }
+    ensures { MatchResult result
+        (λ r. IsRead F.limit source.now Expression
+        (λ all_names all_labels value tree part. in_numbers F.value (tree_of part) ≡ trees.expression source.now all_names all_labels value tree)
+        (walk_from unclosed names.old labels.old) (walk_from unclosed names.new labels.new)
+        (tokens_from source.now tokens.now from) (tokens_from source.now tokens.now r.1) r.0)
+        (λ e. IsRefusal F.limit source.now Expression (walk_from unclosed names.old labels.old) (tokens_from source.now tokens.now from) e) }
+{
+    let mut tables = Tables::taken(alloc, names, labels);
+    let read = nested(
+        reader(alloc, source, tokens, unclosed),
+        &mut tables,
+        from,
+        Inner::Expression,
+        PhantomData,
+    );
+    tables.give_back(names, labels);
+    read
+}
+
+/// The longest operand that begins at a token, and the place of the token behind it.
+pub fn primary<F: ExactField>(
+    alloc: Global,
+    source: &[u8],
+    tokens: &[Token],
+    from: usize,
+    unclosed: u32,
+    names: &mut Labels,
+    labels: &mut Labels,
+) -> Result<(Expr<F>, usize), SyntaxFaultOrMemory>
+    requires tokens { IsTokens source.now tokens.now }
+    requires from { from < length tokens.now }
+    requires few { unclosed ≤ 100 }
+    ensures { MatchResult result
+        (λ r. IsRead F.limit source.now Primary
+        (λ all_names all_labels value tree part. in_numbers F.value (tree_of part) ≡ trees.primary source.now all_names all_labels value tree)
+        (walk_from unclosed names.old labels.old) (walk_from unclosed names.new labels.new)
+        (tokens_from source.now tokens.now from) (tokens_from source.now tokens.now r.1) r.0)
+        (λ e. IsRefusal F.limit source.now Primary (walk_from unclosed names.old labels.old) (tokens_from source.now tokens.now from) e) }
+{
+    let mut tables = Tables::taken(alloc, names, labels);
+    let grammar = Grammar {
+        reader: reader(alloc, source, tokens, unclosed),
+        nested: nested::<F>,
+        field: PhantomData,
+    };
+    let read = grammar.primary(&mut tables, from);
+    tables.give_back(names, labels);
+    read
+}
+
+/// The longest control that begins at a token, and the place of the token behind it.
+pub fn control<F: ExactField>(
+    alloc: Global,
+    source: &[u8],
+    tokens: &[Token],
+    from: usize,
+    unclosed: u32,
+    names: &mut Labels,
+    labels: &mut Labels,
+) -> Result<(Control<F>, usize), SyntaxFaultOrMemory>
+    requires tokens { IsTokens source.now tokens.now }
+    requires from { from < length tokens.now }
+    requires few { unclosed ≤ 100 }
+    ensures { MatchResult result
+        (λ r. IsRead F.limit source.now ControlPart
+        (λ all_names all_labels value tree part. control_in_numbers F.value (control_tree part) ≡ trees.control source.now all_names all_labels value tree)
+        (walk_from unclosed names.old labels.old) (walk_from unclosed names.new labels.new)
+        (tokens_from source.now tokens.now from) (tokens_from source.now tokens.now r.1) r.0)
+        (λ e. IsRefusal F.limit source.now ControlPart (walk_from unclosed names.old labels.old) (tokens_from source.now tokens.now from) e) }
+{
+    let mut tables = Tables::taken(alloc, names, labels);
+    let grammar = Grammar {
+        reader: reader(alloc, source, tokens, unclosed),
+        nested: nested::<F>,
+        field: PhantomData,
+    };
+    let read = grammar.control(&mut tables, from);
+    tables.give_back(names, labels);
+    read
+}
+
+/// The longest target that begins at a token, and the place of the token behind it.
+pub fn target<F: ExactField>(
+    alloc: Global,
+    source: &[u8],
+    tokens: &[Token],
+    from: usize,
+    unclosed: u32,
+    names: &mut Labels,
+    labels: &mut Labels,
+) -> Result<(Target<F>, usize), SyntaxFaultOrMemory>
+    requires tokens { IsTokens source.now tokens.now }
+    requires from { from < length tokens.now }
+    requires few { unclosed ≤ 100 }
+    ensures { MatchResult result
+        (λ r. IsRead F.limit source.now TargetPart
+        (λ all_names all_labels value tree part. reference part.at part.name part.suffix (indices_in_numbers F.value (indices_of (map index_tree part.indices))) ≡ trees.target source.now all_names all_labels value tree)
+        (walk_from unclosed names.old labels.old) (walk_from unclosed names.new labels.new)
+        (tokens_from source.now tokens.now from) (tokens_from source.now tokens.now r.1) r.0)
+        (λ e. IsRefusal F.limit source.now TargetPart (walk_from unclosed names.old labels.old) (tokens_from source.now tokens.now from) e) }
+{
+    let mut tables = Tables::taken(alloc, names, labels);
+    let grammar = Grammar {
+        reader: reader(alloc, source, tokens, unclosed),
+        nested: nested::<F>,
+        field: PhantomData,
+    };
+    let read = grammar.target(&mut tables, from);
+    tables.give_back(names, labels);
+    read
+}

@@ -1,0 +1,96 @@
+-- The tokens and texts with which a text can begin: words, numbers, labels, quoted tokens, symbols and descriptive texts, each
+-- the longest (GAMS User's Guide, "Language Items").
+use Rattle.std.specs.Prelude.{ℕ, ◌+◌, ◌<◌, ◌≤◌, Bool, true, false, not, ◌&&◌, ◌||◌, ◌==◌, nat_lt, if◌then◌else◌, List, [], ◌∷◌, length, take, drop, Option, Some, None, Result, Ok, Err}
+use Rattle.std.specs.List.{prefix_len}
+use Rattle.std.specs.Char.{is_ascii_alphabetic, is_ascii_alphanumeric}
+use Rattle.gms_lines.specs.declared.fault.LexError.{LexError}
+use Rattle.gms_lines.specs.declared.fault.LexError.TheVariants.{BadByte, OpenQuote, LongLabel}
+use Rattle.gms_lines.specs.Lines.{begins}
+use Rattle.gms_lexemes.specs.declared.kind.Sym.{Sym}
+use Rattle.gms_lexemes.specs.declared.kind.Kind.{Kind}
+use Rattle.gms_lexemes.specs.declared.kind.Kind.TheVariants.{Word, Label, Number, Symbol}
+use Rattle.gms_lexemes.specs.declared.lexeme.Piece.{Piece}
+use Rattle.gms_lexemes.specs.declared.lexeme.Piece.TheVariants.{Remark, Token}
+use Rattle.gms_lexemes.specs.declared.lexeme.Lexeme.{Lexeme}
+use Rattle.gms_lexemes.specs.declared.lexeme.Misread.{Misread}
+use Rattle.gms_lexemes.specs.Bytes.{is_name_byte, is_label_byte, is_quote, is_text_byte, is_plain}
+use Rattle.gms_lexemes.specs.Numbers.{begins_number, number_length}
+use Rattle.gms_lexemes.specs.Symbols.{symbol_at}
+
+-- a piece of so many bytes, or the error that stands in its place
+abbrev pub Read : Type 0
+Read = Result Lexeme Misread
+
+-- a piece of so many bytes
+abbrev pub lexeme : Piece → ℕ → Read
+lexeme piece length = Ok record { piece = piece; length = length }
+
+-- an error so many bytes ahead
+abbrev pub misread : LexError → ℕ → Read
+misread error ahead = Err record { error = error; ahead = ahead }
+
+-- a piece takes at least one byte and at most all of the text; an error stands at one of its bytes, or at its end
+abbrev pub IsWithin : List ℕ → Read → Type 0
+IsWithin text (Ok p) = (0 < p.length) × (p.length ≤ length text)
+IsWithin text (Err m) = m.ahead ≤ length text
+
+-- how many bytes a name or a label may have, quotation marks not counted
+abbrev pub longest_label : ℕ
+longest_label = 63
+
+-- a word or a label of so many bytes
+abbrev pub bounded : Kind → ℕ → Read
+bounded kind length = if nat_lt longest_label length then misread LongLabel 0 else lexeme (Token kind) length
+
+-- the symbol that was found
+abbrev pub symbol_of : Option (ℕ × Sym) → Read
+symbol_of None = misread BadByte 0
+symbol_of (Some symbol) = lexeme (Token (Symbol symbol.1)) symbol.0
+
+-- the longest symbol with which a text begins; a character that begins none is a bad byte
+abbrev pub symbol : List ℕ → Read
+symbol text = symbol_of (symbol_at text)
+
+-- how many bytes stand before the mark comes again, or the line feed
+abbrev pub quoted_length : ℕ → List ℕ → ℕ
+quoted_length mark text = prefix_len (λ b. not (b == mark || b == 10)) text
+
+-- the mark comes again on its line
+abbrev pub is_closed : ℕ → List ℕ → Bool
+is_closed mark text = begins (λ b. b == mark) (drop (quoted_length mark text) text)
+
+-- a piece is a label, whose length is bounded
+abbrev pub is_label : Piece → Bool
+is_label (Token Label) = true
+is_label piece = false
+
+-- The quoted piece of so many bytes, its marks not counted, with so many bytes of ASCII at its front: it is closed on its line; a
+-- label is not too long; each byte is of ASCII.
+abbrev pub quoted_of : Piece → Bool → ℕ → ℕ → Read
+quoted_of piece closed inner plain =
+    if not closed then misread OpenQuote 0 else (if is_label piece && nat_lt longest_label inner then misread LongLabel 0 else (if nat_lt plain inner then misread BadByte (1 + plain) else lexeme piece (inner + 2)))
+
+-- the quoted piece with which a text begins
+abbrev pub quoted : Piece → List ℕ → Read
+quoted piece [] = misread BadByte 0
+quoted piece (mark ∷ text) =
+    let inner = quoted_length mark text in
+    quoted_of piece (is_closed mark text) inner (prefix_len is_plain (take inner text))
+
+-- a token of code: a word, a number, a quoted token of this kind, or a symbol
+abbrev pub code_token : Kind → List ℕ → Read
+code_token kind text =
+    if begins is_ascii_alphabetic text then bounded Word (prefix_len is_name_byte text) else (if begins_number text then lexeme (Token Number) (number_length text) else (if begins is_quote text then quoted (Token kind) text else symbol text))
+
+-- a token of a list where an element is due: a label, unquoted or quoted, or a symbol
+abbrev pub label_token : List ℕ → Read
+label_token text =
+    if begins is_ascii_alphanumeric text then bounded Label (prefix_len is_label_byte text) else (if begins is_quote text then quoted (Token Label) text else symbol text)
+
+-- an unquoted descriptive text of so many bytes
+abbrev pub remark_of : ℕ → Read
+remark_of length = if length == 0 then misread BadByte 0 else lexeme Remark length
+
+-- a descriptive text: a quoted one ends at its mark, another before `/`, `,`, `;` or the line's end
+abbrev pub remark : List ℕ → Read
+remark text = if begins is_quote text then quoted Remark text else remark_of (prefix_len is_text_byte text)

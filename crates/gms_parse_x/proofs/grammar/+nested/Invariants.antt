@@ -1,5 +1,0 @@
-use Rattle.std.proofs.Common.{◌-◌}
-use Rattle.gms_parse_x.proofs.grammar.+nested.Given as goal
-
-abbrev pub decreases-nested : goal.decreases-nested
-decreases-nested g l = 100 - l.reader.unclosed

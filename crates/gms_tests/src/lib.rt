@@ -1,0 +1,13 @@
+//! Floor 7, outside. What only a call in code can show: hosts that fail or go byte by byte, solvers of other rules, and calls that no program makes.
+#![tactic(auto)]
+
+#[cfg(test)]
+mod calls;
+#[cfg(test)]
+mod greatest;
+#[cfg(test)]
+mod hosts;
+#[cfg(test)]
+mod runs;
+#[cfg(test)]
+mod solvers;

@@ -1,0 +1,151 @@
+//! That a run takes the solver which its source chooses, whatever its rule, and that no other one is asked.
+use crate::runs::{host_of, lent, ran, told};
+use gq_field::ExactField;
+use gq_frac::Frac;
+use lp_core::{Answer, End};
+use std::alloc::Global;
+use std::process::Abort;
+
+/// Solvers, a model, its solves, what is listed of the last one, the rays of the answers, and what the solvers tell.
+type Row<'a> = (&'a [&'a str], &'a str, &'a str, &'a str, &'a str, &'a str);
+
+/// Bland's solver is the first.
+const BOTH: &[&str] = &["bland", "greatest"];
+
+/// A model whose objective has no end along x and along y.
+const TWO_WAYS: &str =
+    "option limrow = 0, limcol = 0, solprint = off; positive variables x, y; variable z; equation obj; obj.. z =e= x + y; model m /all/;";
+
+/// What is listed where the least variable enters.
+const ALONG_X: &str = "\
+SOLVER bland PIVOTS 1 LIMIT 1000
+SOLVER STATUS 1 Normal Completion
+MODEL STATUS 3 Unbounded
+OBJECTIVE 0.000
+PROOF Unbounded
+  ray x = 1
+  ray z = 1
+END";
+
+/// What is listed where the greatest one enters.
+const ALONG_Y: &str = "\
+SOLVER greatest PIVOTS 1 LIMIT 1000
+SOLVER STATUS 1 Normal Completion
+MODEL STATUS 3 Unbounded
+OBJECTIVE 0.000
+PROOF Unbounded
+  ray y = 1
+  ray z = 1
+END";
+
+/// A model with a best plan.
+const CAPPED: &str =
+    "option limrow = 0, limcol = 0, solprint = off; positive variable x; variable z; equations cap, obj; cap.. x =l= 4; obj.. z =e= x; model m /all/;";
+
+/// A plan that cannot be: what is listed, with no pivot.
+const CROSSED: &str = "\
+SOLVER greatest PIVOTS 0 LIMIT 1000
+SOLVER STATUS 1 Normal Completion
+MODEL STATUS 4 Infeasible
+OBJECTIVE 0.000
+PROOF Infeasible
+  crossed x 3 2
+END";
+
+/// Sources that choose a solver, or two in turn. Where they do not, the first of the list answers.
+const ROWS: [Row<'static>; 6] = [
+    (
+        BOTH,
+        TWO_WAYS,
+        "solve m using lp maximizing z;",
+        ALONG_X,
+        " 1/1 0/1 1/1\n",
+        "bland | 3>5\ngreatest\n",
+    ),
+    (
+        &["greatest", "bland"],
+        TWO_WAYS,
+        "solve m using lp maximizing z;",
+        ALONG_Y,
+        " 0/1 1/1 1/1\n",
+        "greatest | 3>5\nbland\n",
+    ),
+    (
+        BOTH,
+        TWO_WAYS,
+        "option lp = greatest; solve m using lp maximizing z;",
+        ALONG_Y,
+        " 0/1 1/1 1/1\n",
+        "bland\ngreatest | 3>5\n",
+    ),
+    (
+        BOTH,
+        TWO_WAYS,
+        "solve m using lp maximizing z; option lp = Greatest; solve m using lp maximizing z;",
+        ALONG_Y,
+        " 1/1 0/1 1/1\n 0/1 1/1 1/1\n",
+        "bland | 3>5\ngreatest | 3>5\n",
+    ),
+    (
+        BOTH,
+        CAPPED,
+        "solve m using lp maximizing z; option lp = GREATEST; solve m using lp maximizing z;",
+        "OBJECTIVE 4.000\nPROOF Optimal\n  level x = 4\n  level z = 4\n",
+        "\n\n",
+        "bland | 2>5 1>4\ngreatest | 2>5 1>4\n",
+    ),
+    // Bounds that cross add an empty path.
+    (
+        &["greatest"],
+        CAPPED,
+        "x.lo = 3; x.up = 2; solve m using lp maximizing z;",
+        CROSSED,
+        "\n",
+        "greatest |\n",
+    ),
+];
+
+/// The rays of answers, a line each, which is empty where the objective has an end.
+fn rays_of(rt: &impl Abort, alloc: Global, answers: &[Answer<Frac>]) -> String {
+    let mut text = String::new(alloc);
+    for answer in answers {
+        if let End::Unbounded { ray, .. } = &answer.end {
+            for number in ray.as_slice() {
+                let (top, below) = number.parts();
+                let part = format!(in alloc; " {top}/{below}").expect(rt, "memory");
+                text.push_str(part.as_str()).expect(rt, "memory");
+            }
+        }
+        text.push('\n').expect(rt, "memory");
+    }
+    text
+}
+
+/// Compares the run of a source with what is due.
+fn check(rt: &impl Abort, alloc: Global, row: Row) {
+    let (names, model, solves, lists, rays, tells) = row;
+    let source = format!(in alloc; "{model} {solves}").expect(rt, "memory");
+    let mut host = host_of(rt, alloc, &[("a.gms", source.as_str())], &[], 0);
+    let mut solvers = lent(rt, alloc, names);
+    let ended = ran(rt, alloc, &["a.gms"], &mut host, &mut solvers);
+    assert_eq!(rt; ended.status, 0, "{solves}");
+    let listing = str::from_utf8(host.output()).expect(rt, "a text");
+    assert!(rt; listing.contains(lists), "{listing}");
+    assert_eq!(rt;
+        rays_of(rt, alloc, ended.answers.as_slice()).as_str(),
+        rays,
+        "{solves}"
+    );
+    assert_eq!(rt;
+        told(rt, alloc, solvers.as_slice()).as_str(),
+        tells,
+        "{solves}"
+    );
+}
+
+#[test]
+fn takes_the_solver_that_is_chosen(rt: HostRuntime) {
+    for row in ROWS {
+        check(&rt, rt.alloc(), row);
+    }
+}

@@ -1,6 +1,0 @@
-//! Transport programs of any size, for what `bench/` times.
-#![tactic(auto)]
-
-mod transport;
-
-pub use transport::program;
