@@ -10,7 +10,7 @@ use Rattle.gms_run.specs.Answers.{Solving, SolvesNothing, AnswersSo, HasOrigin, 
 use Rattle.gms_run.proofs.OneReading.{program_or_fault}
 
 -- two values of one option are one
-one_value : {A : Type 0} {o : Option A} {x y : A} → o ≡ Some x → o ≡ Some y → x ≡ y
+pub one_value : {A : Type 0} {o : Option A} {x y : A} → o ≡ Some x → o ≡ Some y → x ≡ y
 one_value p q = cc
 
 -- A reliable host is ready for words that name a program.

@@ -13,4 +13,5 @@ pub mod Proved
 pub mod Reports
 pub mod Rest
 pub mod Runs
+pub mod Settled
 pub mod Transfers

@@ -93,6 +93,7 @@ shows_run status solving source program accepted runs =
       ends = runs.ends;
       all_taken = runs.all_taken;
       answered = runs.answered;
+      ended = runs.ended;
       grown = runs.grown;
       listing = ap (λ n. run_body solving source program ++ end_text (status_code status) n) (sym (length-map solving.answers (answer_numbers frac_value)));
     }
@@ -181,7 +182,7 @@ run_front solving old new source spool before listing program is_program no_erro
     let written : WritesFront old new body = subst (WritesFront old new) (ap (λ t. t ++ shown_by solving program) same) front in
     elim rests [
       | inl ended ↦ due_front ended.0 solving source body (is_run_body ended.0 solving source program accepted ended.1) written
-      | inr w ↦ (body, inr (record { program = program; accepted = accepted; waits = w.waits; answered = w.answered; grown = w.grown; listing = ap (λ t. echo_text 1 source ++ t) (shown_so_far solving program w) }), written)
+      | inr w ↦ (body, inr (record { program = program; accepted = accepted; waits = w.waits; answered = w.answered; ended = w.ended; grown = w.grown; listing = ap (λ t. echo_text 1 source ++ t) (shown_so_far solving program w) }), written)
     ]
 
 -- ---- the last line

@@ -3,7 +3,7 @@ use Rattle.std.proofs.Common.{◌≡◌, ◌≤◌, ℕ, Bool, true, false, List
 use Rattle.std.specs.Prelude.{option_map}
 use Rattle.std.specs.List.{All}
 use Rattle.std.proofs.lemmas.List.{drop-map, drop_all}
-use Rattle.std.proofs.lemmas.List.Elements.{All-nil, All-append, All-weaker}
+use Rattle.std.proofs.lemmas.List.Elements.{All-nil}
 use Rattle.std.proofs.lemmas.Grind.{flat_map-append}
 use Rattle.gq_frac.specs.declared.frac.Frac.{Frac}
 use Rattle.gq_frac.specs.Frac.{frac_value}
@@ -12,16 +12,14 @@ use Rattle.gms_ast.specs.declared.program.Stmt.{Stmt}
 use Rattle.gms_check.specs.Loaded.{loaded}
 use Rattle.gms_eval.specs.Faults.{Fault}
 use Rattle.gms_event.specs.declared.event.Event.{Event as OwnEvent}
-use Rattle.gms_event.specs.Events.{Event, displays, solves, aborts, stops}
+use Rattle.gms_event.specs.Events.{Event}
 use Rattle.gms_event.specs.EventView.{events_in}
 use Rattle.lp_core.specs.declared.answer.Answer.{Answer}
 use Rattle.lp_core.specs.declared.answer.Rule.{Rule}
 use Rattle.lp_core.specs.Numbers.{answer_numbers}
-use Rattle.gms_exec.specs.Answering.{AreAnswered, IsAnswered}
 use Rattle.gms_exec.specs.Run.{Course, Halt, OfStatement, stopped, waiting, last_event, all_events, one_after_another, of_statement}
 use Rattle.gms_exec.specs.Standing.{IsStanding}
 use Rattle.gms_exec.proofs.Quiet.{Quiet, IsNoSolve, AreQuiet, quiet_all, quiet_statement}
-use Rattle.gms_exec.proofs.Standing.{answered_by_standing}
 use Rattle.gms_list.specs.ListingText.{event_text, events_text}
 use Rattle.gms_run.specs.declared.status.Status.{Status}
 use Rattle.gms_run.specs.declared.status.Status.TheVariants.{Done, Execution}
@@ -30,13 +28,7 @@ use Rattle.gms_run.specs.Outside.{ComesToRest, RunsTo, shown_by}
 use Rattle.gms_run.specs.Steps.{Between, IsListed, course_at}
 use Rattle.gms_run.proofs.Listed.{halted_stays, in_two}
 use Rattle.gms_run.proofs.Paths.{AllPaths, Grew, grew_quiet}
-
--- what is no solve asks for no answer
-unsolved-answered : (rules : List Rule) (answers : List (Answer Frac)) (e : Event) → IsNoSolve e → IsAnswered frac_value number_limit rules answers e
-unsolved-answered rules answers (displays line items) is = tt
-unsolved-answered rules answers (aborts line items) is = tt
-unsolved-answered rules answers (stops fault) is = tt
-unsolved-answered rules answers (solves solved) is = absurd is
+use Rattle.gms_run.proofs.Settled.{AreSettled, settled_by_standing, settled_more}
 
 module _ (program : Program Frac) (solvers : List (List ℕ)) (rules : List Rule) (paths : AllPaths) where
   abbrev pub statement_of : Stmt Frac → OfStatement
@@ -70,28 +62,26 @@ module _ (program : Program Frac) (solvers : List (List ℕ)) (rules : List Rule
     abbrev so_far : List Event
     so_far = events_in frac_value shown
 
-    answered-more : (more : List Event) → All IsNoSolve more → AreAnswered frac_value number_limit rules now.answers (so_far ++ more)
-    answered-more more unsolved =
-        All-append (IsAnswered frac_value number_limit rules now.answers) so_far more (answered_by_standing frac_value number_limit rules now.answers shown standing)
-        (All-weaker IsNoSolve (IsAnswered frac_value number_limit rules now.answers) (unsolved-answered rules now.answers) more unsolved)
+    all_settled_with : (more : List Event) → All IsNoSolve more → AreSettled rules now.answers (so_far ++ more)
+    all_settled_with more unsolved = settled_more rules now.answers so_far more (settled_by_standing rules now.answers shown standing) unsolved
 
     -- how a run whose course is this one comes to rest
-    at_rest : (course : Course) → course_of (solving_with now) program ≡ course → course.left ≡ [] → AreAnswered frac_value number_limit rules now.answers course.events → Grew paths now.paths now.answers course.events → ComesToRest (solving_with now) program
-    at_rest course is left answered grown = by_halt course.halted refl
+    at_rest : (course : Course) → course_of (solving_with now) program ≡ course → course.left ≡ [] → AreSettled rules now.answers course.events → Grew paths now.paths now.answers course.events → ComesToRest (solving_with now) program
+    at_rest course is left settled grown = by_halt course.halted refl
       where
         same : {A : Type 0} (f : Course → A) → f (course_of (solving_with now) program) ≡ f course
         same f = ap f is
 
-        all_answered : AreAnswered frac_value number_limit rules now.answers (course_of (solving_with now) program).events
-        all_answered = subst (AreAnswered frac_value number_limit rules now.answers) (sym (same (λ c. c.events))) answered
+        all_settled : AreSettled rules now.answers (course_of (solving_with now) program).events
+        all_settled = subst (AreSettled rules now.answers) (sym (same (λ c. c.events))) settled
 
         all_grown : Grew paths now.paths now.answers (course_of (solving_with now) program).events
         all_grown = subst (Grew paths now.paths now.answers) (sym (same (λ c. c.events))) grown
 
         by_halt : (h : Option Halt) → course.halted ≡ h → ComesToRest (solving_with now) program
-        by_halt None e = inl (Done, record { ends = same (λ c. c.halted) ∙ e; all_taken = same (λ c. c.left) ∙ left; answered = all_answered; grown = all_grown })
-        by_halt (Some (stopped fault)) e = inl (Execution, record { ends = (fault, same (λ c. c.halted) ∙ e); all_taken = same (λ c. c.left) ∙ left; answered = all_answered; grown = all_grown })
-        by_halt (Some waiting) e = inr (record { waits = same (λ c. c.halted) ∙ e; answered = all_answered; grown = all_grown })
+        by_halt None e = inl (Done, record { ends = same (λ c. c.halted) ∙ e; all_taken = same (λ c. c.left) ∙ left; answered = all_settled.0; ended = all_settled.1; grown = all_grown })
+        by_halt (Some (stopped fault)) e = inl (Execution, record { ends = (fault, same (λ c. c.halted) ∙ e); all_taken = same (λ c. c.left) ∙ left; answered = all_settled.0; ended = all_settled.1; grown = all_grown })
+        by_halt (Some waiting) e = inr (record { waits = same (λ c. c.halted) ∙ e; answered = all_settled.0; ended = all_settled.1; grown = all_grown })
 
     -- what is shown by a run that goes on from here
     shown_behind : (course : Course) (more : List Event) → course_of (solving_with now) program ≡ course → course.events ≡ so_far ++ more →
@@ -119,9 +109,8 @@ module _ (program : Program Frac) (solvers : List (List ℕ)) (rules : List Rule
     after_all : course_of (solving_with now) program ≡ one_after_another (drop i statements) [] (course_at now (events_in frac_value p.shown) [] p.fault)
     after_all = in_two statements i [] (course_at begin [] (map (answer_numbers frac_value) now.answers) None) ∙ ap (one_after_another (drop i statements) []) after_first
 
-    answered_so : (course : Course) → course_of (solving_with now) program ≡ course → course.events ≡ events_in frac_value p.shown → AreAnswered frac_value number_limit rules now.answers (course_of (solving_with now) program).events
-    answered_so course is events =
-        subst (AreAnswered frac_value number_limit rules now.answers) (sym (ap (λ c. c.events) is ∙ events)) (answered_by_standing frac_value number_limit rules now.answers p.shown p.standing)
+    settled_so : (course : Course) → course_of (solving_with now) program ≡ course → course.events ≡ events_in frac_value p.shown → AreSettled rules now.answers (course_of (solving_with now) program).events
+    settled_so course is events = subst (AreSettled rules now.answers) (sym (ap (λ c. c.events) is ∙ events)) (settled_by_standing rules now.answers p.shown p.standing)
 
     grown_so : (course : Course) → course_of (solving_with now) program ≡ course → course.events ≡ events_in frac_value p.shown → Grew paths now.paths now.answers (course_of (solving_with now) program).events
     grown_so course is events = subst (Grew paths now.paths now.answers) (sym (ap (λ c. c.events) is ∙ events)) p.grown
@@ -136,7 +125,7 @@ module _ (program : Program Frac) (solvers : List (List ℕ)) (rules : List Rule
       after_all false now text i p ∙ ap (λ f. one_after_another (drop i statements) [] (course_at now es [] f)) p.end.1 ∙ halted_stays (drop i statements) [] here (stopped fault) refl in
       record {
         shown = ap (λ c. texts now.answers (all_events c)) is ∙ sym (p.text ∙ ap (λ f. texts now.answers (es ++ last_event (option_map stopped f))) p.end.1);
-        runs = record { ends = (fault, ap (λ c. c.halted) is); all_taken = ap (λ c. c.left) is; answered = answered_so false now text i p here is refl; grown = grown_so false now text i p here is refl };
+        runs = record { ends = (fault, ap (λ c. c.halted) is); all_taken = ap (λ c. c.left) is; answered = (settled_so false now text i p here is refl).0; ended = (settled_so false now text i p here is refl).1; grown = grown_so false now text i p here is refl };
         last = ap (λ c. c.state) is;
       }
 
@@ -150,7 +139,7 @@ module _ (program : Program Frac) (solvers : List (List ℕ)) (rules : List Rule
       after_all true now text i p ∙ ap (λ ss. one_after_another ss [] (course_at now es [] p.fault)) none ∙ ap (course_at now es []) p.end in
       record {
         shown = ap (λ c. texts now.answers (all_events c)) is ∙ sym (p.text ∙ ap (λ f. texts now.answers (es ++ last_event (option_map stopped f))) p.end);
-        runs = record { ends = ap (λ c. c.halted) is; all_taken = ap (λ c. c.left) is; answered = answered_so true now text i p here is refl; grown = grown_so true now text i p here is refl };
+        runs = record { ends = ap (λ c. c.halted) is; all_taken = ap (λ c. c.left) is; answered = (settled_so true now text i p here is refl).0; ended = (settled_so true now text i p here is refl).1; grown = grown_so true now text i p here is refl };
         last = ap (λ c. c.state) is;
       }
 
@@ -173,7 +162,7 @@ module _ (program : Program Frac) (solvers : List (List ℕ)) (rules : List Rule
           record {
             later = [];
             shown = ap (λ c. texts now.answers (all_events c)) is ∙ sym (p.text ∙ ap (λ f. texts now.answers (es ++ last_event (option_map stopped f))) e) ∙ sym (append-nil text);
-            rests = at_rest now p.shown p.standing here is refl (subst (AreAnswered frac_value number_limit rules now.answers) (append-nil es) (answered-more now p.shown p.standing [] (All-nil IsNoSolve))) p.grown;
+            rests = at_rest now p.shown p.standing here is refl (subst (AreSettled rules now.answers) (append-nil es) (all_settled_with now p.shown p.standing [] (All-nil IsNoSolve))) p.grown;
           }
       by_fault None e =
           let here = course_at now es [] None in
@@ -184,6 +173,6 @@ module _ (program : Program Frac) (solvers : List (List ℕ)) (rules : List Rule
           record {
             later = texts now.answers (quiet.more ++ last_event end.halted);
             shown = shown_behind now p.shown p.standing end quiet.more is quiet.events ∙ ap (λ t. t ++ texts now.answers (quiet.more ++ last_event end.halted)) (sym so);
-            rests = at_rest now p.shown p.standing end is quiet.left (subst (AreAnswered frac_value number_limit rules now.answers) (sym quiet.events) (answered-more now p.shown p.standing quiet.more quiet.unsolved))
+            rests = at_rest now p.shown p.standing end is quiet.left (subst (AreSettled rules now.answers) (sym quiet.events) (all_settled_with now p.shown p.standing quiet.more quiet.unsolved))
                 (subst (Grew paths now.paths now.answers) (sym quiet.events) (grew_quiet paths now.paths now.answers es quiet.more quiet.unsolved p.grown));
           }

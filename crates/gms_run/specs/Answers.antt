@@ -27,6 +27,7 @@ use Rattle.gms_event.specs.Events.{Event, solves}
 use Rattle.gms_gen.specs.Generator.{model_text}
 use Rattle.gq_text.specs.Shown.{IsRoundedText}
 use Rattle.gms_list.specs.ListingText.{echo_text, events_text, run_listing, refused_listing, errors_listing}
+use Rattle.gms_run.specs.Searches.{SearchesEnd}
 use Rattle.gms_words.specs.CommandLine.{Asked, Origin, in_file, generated, request_of, usage_line, read_fault_line, generated_line, closing_line}
 
 -- the number of a status
@@ -92,6 +93,8 @@ pub record ShowsRun (status : Status) (solving : Solving) (source text : List �
   pub all_taken : (course_of solving program).left ≡ []
   -- each solve has an answer of the linear program that the model means at that point
   pub answered : AreAnswered frac_value number_limit solving.rules solving.answers (course_of solving program).events
+  -- under Bland's rule no search breaks off that has pivots enough
+  pub ended : SearchesEnd solving.rules solving.answers (course_of solving program).events
   -- and its pivots stand in the paths of the solver that gave it
   pub grown : HaveGrown solving (course_of solving program).events
   pub listing : text ≡ run_listing program.names program.labels number_limit source (map (answer_numbers frac_value) solving.answers) (all_events (course_of solving program)) (status_code status)
@@ -122,6 +125,8 @@ pub record ShowsFront (solving : Solving) (source text : List ℕ) : Type 0 wher
   pub accepted : IsAcceptedSource solving.solvers source program
   pub waits : (course_of solving program).halted ≡ Some waiting
   pub answered : AreAnswered frac_value number_limit solving.rules solving.answers (course_of solving program).events
+  -- under Bland's rule no search breaks off that has pivots enough
+  pub ended : SearchesEnd solving.rules solving.answers (course_of solving program).events
   pub grown : HaveGrown solving (course_of solving program).events
   pub listing : text ≡ echo_text 1 source ++ events_text program.names program.labels number_limit (map (answer_numbers frac_value) solving.answers) (course_of solving program).events
 

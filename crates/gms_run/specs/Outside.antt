@@ -19,6 +19,7 @@ use Rattle.gms_list.specs.ListingText.{events_text, end_text}
 use Rattle.gms_gen.specs.Generator.{model_text}
 use Rattle.gms_words.specs.CommandLine.{Asked, Origin, in_file, generated}
 use Rattle.gms_run.specs.declared.report.Last.{Last}
+use Rattle.gms_run.specs.Searches.{SearchesEnd}
 use Rattle.gms_run.specs.Answers.{number_limit, Solving, course_of, HaveGrown, SolvesNothing, EndsSo, IsListing, IsDue, AreClosing, LeavesNothing, LeavesFront, LeavesRest, SaysLine, names_for, IsModelLine, status_code}
 
 -- The bytes are those of the file of that name, or the first of them, one more than a source may have.
@@ -105,12 +106,14 @@ pub record RunsTo (status : Status) (solving : Solving) (program : Program Frac)
   pub ends : EndsSo status (course_of solving program).halted
   pub all_taken : (course_of solving program).left ≡ []
   pub answered : AreAnswered frac_value number_limit solving.rules solving.answers (course_of solving program).events
+  pub ended : SearchesEnd solving.rules solving.answers (course_of solving program).events
   pub grown : HaveGrown solving (course_of solving program).events
 
 -- The run of an accepted program waits for an answer, and each solve before has one, whose pivots stand in the paths of its solver.
 pub record Waits (solving : Solving) (program : Program Frac) : Type 0 where
   pub waits : (course_of solving program).halted ≡ Some waiting
   pub answered : AreAnswered frac_value number_limit solving.rules solving.answers (course_of solving program).events
+  pub ended : SearchesEnd solving.rules solving.answers (course_of solving program).events
   pub grown : HaveGrown solving (course_of solving program).events
 
 -- The run of an accepted program comes to its end with these answers, or waits for one more.

@@ -54,19 +54,23 @@ const SETS: [(Tuples<'static>, char, Tuples<'static>, &str); 6] = [
     (&[], '*', FIRST, ""),
 ];
 
+/// The members of what an operation makes of two sets.
+fn combined(rt: &impl Abort, alloc: Global, first: Tuples, sign: char, second: Tuples) -> String {
+    let first = set(rt, alloc, first);
+    let second = set(rt, alloc, second);
+    let made = match sign {
+        '+' => first.union(alloc, &second),
+        '-' => first.difference(alloc, &second),
+        _ => first.intersection(alloc, &second),
+    };
+    members(rt, alloc, &made.expect(rt, "memory"))
+}
+
 #[test]
 fn operations_on_sets(rt: HostRuntime) {
-    let alloc = rt.alloc();
-    for (first, sign, second, due) in SETS {
-        let first = set(&rt, alloc, first);
-        let second = set(&rt, alloc, second);
-        let made = match sign {
-            '+' => first.union(alloc, &second),
-            '-' => first.difference(alloc, &second),
-            _ => first.intersection(alloc, &second),
-        };
-        let made = made.expect(&rt, "memory");
-        assert_eq!(rt; members(&rt, alloc, &made).as_str(), due);
+    for (first, sign, second, due) in &SETS {
+        let made = combined(&rt, rt.alloc(), first, *sign, second);
+        assert_eq!(rt; made.as_str(), *due);
     }
 }
 
@@ -122,21 +126,25 @@ const FORMS: [(Numbers<'static>, char, Numbers<'static>, &str); 6] = [
     (LARGE, '+', (-27, &[(2, 27)]), "73 7[1]=1 7[2]=127 7[3]=100"),
 ];
 
+/// The numbers of what an operation makes of two forms, or its fault.
+fn summed(rt: &impl Abort, alloc: Global, first: Numbers, sign: char, second: Numbers) -> String {
+    let first = form(rt, alloc, first);
+    let second = form(rt, alloc, second);
+    let made = match sign {
+        '+' => first.add(alloc, &second),
+        _ => first.sub(alloc, &second),
+    };
+    match &made {
+        Ok(form) => numbers(rt, alloc, form),
+        Err(fault) => format!(in alloc; "{fault:?}").expect(rt, "memory"),
+    }
+}
+
 #[test]
 fn sums_and_differences_of_forms(rt: HostRuntime) {
-    let alloc = rt.alloc();
-    for (first, sign, second, due) in FORMS {
-        let first = form(&rt, alloc, first);
-        let second = form(&rt, alloc, second);
-        let made = match sign {
-            '+' => first.add(alloc, &second),
-            _ => first.sub(alloc, &second),
-        };
-        let text = match &made {
-            Ok(form) => numbers(&rt, alloc, form),
-            Err(fault) => format!(in alloc; "{fault:?}").expect(&rt, "memory"),
-        };
-        assert_eq!(rt; text.as_str(), due);
+    for (first, sign, second, due) in &FORMS {
+        let made = summed(&rt, rt.alloc(), *first, *sign, *second);
+        assert_eq!(rt; made.as_str(), *due);
     }
 }
 

@@ -1,6 +1,8 @@
 //! That a run ends as it is due where any call of its host fails, and what the hosts themselves answer.
-use crate::runs::{host_of, lent, ran, told};
-use gms_host::{Failed, Host, RealHost};
+ghost use Rattle.std.specs.Prelude.{◌<◌, length};
+
+use crate::runs::{host_of, run_words};
+use gms_host::{Failed, Host, MemHost, RealHost};
 use std::alloc::Global;
 use std::fs;
 use std::process::Abort;
@@ -62,24 +64,22 @@ fn check(
     source: &str,
     words: &[&str],
     due: &str,
-    row: Row,
+    row: &Row,
 ) -> String {
-    let (most, fail, status, kept, said, calls) = row;
-    let mut host = host_of(rt, alloc, &[("a.gms", source)], fail, most);
-    let mut solvers = lent(rt, alloc, &["bland"]);
-    let ended = ran(rt, alloc, words, &mut host, &mut solvers);
-    assert_eq!(rt; ended.status, status, "{fail:?}");
-    assert!(rt; due.as_bytes().starts_with(host.output()), "{fail:?}");
-    assert_eq!(rt; host.output().len(), kept, "{fail:?}");
-    assert_eq!(rt; str::from_utf8(host.said()), Ok(said), "{fail:?}");
-    assert_eq!(rt; host.calls(), calls, "{fail:?}");
-    told(rt, alloc, solvers.as_slice())
+    let (most, fail, status, kept, said, calls) = *row;
+    let left = run_words(rt, alloc, (source, most, fail), words, &["bland"]);
+    assert_eq!(rt; left.status, status, "{fail:?}");
+    assert!(rt; due.starts_with(left.output.as_str()), "{fail:?}");
+    assert_eq!(rt; left.output.len(), kept, "{fail:?}");
+    assert_eq!(rt; left.said.as_str(), said, "{fail:?}");
+    assert_eq!(rt; left.calls, calls, "{fail:?}");
+    left.told
 }
 
 #[test]
 fn a_failed_call_ends_a_run(rt: HostRuntime) {
     let (source, due) = LOOPED;
-    for row in LOOPED_ROWS {
+    for row in &LOOPED_ROWS {
         check(&rt, rt.alloc(), source, &["a.gms"], due, row);
     }
 }
@@ -100,90 +100,91 @@ const GENERATED_ROWS: [Row<'static>; 5] = [
 #[test]
 fn a_failed_call_ends_a_generated_run(rt: HostRuntime) {
     let alloc = rt.alloc();
-    let words = ["--generate", "1"];
-    let mut whole = host_of(&rt, alloc, &[], &[], 0);
-    let mut solvers = lent(&rt, alloc, &["bland"]);
-    ran(&rt, alloc, &words, &mut whole, &mut solvers);
-    let due = str::from_utf8(whole.output()).expect(&rt, "a text");
-    assert!(rt; due.ends_with(PROOF));
-    for row in GENERATED_ROWS {
-        check(&rt, alloc, "", &words, due, row);
+    let words = ["--generate", "1"].as_slice();
+    let whole = run_words(&rt, alloc, ("", 0, &[]), words, &["bland"]);
+    assert!(rt; whole.output.ends_with(PROOF));
+    for row in &GENERATED_ROWS {
+        check(&rt, alloc, "", words, whole.output.as_str(), row);
     }
+}
+
+/// Runs of a source whose echo alone is more than is pending at most, so that it has two writes, calls 5 and 6; and what its solver tells.
+const WRITES: [(Row<'static>, &str); 2] = [
+    ((0, &[5], 5, 0, "", 6), "bland\n"),
+    ((0, &[6], 5, 4096, "", 7), "bland | 3>5\n1/1 0/1 1/1 \n"),
+];
+
+/// That source.
+fn long_source(rt: &impl Abort, alloc: Global) -> String {
+    let blanks = " ".repeat(alloc, 5_000).expect(rt, "memory");
+    format!(in alloc;
+        "positive variables x, y; variable z; equation obj; obj.. z =e= x + y; model m /all/;{blanks}solve m using lp maximizing z;"
+    ).expect(rt, "memory")
 }
 
 #[test]
 fn nothing_is_executed_after_a_failed_write(rt: HostRuntime) {
     let alloc = rt.alloc();
-    // The echo alone is more than the spool holds: what the first statement lists needs a write, call 5, and the rest is written in call 6.
-    let blanks = " ".repeat(alloc, 5_000).expect(&rt, "memory");
-    let source = format!(in alloc;
-        "positive variables x, y; variable z; equation obj; obj.. z =e= x + y; model m /all/;{blanks}solve m using lp maximizing z;"
-    ).expect(&rt, "memory");
+    let source = long_source(&rt, alloc);
     let echo = format!(in alloc; "     1  {source}\n").expect(&rt, "memory");
-    let rows = [
-        ((0, [5].as_slice(), 5, 0, "", 6), "bland\n"),
-        ((0, [6].as_slice(), 5, 4096, "", 7), "bland | 3>5\n"),
-    ];
-    for (row, tells) in rows {
+    for (row, tells) in &WRITES {
         let told = check(&rt, alloc, source.as_str(), &["a.gms"], echo.as_str(), row);
-        assert_eq!(rt; told.as_str(), tells);
+        assert_eq!(rt; told.as_str(), *tells);
     }
 }
 
 /// Three files, two of them of one name.
 const FILES: [(&str, &str); 3] = [("a", "first"), ("b", "x"), ("a", "second")];
 
-/// A name, the call that fails, and what its opening answers.
-const NAMES: [(&str, u64, Result<(), Failed>); 4] = [
-    ("a", 0, Err(Failed::Fault)),
-    ("a", 1, Ok(())),
-    ("b", 1, Ok(())),
-    ("missing", 1, Err(Failed::Fault)),
+/// A name, the call that fails, what the first byte of that file is, and how many calls were made and names noted.
+const NAMES: [(&str, u64, Result<u8, Failed>, u64, usize); 5] = [
+    ("a", 7, Ok(b'f'), 2, 1),
+    ("b", 7, Ok(b'x'), 2, 1),
+    ("c", 7, Err(Failed::Fault), 1, 0),
+    ("a", 0, Err(Failed::Fault), 1, 0),
+    ("a", 1, Err(Failed::Fault), 2, 1),
 ];
 
+/// The first byte of the file of this name.
+fn first_byte(host: &mut MemHost, name: &str) -> Result<u8, Failed> {
+    let mut buffer = [0u8; 1];
+    host.open_in(name)?;
+    host.read(&mut buffer)?;
+    Ok(buffer[0])
+}
+
 #[test]
-fn a_host_in_memory_fails_where_it_is_told_to(rt: HostRuntime) {
-    for (name, fail, answer) in NAMES {
-        let mut host = host_of(&rt, rt.alloc(), &FILES, &[fail], 0);
-        assert_eq!(rt; host.open_in(name), answer, "{name} {fail}");
-        assert_eq!(rt; host.calls(), 1);
-        assert_eq!(rt; host.say(b"x").is_err(), fail == 1);
-        assert_eq!(rt; host.calls(), 2);
+fn a_host_in_memory_opens_the_first_file_of_a_name(rt: HostRuntime) {
+    for (name, fail, first, calls, asked) in &NAMES {
+        let mut host = host_of(&rt, rt.alloc(), &FILES, &[*fail], 0);
+        assert_eq!(rt; first_byte(&mut host, name), *first, "{name} {fail}");
+        assert_eq!(rt; host.calls(), *calls, "{name} {fail}");
+        assert_eq!(rt; host.asked().len(), *asked, "{name} {fail}");
+        for noted in host.asked() {
+            assert_eq!(rt; noted.as_str(), *name);
+        }
     }
 }
 
-#[test]
-fn a_host_in_memory_reads_and_writes(rt: HostRuntime) {
-    let mut host = host_of(&rt, rt.alloc(), &FILES, &[], 3);
-    let mut buffer = [0u8; 4];
-    assert_eq!(rt; host.open_in("a"), Ok(()));
-    assert_eq!(rt; host.read(&mut buffer), Ok(3));
-    assert_eq!(rt; host.read(&mut buffer), Ok(2));
-    assert_eq!(rt; host.read(&mut buffer), Ok(0));
-    assert_eq!(rt; buffer.as_slice(), b"str\0".as_slice());
-    assert_eq!(rt; host.open_out("c"), Ok(()));
-    assert_eq!(rt; host.write(b"bytes"), Ok(3));
-    assert_eq!(rt; host.close_out(), Ok(()));
-    assert_eq!(rt; host.say(b"done"), Ok(3));
-    assert_eq!(rt; host.output(), b"byt".as_slice());
-    assert_eq!(rt; host.said(), b"don".as_slice());
-    assert_eq!(rt; host.asked().len(), 2);
-    assert_eq!(rt; host.asked().get(1).map(|name| name.as_str()), Some("c"));
+/// Writes a file, says a line, and reads the file into a buffer.
+fn copied<H: Host>(host: &mut H, name: &str, buffer: &mut [u8]) -> Result<usize, Failed>
+    requires { 0 < length buffer.old }
+{
+    host.open_out(name)?;
+    host.write(b"bytes")?;
+    host.close_out()?;
+    host.say(b"said\n")?;
+    host.open_in(name)?;
+    host.read(buffer)
 }
 
 #[test]
-fn copies_a_real_file(rt: HostRuntime) {
-    let name = "copies_a_real_file.lst";
+fn a_real_host_copies_a_file(rt: HostRuntime) {
+    let name = "a_real_host_copies_a_file.lst";
     let mut host = RealHost::new(rt.clone().expect(&rt, "memory"));
-    assert_eq!(rt; host.open_in("no_such_file.lst"), Err(Failed::Fault));
-    assert_eq!(rt; host.open_out(name), Ok(()));
-    assert_eq!(rt; host.write(b"bytes"), Ok(5));
-    assert_eq!(rt; host.close_out(), Ok(()));
-    assert_eq!(rt; host.say(b"said\n"), Ok(5));
     let mut buffer = [0u8; 8];
-    assert_eq!(rt; host.open_in(name), Ok(()));
-    assert_eq!(rt; host.read(&mut buffer), Ok(5));
+    assert_eq!(rt; copied(&mut host, name, &mut buffer), Ok(5));
     assert_eq!(rt; buffer.as_slice(), b"bytes\0\0\0".as_slice());
-    assert_eq!(rt; host.read(&mut buffer), Ok(0));
     fs::remove_file(&rt, name).expect(&rt, "removed");
+    assert_eq!(rt; host.open_in(name), Err(Failed::Fault));
 }

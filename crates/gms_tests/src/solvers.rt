@@ -1,13 +1,10 @@
 //! That a run takes the solver which its source chooses, whatever its rule, and that no other one is asked.
-use crate::runs::{host_of, lent, ran, told};
-use gq_field::ExactField;
-use gq_frac::Frac;
-use lp_core::{Answer, End};
+use crate::runs::run_words;
 use std::alloc::Global;
 use std::process::Abort;
 
-/// Solvers, a model, its solves, what is listed of the last one, the rays of the answers, and what the solvers tell.
-type Row<'a> = (&'a [&'a str], &'a str, &'a str, &'a str, &'a str, &'a str);
+/// Solvers, a model, its solves, what is listed of the last one, and what the solvers tell, with the rays of the answers.
+type Row<'a> = (&'a [&'a str], &'a str, &'a str, &'a str, &'a str);
 
 /// Bland's solver is the first.
 const BOTH: &[&str] = &["bland", "greatest"];
@@ -59,39 +56,34 @@ const ROWS: [Row<'static>; 6] = [
         TWO_WAYS,
         "solve m using lp maximizing z;",
         ALONG_X,
-        " 1/1 0/1 1/1\n",
-        "bland | 3>5\ngreatest\n",
+        "bland | 3>5\ngreatest\n1/1 0/1 1/1 \n",
     ),
     (
         &["greatest", "bland"],
         TWO_WAYS,
         "solve m using lp maximizing z;",
         ALONG_Y,
-        " 0/1 1/1 1/1\n",
-        "greatest | 3>5\nbland\n",
+        "greatest | 3>5\nbland\n0/1 1/1 1/1 \n",
     ),
     (
         BOTH,
         TWO_WAYS,
         "option lp = greatest; solve m using lp maximizing z;",
         ALONG_Y,
-        " 0/1 1/1 1/1\n",
-        "bland\ngreatest | 3>5\n",
+        "bland\ngreatest | 3>5\n0/1 1/1 1/1 \n",
     ),
     (
         BOTH,
         TWO_WAYS,
         "solve m using lp maximizing z; option lp = Greatest; solve m using lp maximizing z;",
         ALONG_Y,
-        " 1/1 0/1 1/1\n 0/1 1/1 1/1\n",
-        "bland | 3>5\ngreatest | 3>5\n",
+        "bland | 3>5\ngreatest | 3>5\n1/1 0/1 1/1 \n0/1 1/1 1/1 \n",
     ),
     (
         BOTH,
         CAPPED,
         "solve m using lp maximizing z; option lp = GREATEST; solve m using lp maximizing z;",
         "OBJECTIVE 4.000\nPROOF Optimal\n  level x = 4\n  level z = 4\n",
-        "\n\n",
         "bland | 2>5 1>4\ngreatest | 2>5 1>4\n",
     ),
     // Bounds that cross add an empty path.
@@ -100,52 +92,23 @@ const ROWS: [Row<'static>; 6] = [
         CAPPED,
         "x.lo = 3; x.up = 2; solve m using lp maximizing z;",
         CROSSED,
-        "\n",
         "greatest |\n",
     ),
 ];
 
-/// The rays of answers, a line each, which is empty where the objective has an end.
-fn rays_of(rt: &impl Abort, alloc: Global, answers: &[Answer<Frac>]) -> String {
-    let mut text = String::new(alloc);
-    for answer in answers {
-        if let End::Unbounded { ray, .. } = &answer.end {
-            for number in ray.as_slice() {
-                let (top, below) = number.parts();
-                let part = format!(in alloc; " {top}/{below}").expect(rt, "memory");
-                text.push_str(part.as_str()).expect(rt, "memory");
-            }
-        }
-        text.push('\n').expect(rt, "memory");
-    }
-    text
-}
-
 /// Compares the run of a source with what is due.
-fn check(rt: &impl Abort, alloc: Global, row: Row) {
-    let (names, model, solves, lists, rays, tells) = row;
+fn check(rt: &impl Abort, alloc: Global, row: &Row) {
+    let (names, model, solves, lists, tells) = *row;
     let source = format!(in alloc; "{model} {solves}").expect(rt, "memory");
-    let mut host = host_of(rt, alloc, &[("a.gms", source.as_str())], &[], 0);
-    let mut solvers = lent(rt, alloc, names);
-    let ended = ran(rt, alloc, &["a.gms"], &mut host, &mut solvers);
-    assert_eq!(rt; ended.status, 0, "{solves}");
-    let listing = str::from_utf8(host.output()).expect(rt, "a text");
-    assert!(rt; listing.contains(lists), "{listing}");
-    assert_eq!(rt;
-        rays_of(rt, alloc, ended.answers.as_slice()).as_str(),
-        rays,
-        "{solves}"
-    );
-    assert_eq!(rt;
-        told(rt, alloc, solvers.as_slice()).as_str(),
-        tells,
-        "{solves}"
-    );
+    let left = run_words(rt, alloc, (source.as_str(), 0, &[]), &["a.gms"], names);
+    assert_eq!(rt; left.status, 0, "{solves}");
+    assert!(rt; left.output.contains(lists), "{solves}");
+    assert_eq!(rt; left.told.as_str(), tells, "{solves}");
 }
 
 #[test]
 fn takes_the_solver_that_is_chosen(rt: HostRuntime) {
-    for row in ROWS {
+    for row in &ROWS {
         check(&rt, rt.alloc(), row);
     }
 }

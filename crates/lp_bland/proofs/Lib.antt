@@ -12,3 +12,4 @@ pub mod Programs
 pub mod Widened
 pub mod Unique
 pub mod Narrowed
+pub mod Few

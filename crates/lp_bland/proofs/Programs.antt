@@ -13,7 +13,7 @@ use Rattle.lp_core.specs.Feasible.{bound_value}
 use Rattle.lp_core.specs.WellFormed.{IsWellFormed, AreEntries, rows_of_sense, rows_of_bounds, variables_of_bounds}
 use Rattle.lp_core.specs.Proofs.{Crosses, ProvesCrossed}
 use Rattle.lp_core.specs.Numbers.{entries_numbers, column_numbers, row_numbers, lp_numbers}
-use Rattle.lp_bland.proofs.Naturality.{itself, sum_by_map}
+use Rattle.lp_nocycle.proofs.SameForm.{itself, sum_by_map}
 
 -- ---- lists of which the images are the same
 

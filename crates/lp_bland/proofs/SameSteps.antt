@@ -13,7 +13,8 @@ use Rattle.lp_core.specs.Feasible.{bound_value}
 use Rattle.lp_core.specs.StandardForm.{Shift, width, base, column_at, columns_of, variables_of, count_by_sense, count_by_bounds, multiplier, Last, levels_back}
 use Rattle.lp_core.specs.Steps.{product_fits, difference_fits, shifting, row_steps, rows_steps, bound_step, bounds_steps, count_of_rows, standard_steps, level_step, row_level_steps, dual_steps, reduced_steps, ray_step, levels_steps, row_levels_steps, duals_steps, reduced_costs_steps, ray_steps, optimal_steps, infeasible_steps, unbounded_steps, interrupted_steps}
 use Rattle.lp_core.specs.Numbers.{entries_numbers, column_numbers, row_numbers, lp_numbers}
-use Rattle.lp_bland.proofs.Naturality.{itself, bound_same, count_bounds_same, joined_same, columns_same, variables_same, levels_same}
+use Rattle.lp_nocycle.proofs.SameForm.{itself, bound_same, count_bounds_same, joined_same, columns_same, variables_same}
+use Rattle.lp_bland.proofs.Naturality.{levels_same}
 
 module _ {F : Type 0} (value : F → Number) (limit : ℕ) where
   -- ---- the standard form

@@ -18,7 +18,8 @@ use Rattle.lp_std.specs.Last.{IsDictionaryOf}
 use Rattle.lp_std.proofs.Ends.{optimal_proved, infeasible_proved, unbounded_proved, point_feasible}
 use Rattle.lp_core.specs.Numbers.{lp_numbers, end_numbers, answer_numbers}
 use Rattle.lp_bland.specs.Ends.{IsRefused}
-use Rattle.lp_bland.proofs.Naturality.{itself, form_same, levels_same, row_sums_same, duals_same, farkas_same, reduced_same, ray_same}
+use Rattle.lp_nocycle.proofs.SameForm.{itself, form_same}
+use Rattle.lp_bland.proofs.Naturality.{levels_same, row_sums_same, duals_same, farkas_same, reduced_same, ray_same}
 use Rattle.lp_bland.proofs.SameSteps.{standard_steps_same, optimal_steps_same, infeasible_steps_same, unbounded_steps_same, interrupted_steps_same}
 use Rattle.lp_bland.proofs.Eased.{ratio_eased, exchange_eased, standard_eased, optimal_eased, infeasible_eased, unbounded_eased, interrupted_eased}
 use Rattle.lp_bland.proofs.Ending.{unlimited_legal}

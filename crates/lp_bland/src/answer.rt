@@ -13,6 +13,7 @@ ghost use Rattle.lp_std.specs.Back.{IsFormOf};
 ghost use Rattle.lp_std.specs.Last.{IsDictionaryOf};
 ghost use Rattle.lp_dict.specs.Tableau.{dictionary};
 ghost use Rattle.lp_dict.specs.Reading.{IsDone};
+ghost use Rattle.lp_nocycle.specs.PivotCount.{HasFewPivots, ComesToEnd};
 ghost use Rattle.lp_bland.specs.Ends.{MayGoOn, CanEnd, IsLedBack, IsBrokenOff, EndsHalted, EndsCrossed, EndsFormless};
 
 use crate::entering::{Entering, Least};
@@ -181,15 +182,18 @@ pub fn solve_by<E: Entering<F>, F: ExactField>(
 /// simplex method"; Chvatal, Linear Programming, chapter 3.
 ///
 /// Optimal, Infeasible and Unbounded come with what proves them. Interrupted comes after exactly `iterlim` pivots where a
-/// further one is due, and Refused with the first step that does not fit under the limit of the field. The error is want of
-/// memory.
+/// further one is due, and Refused with the first step that does not fit under the limit of the field. No basis comes back, so
+/// the pivots are fewer than twice the sets of the program's variables, and with a limit of at least that many the end is not
+/// Interrupted. The error is want of memory.
 pub fn solve_in<F: ExactField>(
     alloc: Global,
     lp: &Lp<F>,
     iterlim: u64,
 ) -> Result<Answer<F>, AllocError>
     requires { IsWellFormed F.value lp.now }
-    ensures { IfOk result (IsAnswer F.value F.limit lp.now iterlim Bland) }
+    ensures answers { IfOk result (IsAnswer F.value F.limit lp.now iterlim Bland) }
+    ensures few { IfOk result (HasFewPivots F.value lp.now) }
+    ensures to_the_end { IfOk result (ComesToEnd F.value lp.now iterlim) }
 {
     solve_by::<Least, F>(alloc, lp, iterlim)
 }

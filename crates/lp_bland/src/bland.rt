@@ -1,8 +1,9 @@
 //! The solver by Bland's rule.
-ghost use Rattle.std.specs.Prelude.{◌≡◌, ◌-◌, ◌^◌, ◌∷◌, ◌++◌, [], ◌↔◌, codes, IsTrue, IfOk, IfSome};
+ghost use Rattle.std.specs.Prelude.{◌≡◌, ◌-◌, ◌^◌, ◌∷◌, ◌++◌, [], ◌↔◌, codes, IsTrue, IfOk, IfSome, OnErr};
 ghost use Rattle.gq_frac.specs.Frac.{frac_value};
 ghost use Rattle.lp_core.specs.declared.answer.Rule.TheVariants as by;
 ghost use Rattle.lp_core.specs.Answers.{IsAnswer};
+ghost use Rattle.lp_nocycle.specs.PivotCount.{HasFewPivots, ComesToEnd};
 ghost use Rattle.lp_bland.specs.Name.{bland_is_name};
 ghost use Rattle.lp_bland.specs.Ends.{IsRefused};
 ghost use Rattle.lp_core.specs.WellFormed.{IsWellFormed};
@@ -104,13 +105,21 @@ impl LpSolver for Bland {
     }
 
     /// The answer of a program under Bland's rule, of which there is one. Where the numbers of the program and of each step fit
-    /// in 63 bits they are counted so, and else in 127.
+    /// in 63 bits they are counted so, and else in 127. No basis comes back, so the pivots are fewer than twice the sets of the
+    /// program's variables, and with a limit of at least that many the end is not Interrupted.
     fn solve(
         &mut self,
         alloc: Global,
         lp: &Lp<Frac>,
         iterlim: u64,
-    ) -> Result<Answer<Frac>, AllocError> {
+    ) -> Result<Answer<Frac>, AllocError>
+        requires { IsWellFormed frac_value lp.now }
+        ensures answers { IfOk result (IsAnswer frac_value (2 ^ 127 - 1) lp.now iterlim by.Bland) }
+        ensures few { IfOk result (HasFewPivots frac_value lp.now) }
+        ensures to_the_end { IfOk result (ComesToEnd frac_value lp.now iterlim) }
+        ensures paths { IfOk result (λ answer. self.new ≡ self.old ++ answer.pivots ∷ []) }
+        ensures unchanged { OnErr result (self.new ≡ self.old) }
+    {
         let answer = answer_of(alloc, lp, iterlim)?;
         let path = Vec::from_slice(alloc, answer.pivots.as_slice())?;
         self.taken.push(Sequence::new(path))?;

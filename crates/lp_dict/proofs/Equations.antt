@@ -84,10 +84,10 @@ module _ (d : Dictionary) (q k : ℕ) (x : List Number) (gone : basic_at d k ≡
       ∙ row_of-lessened (d.numbers i) (divided d q k) d.variables x (entry_at d i q)
       ∙ ap (λ r. row_at d i x -ℚ entry_at d i q *ℚ r) (row_of-divided (d.numbers k) d.variables x (entry_at d k q))
 
-less_nothing : (x f a y : Number) → y ≡ whole (pos 0) → x -ℚ f *ℚ (y /ℚ a) ≡ x
+pub less_nothing : (x f a y : Number) → y ≡ whole (pos 0) → x -ℚ f *ℚ (y /ℚ a) ≡ x
 less_nothing x f a y none = rw (none, zero-/ℚ a) (simp ring_ℚ)
 
-no_quotient : (y a : Number) → a ≢ whole (pos 0) → y /ℚ a ≡ whole (pos 0) → y ≡ whole (pos 0)
+pub no_quotient : (y a : Number) → a ≢ whole (pos 0) → y /ℚ a ≡ whole (pos 0) → y ≡ whole (pos 0)
 no_quotient y a some none = sym (/ℚ-*ℚ_self y a some) ∙ ap (λ z. z *ℚ a) none ∙ zero-*ℚ a
 
 -- Values meet the equations after an exchange, the objective included, exactly where they meet those before it.

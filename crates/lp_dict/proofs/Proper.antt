@@ -117,7 +117,7 @@ module _ (d : Dictionary) (p : Pivot) (k : ℕ) (proper : IsProper d) (legal : I
       ]
 
   -- a column that is not dropped
-  kept_column : (i c : ℕ) → (c ≡ 1 → basic_at d k ≢ 0) → (exchanged d p.enter k).numbers i c ≡ exchanged_numbers d p.enter k i c
+  pub kept_column : (i c : ℕ) → (c ≡ 1 → basic_at d k ≢ 0) → (exchanged d p.enter k).numbers i c ≡ exchanged_numbers d p.enter k i c
   kept_column i c kept =
       elim (cases_eq c 1) [
         | inl one ↦ ap (λ b. cond (b && (c == 1)) (whole (pos 0)) (exchanged_numbers d p.enter k i c)) (eq_other (basic_at d k) 0 (kept one))
@@ -163,10 +163,10 @@ module _ (d : Dictionary) (p : Pivot) (k : ℕ) (proper : IsProper d) (legal : I
   constant_after : (i : ℕ) → constant_at (exchanged d p.enter k) i ≡ exchanged_numbers d p.enter k i 0
   constant_after i = kept_column i 0 (λ one. absurd (omega arith))
 
-  constant_pivot : constant_at (exchanged d p.enter k) k ≡ ratio_at d p.enter k
+  pub constant_pivot : constant_at (exchanged d p.enter k) k ≡ ratio_at d p.enter k
   constant_pivot = constant_after k ∙ pivot_numbers 0
 
-  constant_other : (i : ℕ) → i ≢ k → constant_at (exchanged d p.enter k) i ≡ constant_at d i -ℚ entry_at d i p.enter *ℚ ratio_at d p.enter k
+  pub constant_other : (i : ℕ) → i ≢ k → constant_at (exchanged d p.enter k) i ≡ constant_at d i -ℚ entry_at d i p.enter *ℚ ratio_at d p.enter k
   constant_other i other = constant_after i ∙ other_numbers i 0 other
 
   opening_ratio : IsOpening d p k → ratio_at d p.enter k ≡ neg_ℚ (constant_at d k)
@@ -185,10 +185,10 @@ module _ (d : Dictionary) (p : Pivot) (k : ℕ) (proper : IsProper d) (legal : I
             subst (λ x. whole (pos 0) ≤ℚ x) (sym number) (gap_≤ℚ (constant_at d k) (constant_at d i) (o.least.1 i less))
       ]
 
-  constants_above : ¬ (OpeningIsDue d) → (i : ℕ) → i < length d.basic → whole (pos 0) ≤ℚ constant_at d i
+  pub constants_above : ¬ (OpeningIsDue d) → (i : ℕ) → i < length d.basic → whole (pos 0) ≤ℚ constant_at d i
   constants_above none i less = ≤ℚ_from_not_above (whole (pos 0)) (constant_at d i) (λ below. none (i, less, below))
 
-  step_ratio : IsStep d p k → whole (pos 0) ≤ℚ ratio_at d p.enter k
+  pub step_ratio : IsStep d p k → whole (pos 0) ≤ℚ ratio_at d p.enter k
   step_ratio s = /ℚ-zero-≤ℚ (constant_at d k) (entry_at d k p.enter) (constants_above s.not_due k place_within) (≤ℚ_from_<ℚ _ _ s.ties.limits.1)
 
   step_above : IsStep d p k → (i : ℕ) → i < length d.basic → whole (pos 0) ≤ℚ constant_at (exchanged d p.enter k) i
@@ -203,7 +203,7 @@ module _ (d : Dictionary) (p : Pivot) (k : ℕ) (proper : IsProper d) (legal : I
         ])
       ]
 
-  same_size : length (exchanged d p.enter k).basic ≡ length d.basic
+  pub same_size : length (exchanged d p.enter k).basic ≡ length d.basic
   same_size = length-set d.basic k p.enter
 
   -- no opening pivot is due after a legal one

@@ -17,4 +17,4 @@ pub returns : goal.returns
 returns c =
     let same = subst (λ o. IfSome o (λ narrow. lp_numbers half_value narrow ≡ lp_numbers frac_value c.args.lp.now)) c.in-Some.is c.in_ok-narrow.ensures.same in
     widened half_value frac_value (2 ^ 63 - 1) (2 ^ 127 - 1) (lit≤ tt) c.in-Some.narrow c.args.lp.now same c.requires c.args.iterlim by.Bland c.in_ok-answer.answer c.in_ok-widen_answer.field-0 c.in_ok-widen_answer.ensures
-    (λ refused. let told : c.is_refused.result ≡ true = c.is_refused.ensures.1 refused in cc) c.in_ok-answer.ensures
+    (λ refused. let told : c.is_refused.result ≡ true = c.is_refused.ensures.1 refused in cc) c.in_ok-answer.ensures.answers

@@ -1,0 +1,82 @@
+-- Each solve of a run is answered, and its search comes to its end.
+use Rattle.std.proofs.Common.{◌≡◌, ◌≤◌, ℕ, List, [], ◌∷◌, ◌++◌, Option, Some, None, sym, subst}
+use Rattle.std.specs.Prelude.{slice_get, IfSome}
+use Rattle.std.specs.List.{All}
+use Rattle.std.proofs.lemmas.List.Elements.{All-nil, All-cons, All-head, All-tail, All-append, All-weaker}
+use Rattle.gq_number.specs.Number.{Number}
+use Rattle.gq_frac.specs.declared.frac.Frac.{Frac}
+use Rattle.gq_frac.specs.Frac.{frac_value}
+use Rattle.gms_store.specs.declared.settings.Settings.{Settings}
+use Rattle.gms_event.specs.declared.event.Event.{Event as OwnEvent}
+use Rattle.gms_event.specs.declared.event.Event.TheVariants as own
+use Rattle.gms_event.specs.Events.{Event, displays, solves, aborts, stops}
+use Rattle.gms_event.specs.EventView.{event_in, events_in}
+use Rattle.lp_core.specs.declared.answer.Answer.{Answer}
+use Rattle.lp_core.specs.declared.answer.Rule.{Rule}
+use Rattle.lp_core.specs.declared.answer.Rule.TheVariants.{Bland}
+use Rattle.lp_core.specs.declared.program.Lp.{Lp}
+use Rattle.lp_core.specs.Numbers.{lp_numbers}
+use Rattle.lp_core.specs.Answers.{IsAnswer}
+use Rattle.lp_nocycle.specs.PivotCount.{twice_sets, variable_count, IsInterrupted}
+use Rattle.lp_nocycle.proofs.Answering.{comes_to_end}
+use Rattle.lp_nocycle.proofs.SameForm.{same_count}
+use Rattle.gms_exec.specs.Answering.{AreAnswered, IsAnswered}
+use Rattle.gms_exec.specs.Standing.{IsStanding, IsStandingSolve}
+use Rattle.gms_exec.proofs.Quiet.{IsNoSolve}
+use Rattle.gms_exec.proofs.Standing.{answered_by_standing}
+use Rattle.gms_run.specs.Answers.{number_limit}
+use Rattle.gms_run.specs.Searches.{SearchEnds, SearchesEnd}
+use Rattle.gms_run.proofs.Completeness.{one_value}
+
+module _ (rules : List Rule) (answers : List (Answer Frac)) where
+  -- the solves among events are answered, and their searches come to their end
+  abbrev pub AreSettled : List Event → Type 0
+  AreSettled events = AreAnswered frac_value number_limit rules answers events × SearchesEnd rules answers events
+
+  -- ---- what stands
+
+  solve_ends : (lp : Lp Frac) (place : ℕ) (settings : Settings) → IsStandingSolve frac_value number_limit rules answers lp place settings →
+      slice_get rules settings.solver ≡ Some Bland → twice_sets (variable_count (λ (x : Number). x) (lp_numbers frac_value lp)) ≤ settings.iterlim →
+      IfSome (slice_get answers place) (λ answer. ¬ (IsInterrupted answer.end))
+  solve_ends lp place settings is blands enough =
+      let by_bland : IsAnswer frac_value number_limit lp settings.iterlim Bland is.given = subst (λ rule. IsAnswer frac_value number_limit lp settings.iterlim rule is.given) (one_value is.chosen blands) is.is_answer in
+      let pivots : twice_sets (variable_count frac_value lp) ≤ settings.iterlim = subst (λ n. twice_sets n ≤ settings.iterlim) (same_count frac_value lp) enough in
+      subst (λ (o : Option (Answer Frac)). IfSome o (λ answer. ¬ (IsInterrupted answer.end))) (sym is.stands)
+      (comes_to_end frac_value number_limit lp settings.iterlim is.given is.formed by_bland pivots)
+
+  one_ends : (e : OwnEvent Frac) → IsStanding frac_value number_limit rules answers e → SearchEnds rules answers (event_in frac_value e)
+  one_ends (own.Display line items) is = tt
+  one_ends (own.Abort line items) is = tt
+  one_ends (own.Fault stop) is = tt
+  one_ends (own.Solve line model equations lp answer solver settings level) is = solve_ends lp answer settings is
+
+  all_end : (shown : List (OwnEvent Frac)) → All (IsStanding frac_value number_limit rules answers) shown → SearchesEnd rules answers (events_in frac_value shown)
+  all_end [] is = All-nil (SearchEnds rules answers)
+  all_end (e ∷ shown) is =
+      All-cons (SearchEnds rules answers) (event_in frac_value e) (events_in frac_value shown) (one_ends e (All-head (IsStanding frac_value number_limit rules answers) e shown is))
+      (all_end shown (All-tail (IsStanding frac_value number_limit rules answers) e shown is))
+
+  -- Events that stand are settled.
+  pub settled_by_standing : (shown : List (OwnEvent Frac)) → All (IsStanding frac_value number_limit rules answers) shown → AreSettled (events_in frac_value shown)
+  settled_by_standing shown is = (answered_by_standing frac_value number_limit rules answers shown is, all_end shown is)
+
+  -- ---- what is no solve
+
+  unsolved-answered : (e : Event) → IsNoSolve e → IsAnswered frac_value number_limit rules answers e
+  unsolved-answered (displays line items) is = tt
+  unsolved-answered (aborts line items) is = tt
+  unsolved-answered (stops fault) is = tt
+  unsolved-answered (solves solved) is = absurd is
+
+  unsolved-ends : (e : Event) → IsNoSolve e → SearchEnds rules answers e
+  unsolved-ends (displays line items) is = tt
+  unsolved-ends (aborts line items) is = tt
+  unsolved-ends (stops fault) is = tt
+  unsolved-ends (solves solved) is = absurd is
+
+  -- With events behind them that are no solves they stay settled.
+  pub settled_more : (events more : List Event) → AreSettled events → All IsNoSolve more → AreSettled (events ++ more)
+  settled_more events more settled unsolved = (
+    All-append (IsAnswered frac_value number_limit rules answers) events more settled.0 (All-weaker IsNoSolve (IsAnswered frac_value number_limit rules answers) unsolved-answered more unsolved),
+    All-append (SearchEnds rules answers) events more settled.1 (All-weaker IsNoSolve (SearchEnds rules answers) unsolved-ends more unsolved),
+  )

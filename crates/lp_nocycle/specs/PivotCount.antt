@@ -1,0 +1,34 @@
+-- How many pivots there are at most under Bland's rule (Chvatal, Linear Programming, chapter 3).
+use Rattle.std.specs.Prelude.{ℕ, ◌+◌, ◌*◌, ◌^◌, ◌<◌, ◌≤◌, nat_lt, length, Option, Some, None, if◌then◌else◌}
+use Rattle.gq_number.specs.Number.{Number}
+use Rattle.lp_core.specs.declared.answer.End.{End}
+use Rattle.lp_core.specs.declared.answer.End.TheVariants.{Interrupted}
+use Rattle.lp_core.specs.declared.answer.Answer.{Answer}
+use Rattle.lp_core.specs.declared.program.Lp.{Lp}
+use Rattle.lp_core.specs.StandardForm.{standard_form}
+use Rattle.lp_core.specs.Dictionary.{first_dictionary}
+
+-- twice the number of sets of so many variables: a set of basic ones in each of the two phases
+abbrev pub twice_sets : ℕ → ℕ
+twice_sets variables = 2 * 2 ^ variables
+
+-- how many variables the standard form of a program has, variable 0 included
+abbrev pub variable_count : {F : Type 0} → (F → Number) → Lp F → ℕ
+variable_count value lp = (first_dictionary (standard_form value lp)).variables + 1
+
+-- an end is that of a search which met its limit of pivots
+abbrev pub IsInterrupted : {F : Type 0} → End F → Type 0
+IsInterrupted (Interrupted phase levels row_levels) = Unit {0}
+IsInterrupted other = ⊥
+
+-- an answer has fewer pivots than twice the sets of the program's variables
+abbrev pub HasFewPivots : {F : Type 0} → (F → Number) → Lp F → Answer F → Type 0
+HasFewPivots value lp answer = length answer.pivots < twice_sets (variable_count value lp)
+
+-- with a limit of at least that many pivots an answer is no interrupted one
+abbrev pub ComesToEnd : {F : Type 0} → (F → Number) → Lp F → ℕ → Answer F → Type 0
+ComesToEnd value lp iterlim answer = twice_sets (variable_count value lp) ≤ iterlim → ¬ (IsInterrupted answer.end)
+
+-- twice the sets of so many variables, where that is below 2 to the 64
+abbrev pub bound_of : ℕ → Option ℕ
+bound_of variables = if nat_lt (twice_sets variables) (2 ^ 64) then Some (twice_sets variables) else None
