@@ -29,15 +29,21 @@ def own_program():
     return os.path.join(TOP, said.rstrip("\n"))
 
 
-def timed(words, folder):
-    """Runs a command in a folder, and tells its processor time. Status 3 is that of a run which a fault stops."""
+def used_by(words, folder):
+    """Runs a command in a folder, and tells its processor time and its peak memory in megabytes. Status 3 is that of a run which a fault
+    stops. The memory is never less than that of the script itself, from which the command was started."""
     with open(f"{folder}/said", "w", encoding="utf-8") as said:
-        running = subprocess.Popen(words, cwd=folder, stdout=said)
+        running = subprocess.Popen(words, cwd=folder, stdout=said, stderr=subprocess.STDOUT)
         _, status, used = os.wait4(running.pid, 0)
     running.returncode = os.waitstatus_to_exitcode(status)
     if running.returncode not in (0, 3):
         sys.exit(f"{' '.join(words)} ended with status {running.returncode} and said {text_in(f'{folder}/said')!r}")
-    return used.ru_utime + used.ru_stime
+    return used.ru_utime + used.ru_stime, used.ru_maxrss / 1024
+
+
+def timed(words, folder):
+    """Runs a command in a folder, and tells its processor time."""
+    return used_by(words, folder)[0]
 
 
 def text_in(path):

@@ -1,89 +1,92 @@
 -- One text that goes out over a host behind another.
-use Rattle.std.proofs.Common.{◌≡◌, ℕ, ◌+◌, ◌-◌, List, [], ◌++◌, length, take, drop, Option, Some, None, refl, sym, ap, ◌∙◌, subst, append_assoc, append-nil, arith, length-drop}
-use Rattle.std.proofs.Math.Seq.{take-add}
-use Rattle.std.proofs.lemmas.List.{take_all, drop-drop}
-use Rattle.gms_host.specs.Meaning.{Meaning}
-use Rattle.gms_host.specs.Rules.{Writes, Says, bytes_with}
-use Rattle.gms_host.proofs.Calmness.{CountsStay-none, CountsStay-more}
+use Rattle.std.proofs.Common.{◌≡◌, ℕ, ◌-◌, List, [], ◌++◌, length, take, drop, Option, Some, None, refl, sym, ap, ◌∙◌, append_assoc, append-nil, arith, length-drop, take-append-drop}
+use Rattle.std.proofs.lemmas.List.{take_all}
+use Rattle.gms_host.specs.Meaning.{Outside}
+use Rattle.gms_host.specs.Rules.{told_with, with_output, with_said}
+use Rattle.gms_host.specs.Spooling.{Passes, Speaks, WritesFront}
 
 -- what stands behind a place, taken as a slice
 pub rest_from : {X : Type 0} (xs : List X) (k : ℕ) → take (length xs - k) (drop k xs) ≡ drop k xs
 rest_from xs k = take_all (length xs - k) (drop k xs) (simp length-drop (omega arith))
 
-bytes_with-none : (o : Option (List ℕ)) → o ≡ bytes_with o []
-bytes_with-none None = refl
-bytes_with-none (Some b) = ap Some (sym (append-nil b))
+-- a text in two at a place, where what is behind it is taken as a slice
+split_at : (text : List ℕ) (k : ℕ) → text ≡ take k text ++ take (length text - k) (drop k text)
+split_at text k = sym (take-append-drop k text) ∙ ap (λ (r : List ℕ). take k text ++ r) (sym (rest_from text k))
 
-bytes_with-more : (o : Option (List ℕ)) (x y : List ℕ) → bytes_with (bytes_with o x) y ≡ bytes_with o (x ++ y)
-bytes_with-more None x y = refl
-bytes_with-more (Some b) x y = ap Some (append_assoc b x y)
+told-none : {A : Type 0} (o : Option (List A)) → o ≡ told_with o []
+told-none None = refl
+told-none (Some b) = ap Some (sym (append-nil b))
 
--- R holds of the front of a text, of which this rest is left.
-pub record SoFar (R : List ℕ → Type 0) (text rest : List ℕ) : Type 0 where
-  pub count : ℕ
-  pub left : rest ≡ drop count text
-  pub front : R (take count text)
+told-more : {A : Type 0} (o : Option (List A)) (x y : List A) → told_with (told_with o x) y ≡ told_with o (x ++ y)
+told-more None x y = refl
+told-more (Some b) x y = ap Some (append_assoc b x y)
 
--- No front is done.
-pub so_none : (R : List ℕ → Type 0) (text : List ℕ) → R [] → SoFar R text text
-so_none R text r = record { count = 0; left = refl; front = r }
+-- Nothing was added to the output, or some bytes and then others.
+pub output-none : (o : Outside) → o ≡ with_output o []
+output-none o = ap (λ (bytes : Option (List ℕ)). record o { output = bytes }) (told-none o.output)
 
--- A longer front is done.
-pub so_more : (R S : List ℕ → Type 0) (text rest : List ℕ) (k : ℕ) → ((x : List ℕ) → R x → S (x ++ take k rest)) → SoFar R text rest → SoFar S text (take (length rest - k) (drop k rest))
-so_more R S text rest k more so =
+pub output-both : (a b c : Outside) (x y : List ℕ) → b ≡ with_output a x → c ≡ with_output b y → c ≡ with_output a (x ++ y)
+output-both a b c x y p q =
+    q ∙ ap (λ (o : Outside). with_output o y) p ∙ ap (λ (bytes : Option (List ℕ)). record a { output = bytes }) (told-more a.output x y)
+
+-- Nothing was added to standard output, or some bytes and then others.
+pub said-none : (o : Outside) → o ≡ with_said o []
+said-none o = ap (λ (bytes : Option (List ℕ)). record o { said = bytes }) (told-none o.said)
+
+pub said-both : (a b c : Outside) (x y : List ℕ) → b ≡ with_said a x → c ≡ with_said b y → c ≡ with_said a (x ++ y)
+said-both a b c x y p q =
+    q ∙ ap (λ (o : Outside). with_said o y) p ∙ ap (λ (bytes : Option (List ℕ)). record a { said = bytes }) (told-more a.said x y)
+
+-- ---- the output
+
+-- Nothing went out of what is due.
+pub passes_none : (o : Outside) (due : List ℕ) → Passes o o due due
+passes_none o due = record { bytes = []; written = output-none o; split = refl }
+
+-- All of it went out.
+pub passes_all : {old new : Outside} {due left : List ℕ} → new ≡ with_output old due → left ≡ [] → Passes old new due left
+passes_all {old} {new} {due} w none = record { bytes = due; written = w; split = sym (append-nil due) ∙ ap (λ (r : List ℕ). due ++ r) (sym none) }
+
+-- Of what is pending more went out.
+pub passes_on : (old mid new : Outside) (due pending left : List ℕ) → Passes old mid due pending → Passes mid new pending left → Passes old new due left
+passes_on old mid new due pending left p q =
+    record { bytes = p.bytes ++ q.bytes; written = output-both old mid new p.bytes q.bytes p.written q.written; split = p.split ∙ ap (λ (r : List ℕ). p.bytes ++ r) q.split ∙ sym (append_assoc p.bytes q.bytes left) }
+
+-- Behind what is due and behind what is pending stands more.
+pub passes_behind : {old new : Outside} {due pending : List ℕ} (more : List ℕ) → Passes old new due pending → Passes old new (due ++ more) (pending ++ more)
+passes_behind {old} {new} {due} {pending} more p = record { bytes = p.bytes; written = p.written; split = ap (λ (r : List ℕ). r ++ more) p.split ∙ append_assoc p.bytes pending more }
+
+-- So many bytes of what is pending were written.
+pub passes_write : (old now next : Outside) (due rest : List ℕ) (k : ℕ) → Passes old now due rest → next ≡ with_output now (take k rest) → Passes old next due (take (length rest - k) (drop k rest))
+passes_write old now next due rest k p w = passes_on old now next due rest _ p (record { bytes = take k rest; written = w; split = split_at rest k })
+
+-- All that was pending was written.
+pub passes_whole : (old mid new : Outside) (due pending : List ℕ) → Passes old mid due pending → new ≡ with_output mid pending → new ≡ with_output old due
+passes_whole old mid new due pending p w = output-both old mid new p.bytes pending p.written w ∙ ap (λ (r : List ℕ). with_output old r) (sym p.split)
+
+-- The front of what was pending was written, and so the front of what was due, no less than what had gone out.
+pub front_on : (old mid new : Outside) (due pending : List ℕ) → Passes old mid due pending → WritesFront mid new pending → WritesFront old new due
+front_on old mid new due pending p f = (f.0, passes_on old mid new due pending f.0 p f.1)
+
+-- The front of a text is one of a longer text.
+pub front_longer : {old new : Outside} {due : List ℕ} (more : List ℕ) → WritesFront old new due → WritesFront old new (due ++ more)
+front_longer more f = (f.0 ++ more, passes_behind more f.1)
+
+-- ---- standard output
+
+-- Nothing of a line was said.
+pub speaks_none : (o : Outside) (line : List ℕ) → Speaks o o line line
+speaks_none o line = record { bytes = []; said = said-none o; split = refl }
+
+-- So many bytes of what is left were said.
+pub speaks_say : (old now next : Outside) (line rest : List ℕ) (k : ℕ) → Speaks old now line rest → next ≡ with_said now (take k rest) → Speaks old next line (take (length rest - k) (drop k rest))
+speaks_say old now next line rest k p w =
     record {
-      count = so.count + k;
-      left = rest_from rest k ∙ ap (λ (r : List ℕ). drop k r) so.left ∙ drop-drop k so.count text;
-      front = subst S (ap (λ (r : List ℕ). take so.count text ++ take k r) so.left ∙ sym (take-add so.count k text)) (more (take so.count text) so.front);
+      bytes = p.bytes ++ take k rest;
+      said = said-both old now next p.bytes (take k rest) p.said w;
+      split = p.split ∙ ap (λ (r : List ℕ). p.bytes ++ r) (split_at rest k) ∙ sym (append_assoc p.bytes (take k rest) (take (length rest - k) (drop k rest)));
     }
 
--- What has nothing behind it is all.
-all_taken : (text rest : List ℕ) (count : ℕ) → rest ≡ drop count text → length rest ≡ 0 → take count text ≡ text
-all_taken text rest count left none =
-    take_all count text (let e : length (drop count text) ≡ 0 = ap length (sym left) ∙ none in omega (arith, length-drop count text))
-
--- All is done.
-pub so_all : (R : List ℕ → Type 0) (text rest : List ℕ) → SoFar R text rest → length rest ≡ 0 → R text
-so_all R text rest so none = subst R (all_taken text rest so.count so.left none) so.front
-
-pub Writes-none : (m : Meaning) → Writes m m []
-Writes-none m =
-    record { files = refl; input = refl; output = bytes_with-none m.output; said = refl; asked = refl; reading = refl; writing = refl; counts = CountsStay-none m }
-
-pub Writes-more : {a b c : Meaning} (x y : List ℕ) → Writes a b x → Writes b c y → Writes a c (x ++ y)
-Writes-more {a} {b} {c} x y p q =
-    record {
-      files = q.files ∙ p.files;
-      input = q.input ∙ p.input;
-      output = q.output ∙ ap (λ (o : Option (List ℕ)). bytes_with o y) p.output ∙ bytes_with-more a.output x y;
-      said = q.said ∙ p.said;
-      asked = q.asked ∙ p.asked;
-      reading = q.reading ∙ p.reading;
-      writing = q.writing ∙ p.writing;
-      counts = CountsStay-more p.counts q.counts;
-    }
-
-pub Says-none : (m : Meaning) → Says m m []
-Says-none m =
-    record { files = refl; input = refl; output = refl; said = bytes_with-none m.said; asked = refl; reading = refl; writing = refl; counts = CountsStay-none m }
-
-pub Says-more : {a b c : Meaning} (x y : List ℕ) → Says a b x → Says b c y → Says a c (x ++ y)
-Says-more {a} {b} {c} x y p q =
-    record {
-      files = q.files ∙ p.files;
-      input = q.input ∙ p.input;
-      output = q.output ∙ p.output;
-      said = q.said ∙ ap (λ (o : Option (List ℕ)). bytes_with o y) p.said ∙ bytes_with-more a.said x y;
-      asked = q.asked ∙ p.asked;
-      reading = q.reading ∙ p.reading;
-      writing = q.writing ∙ p.writing;
-      counts = CountsStay-more p.counts q.counts;
-    }
-
--- More was written.
-pub write_more : (old now next : Meaning) (text rest : List ℕ) (k : ℕ) → SoFar (Writes old now) text rest → Writes now next (take k rest) → SoFar (Writes old next) text (take (length rest - k) (drop k rest))
-write_more old now next text rest k so w = so_more (Writes old now) (Writes old next) text rest k (λ x p. Writes-more x (take k rest) p w) so
-
--- More was said.
-pub say_more : (old now next : Meaning) (text rest : List ℕ) (k : ℕ) → SoFar (Says old now) text rest → Says now next (take k rest) → SoFar (Says old next) text (take (length rest - k) (drop k rest))
-say_more old now next text rest k so w = so_more (Says old now) (Says old next) text rest k (λ x p. Says-more x (take k rest) p w) so
+-- The whole line was said.
+pub speaks_all : (old new : Outside) (line rest : List ℕ) → Speaks old new line rest → rest ≡ [] → new ≡ with_said old line
+speaks_all old new line rest p none = p.said ∙ ap (λ (r : List ℕ). with_said old r) (sym (p.split ∙ ap (λ (r : List ℕ). p.bytes ++ r) none ∙ append-nil p.bytes))

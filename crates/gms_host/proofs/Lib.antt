@@ -1,4 +1,4 @@
 mod FirstFile
-pub mod Calmness
+pub mod Counting
 pub mod Fronts
-mod Spools
+pub mod Spools

@@ -1,4 +1,4 @@
--- What a host means to the one who calls it.
+-- What a host means to the one who calls it: what stands outside, and how often the outside failed.
 use Rattle.std.specs.Prelude.{ℕ, ◌+◌, ◌≤◌, Bool, List, Option, min}
 use Rattle.std.specs.Ordering.{nat_cmp}
 use Rattle.std.specs.Cmp.Lexicographic.{slice_cmp}
@@ -8,22 +8,29 @@ use Rattle.std.specs.FinMap.{FinMap}
 abbrev pub Files : Type 0
 Files = FinMap (slice_cmp nat_cmp) (List ℕ)
 
--- What a host tells of itself; of what it does not tell stands None.
-pub record Meaning : Type 0 where
+-- What stands outside. Of what a host does not tell stands None.
+pub record Outside : Type 0 where
   -- its files
   pub files : Option Files
   -- what the opened input still gives
   pub input : Option (List ℕ)
-  -- the bytes of the opened output so far
+  -- the name of the output that was opened last
+  pub named : Option (List ℕ)
+  -- the bytes of that output so far
   pub output : Option (List ℕ)
   -- the bytes of standard output so far
   pub said : Option (List ℕ)
   -- the names of the files that were asked for so far, in order
   pub asked : Option (List (List ℕ))
+  -- the names and the bytes of the outputs that were closed so far, in order
+  pub kept : Option (List (List ℕ × List ℕ))
   -- an input is open
   pub reading : Bool
   -- an output is open
   pub writing : Bool
+
+-- How often the outside failed, and what the host promises of that.
+pub record Counts : Type 0 where
   -- how many faults of reading there were
   pub read_faults : ℕ
   -- how many faults of writing there were
@@ -33,6 +40,11 @@ pub record Meaning : Type 0 where
   -- a fault is counted only in a call that answers it
   pub precise : Bool
 
+-- What a host tells of itself.
+pub record Meaning : Type 0 where
+  pub outside : Outside
+  pub counts : Counts
+
 -- the greatest number that a count of faults reaches, at which it stands still
 abbrev pub greatest_count : ℕ
 greatest_count = 18446744073709551615
@@ -40,7 +52,3 @@ greatest_count = 18446744073709551615
 -- a count of faults rose: it is greater by one or more, or stands at the greatest number
 abbrev pub Rose : ℕ → ℕ → Type 0
 Rose old new = min (old + 1) greatest_count ≤ new
-
--- the faults of both kinds
-abbrev pub faults : Meaning → ℕ
-faults m = m.read_faults + m.write_faults

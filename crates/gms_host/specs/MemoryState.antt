@@ -20,12 +20,16 @@ pub record MemoryState : Type 0 where
   pub calls : ℕ
   -- what the opened input still gives
   pub input : List ℕ
-  -- the bytes of the opened output so far
+  -- the name of the output that was opened last
+  pub named : List ℕ
+  -- the bytes of that output so far
   pub output : List ℕ
   -- the bytes of standard output so far
   pub said : List ℕ
   -- the names of the files that were opened so far, in order
   pub asked : List (List ℕ)
+  -- the names and the bytes of the outputs that were closed so far, in order
+  pub kept : List (List ℕ × List ℕ)
   -- an input is open
   pub reading : Bool
   -- an output is open
@@ -42,29 +46,35 @@ bytes_code = coded_list coded_ℕ
 -- a state is stored as its fields, in pairs
 abbrev pub state_code : Coded MemoryState
 state_code =
-    code_by (Files × (List ℕ × (Option ℕ × (ℕ × (List ℕ × (List ℕ × (List ℕ × (List (List ℕ) × (Bool × (Bool × (ℕ × ℕ)))))))))))
-    (coded× (finite.code bytes_code bytes_code) (coded× bytes_code (coded× (coded_option coded_ℕ) (coded× coded_ℕ (coded× bytes_code (coded× bytes_code (coded× bytes_code
-    (coded× (coded_list bytes_code) (coded× coded_bool (coded× coded_bool (coded× coded_ℕ coded_ℕ)))))))))))
-    (λ m. (m.files, (m.failing, (m.most, (m.calls, (m.input, (m.output, (m.said, (m.asked, (m.reading, (m.writing, (m.read_faults, m.write_faults))))))))))))
+    code_by (Files × (List ℕ × (Option ℕ × (ℕ × (List ℕ × (List ℕ × (List ℕ × (List ℕ × (List (List ℕ) × (List (List ℕ × List ℕ) × (Bool × (Bool × (ℕ × ℕ)))))))))))))
+    (coded× (finite.code bytes_code bytes_code) (coded× bytes_code (coded× (coded_option coded_ℕ) (coded× coded_ℕ (coded× bytes_code (coded× bytes_code (coded× bytes_code (coded× bytes_code
+    (coded× (coded_list bytes_code) (coded× (coded_list (coded× bytes_code bytes_code)) (coded× coded_bool (coded× coded_bool (coded× coded_ℕ coded_ℕ)))))))))))))
+    (λ m. (m.files, (m.failing, (m.most, (m.calls, (m.input, (m.named, (m.output, (m.said, (m.asked, (m.kept, (m.reading, (m.writing, (m.read_faults, m.write_faults))))))))))))))
     (λ p. record {
       files = p.0;
       failing = p.1.0;
       most = p.1.1.0;
       calls = p.1.1.1.0;
       input = p.1.1.1.1.0;
-      output = p.1.1.1.1.1.0;
-      said = p.1.1.1.1.1.1.0;
-      asked = p.1.1.1.1.1.1.1.0;
-      reading = p.1.1.1.1.1.1.1.1.0;
-      writing = p.1.1.1.1.1.1.1.1.1.0;
-      read_faults = p.1.1.1.1.1.1.1.1.1.1.0;
-      write_faults = p.1.1.1.1.1.1.1.1.1.1.1;
+      named = p.1.1.1.1.1.0;
+      output = p.1.1.1.1.1.1.0;
+      said = p.1.1.1.1.1.1.1.0;
+      asked = p.1.1.1.1.1.1.1.1.0;
+      kept = p.1.1.1.1.1.1.1.1.1.0;
+      reading = p.1.1.1.1.1.1.1.1.1.1.0;
+      writing = p.1.1.1.1.1.1.1.1.1.1.1.0;
+      read_faults = p.1.1.1.1.1.1.1.1.1.1.1.1.0;
+      write_faults = p.1.1.1.1.1.1.1.1.1.1.1.1.1;
     })
     (λ _. refl)
 
+-- a file as a pair of its name and its bytes
+abbrev pub file_of : String Global × Vec ℕ Global → List ℕ × List ℕ
+file_of file = (string_bytes file.0, file.1.items)
+
 -- the files of a list of names and bytes, of which the first counts where several have one name
 abbrev pub files_of : List (String Global × Vec ℕ Global) → Files
-files_of files = finite.from_entries (map (λ file. (string_bytes file.0, file.1.items)) files)
+files_of files = finite.from_entries (map file_of files)
 
 -- a host of these files, of which no call was made
 abbrev pub at_start : Files → List ℕ → MemoryState
@@ -74,9 +84,11 @@ at_start files failing = record {
   most = None;
   calls = 0;
   input = [];
+  named = [];
   output = [];
   said = [];
   asked = [];
+  kept = [];
   reading = false;
   writing = false;
   read_faults = 0;
@@ -94,17 +106,23 @@ piece m count = elim m.most [ None ↦ count | Some most ↦ min count most ]
 -- a host of files in memory tells all of itself, counts precisely, and is reliable exactly where no call is to fail
 abbrev pub meaning_of : MemoryState → Meaning
 meaning_of m = record {
-  files = Some m.files;
-  input = Some m.input;
-  output = Some m.output;
-  said = Some m.said;
-  asked = Some m.asked;
-  reading = m.reading;
-  writing = m.writing;
-  read_faults = m.read_faults;
-  write_faults = m.write_faults;
-  reliable = length m.failing == 0;
-  precise = true;
+  outside = record {
+    files = Some m.files;
+    input = Some m.input;
+    named = Some m.named;
+    output = Some m.output;
+    said = Some m.said;
+    asked = Some m.asked;
+    kept = Some m.kept;
+    reading = m.reading;
+    writing = m.writing;
+  };
+  counts = record {
+    read_faults = m.read_faults;
+    write_faults = m.write_faults;
+    reliable = length m.failing == 0;
+    precise = true;
+  };
 }
 
 -- the call that comes now is among those that are to fail
@@ -135,11 +153,15 @@ after_read m (Ok count) = record (numbered m) { input = drop count m.input }
 after_read m (Err Fault) = with_read_fault (numbered m)
 after_read m (Err Memory) = numbered m
 
--- what an `open_out` of that name leaves, by its answer: an empty output
+-- the output is empty and not open
+abbrev pub emptied : MemoryState → MemoryState
+emptied m = record m { output = []; writing = false }
+
+-- what an `open_out` of that name leaves, by its answer: an empty output, which is open where it is done
 abbrev pub after_open_out : MemoryState → List ℕ → Result (Unit {0}) Failed → MemoryState
-after_open_out m name (Ok _) = record (numbered m) { output = []; asked = m.asked ++ name ∷ []; writing = true }
-after_open_out m name (Err Fault) = record (with_write_fault (numbered m)) { output = []; writing = false }
-after_open_out m name (Err Memory) = record (numbered m) { output = []; writing = false }
+after_open_out m name (Ok _) = record (numbered m) { named = name; output = []; asked = m.asked ++ name ∷ []; writing = true }
+after_open_out m name (Err Fault) = emptied (with_write_fault (numbered m))
+after_open_out m name (Err Memory) = emptied (numbered m)
 
 -- what a `write` of these bytes leaves, by its answer: as many of them as it says are at the end of the output
 abbrev pub after_write : MemoryState → List ℕ → Result ℕ Failed → MemoryState
@@ -147,9 +169,9 @@ after_write m bytes (Ok count) = record (numbered m) { output = m.output ++ take
 after_write m bytes (Err Fault) = with_write_fault (numbered m)
 after_write m bytes (Err Memory) = numbered m
 
--- what a `close_out` leaves, by its answer: no output is open
+-- what a `close_out` leaves, by its answer: no output is open, and the one that was is kept
 abbrev pub after_close_out : MemoryState → Result (Unit {0}) Failed → MemoryState
-after_close_out m (Ok _) = record (numbered m) { writing = false }
+after_close_out m (Ok _) = record (numbered m) { kept = m.kept ++ (m.named, m.output) ∷ []; writing = false }
 after_close_out m (Err Fault) = record (with_write_fault (numbered m)) { writing = false }
 after_close_out m (Err Memory) = record (numbered m) { writing = false }
 

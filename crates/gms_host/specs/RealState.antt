@@ -25,15 +25,21 @@ untouched = record {
 -- such a host tells no files, no names and no bytes, any call can fail, and one that succeeds can count a fault
 abbrev pub meaning_of : RealState → Meaning
 meaning_of r = record {
-  files = None;
-  input = None;
-  output = None;
-  said = None;
-  asked = None;
-  reading = r.reading;
-  writing = r.writing;
-  read_faults = r.read_faults;
-  write_faults = r.write_faults;
-  reliable = false;
-  precise = false;
+  outside = record {
+    files = None;
+    input = None;
+    named = None;
+    output = None;
+    said = None;
+    asked = None;
+    kept = None;
+    reading = r.reading;
+    writing = r.writing;
+  };
+  counts = record {
+    read_faults = r.read_faults;
+    write_faults = r.write_faults;
+    reliable = false;
+    precise = false;
+  };
 }

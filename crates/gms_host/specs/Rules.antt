@@ -1,154 +1,124 @@
--- The rules of a host's six calls: what each of them changes, and that it leaves all else.
-use Rattle.std.specs.Prelude.{◌≡◌, ℕ, ◌≤◌, ◌↔◌, ◌⊎◌, Bool, true, false, List, [], ◌∷◌, ◌++◌, take, drop, length, Option, Some, option_map, is_some, IfSome, IsSome, IsErrOf, Result}
+-- The rules of a host's six calls: what each of them makes of what stands outside, and of the counts of faults.
+use Rattle.std.specs.Prelude.{◌≡◌, ℕ, ◌≤◌, ◌↔◌, ◌⊎◌, Bool, true, false, List, [], ◌∷◌, ◌++◌, take, drop, length, Option, option_map, unwrap_or, is_some, IfSome, IsSome, OnOk, IsErrOf, Result, Ok, Err}
 use Rattle.std.specs.FinMap as map
 use Rattle.gms_host.specs.declared.host.Failed.{Failed}
-use Rattle.gms_host.specs.declared.host.Failed.TheVariants.{Fault}
-use Rattle.gms_host.specs.Meaning.{Meaning}
+use Rattle.gms_host.specs.declared.host.Failed.TheVariants.{Fault, Memory}
+use Rattle.gms_host.specs.Meaning.{Outside, Counts, Rose}
 
--- no call lets a count of faults fall, and a host is reliable, and precise, throughout or never
-pub record CountsStay (old new : Meaning) : Type 0 where
-  pub read_faults : old.read_faults ≤ new.read_faults
-  pub write_faults : old.write_faults ≤ new.write_faults
-  pub reliable : new.reliable ≡ old.reliable
-  pub precise : new.precise ≡ old.precise
+-- ---- what stands outside
 
--- A call that reads counts no fault of writing.
-abbrev pub CountsNoWriting : Meaning → Meaning → Type 0
-CountsNoWriting old new = new.write_faults ≡ old.write_faults
+-- a list, where it is told, with more at its end
+abbrev pub told_with : {A : Type 0} → Option (List A) → List A → Option (List A)
+told_with told more = option_map (λ xs. xs ++ more) told
 
--- A call that writes counts no fault of reading.
-abbrev pub CountsNoReading : Meaning → Meaning → Type 0
-CountsNoReading old new = new.read_faults ≡ old.read_faults
+-- the output with these bytes added at its end
+abbrev pub with_output : Outside → List ℕ → Outside
+with_output o bytes = record o { output = told_with o.output bytes }
 
--- no fault was counted
-pub record SameCounts (old new : Meaning) : Type 0 where
-  pub read_faults : new.read_faults ≡ old.read_faults
-  pub write_faults : new.write_faults ≡ old.write_faults
+-- standard output with these bytes added at its end
+abbrev pub with_said : Outside → List ℕ → Outside
+with_said o bytes = record o { said = told_with o.said bytes }
 
--- a call of a precise host that is done counts no fault
-abbrev pub Precise : Meaning → Meaning → Type 0
-Precise old new = old.precise ≡ true → SameCounts old new
+-- these names were asked for too
+abbrev pub with_asked : Outside → List (List ℕ) → Outside
+with_asked o names = record o { asked = told_with o.asked names }
 
--- The call answered no fault, and counted none.
-pub record NoFault {A : Type 0} (old new : Meaning) (result : Result A Failed) : Type 0 where
-  pub answers : IsErrOf result Fault → ⊥
-  pub counts : SameCounts old new
+-- the output is empty, and open or not
+abbrev pub with_emptied : Outside → Bool → Outside
+with_emptied o open_now = record o { output = option_map (λ _. []) o.output; writing = open_now }
 
--- a call of a reliable host answers no fault, and counts none
-abbrev pub Steady : {A : Type 0} → Meaning → Meaning → Result A Failed → Type 0
-Steady old new result = old.reliable ≡ true → NoFault old new result
+-- an empty output of a name is open, and the name is asked for
+abbrev pub with_opened : Outside → List ℕ → Outside
+with_opened o name =
+    record (with_emptied o true) { named = option_map (λ _. name) o.named; asked = told_with o.asked (name ∷ []) }
+
+-- the output with its name, as it is kept when it is closed
+abbrev pub closing : Outside → List ℕ × List ℕ
+closing o = (unwrap_or o.named [], unwrap_or o.output [])
+
+-- no output is open, and the one that was is kept
+abbrev pub with_kept : Outside → Outside
+with_kept o = record o { kept = told_with o.kept (closing o ∷ []); writing = false }
+
+-- A host that tells its files tells what the opened input still gives, and one that tells the outputs that were closed tells the opened one and its name.
+pub record TellsWhole (o : Outside) : Type 0 where
+  pub input : IsSome o.files → IsSome o.input
+  pub output : IsSome o.kept → IsSome o.output × IsSome o.named
 
 -- the host has a file of that name, where it tells its files
-abbrev pub IsThere : Meaning → List ℕ → Type 0
-IsThere m name = IfSome m.files (λ files. IsSome (map.get files name))
+abbrev pub IsThere : Outside → List ℕ → Type 0
+IsThere o name = IfSome o.files (λ files. IsSome (map.get files name))
 
--- the names asked for, where they are told, with this name added at their end
-abbrev pub names_with : Option (List (List ℕ)) → List ℕ → Option (List (List ℕ))
-names_with asked name = option_map (λ names. names ++ name ∷ []) asked
+-- an input is told or not as before, and gives the bytes of the file of that name, which is there, where the files are told
+abbrev pub IsInput : Outside → List ℕ → Option (List ℕ) → Type 0
+IsInput o name input =
+    (is_some input ≡ is_some o.input) × IfSome o.files (λ files. IsSome (map.get files name) × (input ≡ map.get files name))
 
--- the bytes, where they are told, with these added at their end
-abbrev pub bytes_with : Option (List ℕ) → List ℕ → Option (List ℕ)
-bytes_with bytes more = option_map (λ b. b ++ more) bytes
+-- What an `open_in` does: an input is open that gives the file, and the name is asked for. Where it fails no input is open, and the name may be
+-- asked for.
+abbrev pub OpensInput : Result (Unit {0}) Failed → Outside → Outside → List ℕ → Type 0
+OpensInput (Ok _) old new name =
+    (input : Option (List ℕ)) × IsInput old name input × (new ≡ record (with_asked old (name ∷ [])) { input = input; reading = true })
+OpensInput (Err _) old new name =
+    (new ≡ record old { reading = false }) ⊎ (new ≡ record (with_asked old (name ∷ [])) { reading = false })
 
--- a failed call adds its name to those asked for, or leaves them
-abbrev pub AsksOrNot : Option (List (List ℕ)) → Option (List (List ℕ)) → List ℕ → Type 0
-AsksOrNot old new name = (new ≡ old) ⊎ (new ≡ names_with old name)
-
--- nothing but the counts of faults changed
-pub record KeepsAll (old new : Meaning) : Type 0 where
-  pub files : new.files ≡ old.files
-  pub input : new.input ≡ old.input
-  pub output : new.output ≡ old.output
-  pub said : new.said ≡ old.said
-  pub asked : new.asked ≡ old.asked
-  pub reading : new.reading ≡ old.reading
-  pub writing : new.writing ≡ old.writing
-  pub counts : CountsStay old new
-
--- An input is open, and gives the bytes of the file of that name, where the files are told.
-pub record OpensInput (old new : Meaning) (name : List ℕ) : Type 0 where
-  pub files : new.files ≡ old.files
-  pub found : IfSome old.files (λ files. IsSome (map.get files name))
-  pub input : IfSome old.files (λ files. new.input ≡ map.get files name)
-  pub told : is_some new.input ≡ is_some old.input
-  pub output : new.output ≡ old.output
-  pub said : new.said ≡ old.said
-  pub asked : new.asked ≡ names_with old.asked name
-  pub reading : new.reading ≡ true
-  pub writing : new.writing ≡ old.writing
-  pub counts : CountsStay old new
-
--- No input is open, and what the earlier one still gave stands.
-pub record FailsToOpenInput (old new : Meaning) (name : List ℕ) : Type 0 where
-  pub files : new.files ≡ old.files
-  pub input : new.input ≡ old.input
-  pub output : new.output ≡ old.output
-  pub said : new.said ≡ old.said
-  pub asked : AsksOrNot old.asked new.asked name
-  pub reading : new.reading ≡ false
-  pub writing : new.writing ≡ old.writing
-  pub counts : CountsStay old new
-
--- The first bytes of the input, as many as the count, stand at the front of the buffer and are taken off the input.
-pub record TakesOff (bytes : List ℕ) (rest : Option (List ℕ)) (count : ℕ) (buffer : List ℕ) : Type 0 where
+-- The first bytes of an input, as many as a count, stand at the front of a buffer.
+pub record GivesFirst (bytes : List ℕ) (count : ℕ) (buffer : List ℕ) : Type 0 where
   pub there : count ≤ length bytes
   pub given : take count buffer ≡ take count bytes
-  pub left : rest ≡ Some (drop count bytes)
   -- a count of 0 is the end of the input, and comes nowhere else
   pub end : (count ≡ 0) ↔ (bytes ≡ [])
 
--- What a read that answered this count did.
-pub record Reads (old new : Meaning) (count : ℕ) (buffer : List ℕ) : Type 0 where
-  pub room : count ≤ length buffer
-  pub files : new.files ≡ old.files
-  pub input : IfSome old.input (λ bytes. TakesOff bytes new.input count buffer)
-  pub told : is_some new.input ≡ is_some old.input
-  pub output : new.output ≡ old.output
-  pub said : new.said ≡ old.said
-  pub asked : new.asked ≡ old.asked
-  pub reading : new.reading ≡ old.reading
-  pub writing : new.writing ≡ old.writing
-  pub counts : CountsStay old new
+-- What a `read` does: the first bytes of the input stand at the front of the buffer, and are taken off the input. Where it fails nothing is.
+abbrev pub Reads : Result ℕ Failed → Outside → Outside → List ℕ → Type 0
+Reads (Ok count) old new buffer =
+    IfSome old.input (λ bytes. GivesFirst bytes count buffer) × (new ≡ record old { input = option_map (λ bytes. drop count bytes) old.input })
+Reads (Err _) old new buffer = new ≡ old
 
--- The output is empty, and open or not.
-pub record OpensOutput (old new : Meaning) (open_now : Bool) : Type 0 where
-  pub files : new.files ≡ old.files
-  pub input : new.input ≡ old.input
-  pub output : new.output ≡ option_map (λ _. []) old.output
-  pub said : new.said ≡ old.said
-  pub reading : new.reading ≡ old.reading
-  pub writing : new.writing ≡ open_now
-  pub counts : CountsStay old new
+-- What an `open_out` does: an empty output of that name is open, and the name is asked for. Where it fails the output is empty too, but not open,
+-- and the name may be asked for.
+abbrev pub OpensOutput : Result (Unit {0}) Failed → Outside → Outside → List ℕ → Type 0
+OpensOutput (Ok _) old new name = new ≡ with_opened old name
+OpensOutput (Err _) old new name =
+    (new ≡ with_emptied old false) ⊎ (new ≡ with_asked (with_emptied old false) (name ∷ []))
 
--- The output has these bytes added at its end.
-pub record Writes (old new : Meaning) (bytes : List ℕ) : Type 0 where
-  pub files : new.files ≡ old.files
-  pub input : new.input ≡ old.input
-  pub output : new.output ≡ bytes_with old.output bytes
-  pub said : new.said ≡ old.said
-  pub asked : new.asked ≡ old.asked
-  pub reading : new.reading ≡ old.reading
-  pub writing : new.writing ≡ old.writing
-  pub counts : CountsStay old new
+-- What a `write` does: the first of these bytes, as many as the count, are added to the output. Where it fails nothing is.
+abbrev pub Writes : Result ℕ Failed → Outside → Outside → List ℕ → Type 0
+Writes (Ok count) old new bytes = new ≡ with_output old (take count bytes)
+Writes (Err _) old new bytes = new ≡ old
 
--- No output is open, and its bytes stand as they were.
-pub record ClosesOutput (old new : Meaning) : Type 0 where
-  pub files : new.files ≡ old.files
-  pub input : new.input ≡ old.input
-  pub output : new.output ≡ old.output
-  pub said : new.said ≡ old.said
-  pub asked : new.asked ≡ old.asked
-  pub reading : new.reading ≡ old.reading
-  pub writing : new.writing ≡ false
-  pub counts : CountsStay old new
+-- What a `close_out` does: no output is open, and the one that was is kept with its name. Where it fails it is not kept.
+abbrev pub ClosesOutput : Result (Unit {0}) Failed → Outside → Outside → Type 0
+ClosesOutput (Ok _) old new = new ≡ with_kept old
+ClosesOutput (Err _) old new = new ≡ record old { writing = false }
 
--- Standard output has these bytes added at its end.
-pub record Says (old new : Meaning) (bytes : List ℕ) : Type 0 where
-  pub files : new.files ≡ old.files
-  pub input : new.input ≡ old.input
-  pub output : new.output ≡ old.output
-  pub said : new.said ≡ bytes_with old.said bytes
-  pub asked : new.asked ≡ old.asked
-  pub reading : new.reading ≡ old.reading
-  pub writing : new.writing ≡ old.writing
-  pub counts : CountsStay old new
+-- What a `say` does: the first of these bytes, as many as the count, are added to standard output. Where it fails nothing is.
+abbrev pub Says : Result ℕ Failed → Outside → Outside → List ℕ → Type 0
+Says (Ok count) old new bytes = new ≡ with_said old (take count bytes)
+Says (Err _) old new bytes = new ≡ old
+
+-- ---- the counts of faults
+
+-- What work does to the count of its own faults, by its answer: it rose where the answer is a fault. Where the host is precise it stays where the
+-- work is done. Where the host is sure not to fail, no fault is answered, and the count stays.
+pub record IsCounted {A : Type 0} (result : Result A Failed) (sure precise : Type 0) (old new : ℕ) : Type 0 where
+  pub no_fall : old ≤ new
+  pub fault : IsErrOf result Fault → Rose old new
+  pub done : precise → OnOk result (new ≡ old)
+  pub unfailing : sure → IsErrOf result Fault → ⊥
+  pub steady : sure → new ≡ old
+
+-- Work that reads counts its faults as faults of reading, and leaves all else of the counts. A reliable host is sure not to fail where what is asked
+-- for is there.
+pub record CountsReading {A : Type 0} (result : Result A Failed) (there : Type 0) (old new : Counts) : Type 0 where
+  pub rest : new ≡ record old { read_faults = new.read_faults }
+  pub own : IsCounted result ((old.reliable ≡ true) × there) (old.precise ≡ true) old.read_faults new.read_faults
+
+-- Work that writes counts its faults as faults of writing, and leaves all else of the counts. A reliable host is sure not to fail.
+pub record CountsWriting {A : Type 0} (result : Result A Failed) (old new : Counts) : Type 0 where
+  pub rest : new ≡ record old { write_faults = new.write_faults }
+  pub own : IsCounted result (old.reliable ≡ true) (old.precise ≡ true) old.write_faults new.write_faults
+
+-- a call in which memory was wanting counts nothing
+abbrev pub CountsNothing : {A : Type 0} → Result A Failed → Counts → Counts → Type 0
+CountsNothing result old new = IsErrOf result Memory → new ≡ old

@@ -1,7 +1,7 @@
 //! A host over files in memory, whose calls fail where its maker says so.
 ghost use Rattle.std.specs.Prelude.{◌≡◌, ◌≢◌, ◌<◌, ◌↔◌, ◌⊎◌, ◌++◌, [], true, IsSome, map, min, take, drop, length, option_map, string_bytes, Contains, IsNone, IsTrue, IfOk, OnOk, OnErr, IsErrOf};
 ghost use Rattle.std.specs.FinMap as finite;
-ghost use Rattle.gms_host.specs.MemoryState.{files_of, at_start, in_pieces_of, piece, numbered, with_read_fault, with_write_fault, meaning_of, IsToFail, after_open_in, after_read, after_open_out, after_write, after_close_out, after_say};
+ghost use Rattle.gms_host.specs.MemoryState.{file_of, files_of, at_start, in_pieces_of, piece, numbered, with_read_fault, with_write_fault, meaning_of, IsToFail, after_open_in, after_read, after_open_out, after_write, after_close_out, after_say};
 
 use crate::host::{Failed, Host};
 use std::alloc::Global;
@@ -21,9 +21,11 @@ pub struct MemHost {
     calls: u64,
     input: Vec<u8>,
     given: usize,
+    named: String,
     output: Vec<u8>,
     said: Vec<u8>,
     asked: Vec<String>,
+    kept: Vec<(String, Vec<u8>)>,
     reading: bool,
     writing: bool,
     read_faults: u64,
@@ -32,7 +34,7 @@ pub struct MemHost {
 
 impl Model for MemHost {
     ghost use Rattle.std.specs.Prelude.{◌≤◌, ◌<◌, IfSome, drop, length, map, string_bytes};
-    ghost use Rattle.gms_host.specs.MemoryState.{MemoryState, state_code, files_of};
+    ghost use Rattle.gms_host.specs.MemoryState.{MemoryState, state_code, files_of, file_of};
 
     ghost Value = { MemoryState };
 
@@ -44,9 +46,11 @@ impl Model for MemHost {
       most = h.most;
       calls = h.calls;
       input = drop h.given h.input.items;
+      named = string_bytes h.named;
       output = h.output.items;
       said = h.said.items;
       asked = map string_bytes h.asked.items;
+      kept = map file_of h.kept.items;
       reading = h.reading;
       writing = h.writing;
       read_faults = h.read_faults;
@@ -70,9 +74,11 @@ impl MemHost {
             calls: 0,
             input: Vec::new(alloc),
             given: 0,
+            named: String::new(alloc),
             output: Vec::new(alloc),
             said: Vec::new(alloc),
             asked: Vec::new(alloc),
+            kept: Vec::new(alloc),
             reading: false,
             writing: false,
             read_faults: 0,
@@ -108,6 +114,13 @@ impl MemHost {
         ensures { map string_bytes result.now ≡ self.now.asked }
     {
         self.asked.as_slice()
+    }
+
+    /// The names and the bytes of the outputs that were closed so far, in order.
+    pub fn closed(&self) -> &[(String, Vec<u8>)]
+        ensures { map file_of result.now ≡ self.now.kept }
+    {
+        self.kept.as_slice()
     }
 
     /// The bytes of the opened output so far.
@@ -166,7 +179,7 @@ impl MemHost {
 impl Host for MemHost {
     ghost meaning = { meaning_of };
 
-    ghost tells_input = { λ _ told. told };
+    ghost tells_whole = { λ _. record { input = λ told. told; output = λ told. (told, told) } };
 
     /// Opens the file of that name, and notes the name among those asked for.
     ///
@@ -230,7 +243,9 @@ impl Host for MemHost {
         if self.begin_call() {
             return Err(self.write_fault());
         }
+        let named = String::from_str(self.alloc, name)?;
         self.asked.push(String::from_str(self.alloc, name)?)?;
+        self.named = named;
         self.writing = true;
         Ok(())
     }
@@ -254,19 +269,21 @@ impl Host for MemHost {
         Ok(count)
     }
 
-    /// Closes the output, whose bytes stand.
+    /// Closes the output, whose bytes stand, and keeps a copy of it with its name.
     ///
-    /// It is a fault exactly where the call is to fail, and takes no memory. The output is closed then too.
+    /// It is a fault exactly where the call is to fail. Where it fails the output is closed too, and no copy is kept.
     fn close_out(&mut self) -> Result<(), Failed>
         requires { self.old.writing ≡ true }
         ensures after { self.new ≡ after_close_out self.old result }
         ensures exact { IsErrOf result Failed.Fault ↔ IsToFail self.old }
-        ensures no_growth { result ≢ Err Failed.Memory }
     {
         self.writing = false;
         if self.begin_call() {
             return Err(self.write_fault());
         }
+        let name = String::from_str(self.alloc, self.named.as_str())?;
+        let bytes = Vec::from_slice(self.alloc, self.output.as_slice())?;
+        self.kept.push((name, bytes))?;
         Ok(())
     }
 

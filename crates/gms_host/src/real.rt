@@ -60,7 +60,7 @@ impl<R: Files> RealHost<R> {
 impl<R: Files + Print> Host for RealHost<R> {
     ghost meaning = { meaning_of };
 
-    ghost tells_input = { λ _ told. told };
+    ghost tells_whole = { λ _. record { input = λ told. told; output = λ told. (told, told) } };
 
     fn open_in(&mut self, name: &str) -> Result<(), Failed> {
         self.input = None;

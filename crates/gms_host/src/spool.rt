@@ -1,8 +1,7 @@
 //! A buffer through which a text goes out to a host.
-ghost use Rattle.std.specs.Prelude.{◌≡◌, ◌<◌, ◌≤◌, ◌+◌, ◌++◌, [], true, length, IfOk, OnOk, OnErr, IsErrOf};
-ghost use Rattle.gms_host.specs.Meaning.{Rose};
-ghost use Rattle.gms_host.specs.Rules.{Steady, Precise};
-ghost use Rattle.gms_host.specs.Spooling.{Passes, Fails, WritesFront, WritesAll};
+ghost use Rattle.std.specs.Prelude.{◌≡◌, ◌<◌, ◌≤◌, ◌+◌, ◌++◌, [], true, length, IfOk, OnOk};
+ghost use Rattle.gms_host.specs.Rules.{CountsWriting};
+ghost use Rattle.gms_host.specs.Spooling.{WritesAll, PutsThrough};
 
 use crate::host::{Failed, Host};
 use std::alloc::{AllocError, Global};
@@ -32,12 +31,9 @@ impl Model for Spool {
 
 /// Writes all of these bytes.
 fn write_all<H: Host>(host: &mut H, bytes: &[u8]) -> Result<(), Failed>
-    requires { (H.meaning host.old).writing ≡ true }
-    ensures whole { OnOk result (WritesAll (H.meaning host.old) (H.meaning host.new) bytes.now) }
-    ensures part { OnErr result (WritesFront (H.meaning host.old) (H.meaning host.new) bytes.now) }
-    ensures fault { IsErrOf result Failed.Fault → Rose (H.meaning host.old).write_faults (H.meaning host.new).write_faults }
-    ensures steady { Steady (H.meaning host.old) (H.meaning host.new) result }
-    ensures precise { OnOk result (Precise (H.meaning host.old) (H.meaning host.new)) }
+    requires { (H.meaning host.old).outside.writing ≡ true }
+    ensures outside { WritesAll result (H.meaning host.old).outside (H.meaning host.new).outside bytes.now }
+    ensures counts { CountsWriting result (H.meaning host.old).counts (H.meaning host.new).counts }
 {
     let mut rest = bytes;
     while !rest.is_empty() {
@@ -61,14 +57,12 @@ impl Spool {
     ///
     /// The output followed by what is pending then is what it was, followed by the text. It fails only where a `write` of the host does;
     /// then the output begins with what it was, and goes on with the front of what was pending and of the text, and nothing is pending.
-    /// It takes no memory.
+    /// It takes no memory, and leaves all of the host but its output and its count of faults of writing.
     pub fn put<H: Host>(&mut self, host: &mut H, text: &[u8]) -> Result<(), Failed>
-        requires { (H.meaning host.old).writing ≡ true }
-        ensures passed { OnOk result (Passes (H.meaning host.old) (H.meaning host.new) (self.old ++ text.now) self.new) }
-        ensures failed { OnErr result (Fails (H.meaning host.old) (H.meaning host.new) (self.old ++ text.now) self.new) }
-        ensures fault { IsErrOf result Failed.Fault → Rose (H.meaning host.old).write_faults (H.meaning host.new).write_faults }
-        ensures steady { Steady (H.meaning host.old) (H.meaning host.new) result }
-        ensures precise { OnOk result (Precise (H.meaning host.old) (H.meaning host.new)) }
+        requires { (H.meaning host.old).outside.writing ≡ true }
+        ensures outside { PutsThrough result (H.meaning host.old).outside (H.meaning host.new).outside (self.old ++ text.now) self.new }
+        ensures room { length self.new ≤ 4096 }
+        ensures counts { CountsWriting result (H.meaning host.old).counts (H.meaning host.new).counts }
     {
         let mut rest = text;
         while !rest.is_empty() {
@@ -77,18 +71,17 @@ impl Spool {
             self.append(&rest[..count]);
             rest = &rest[count..];
         }
+        // No more is pending than there is room for.
+        let _ = &self.pending;
         Ok(())
     }
 
     /// Writes what is pending where there is no room behind it.
     fn make_room<H: Host>(&mut self, host: &mut H) -> Result<(), Failed>
-        requires { (H.meaning host.old).writing ≡ true }
-        ensures passed { OnOk result (Passes (H.meaning host.old) (H.meaning host.new) self.old self.new) }
+        requires { (H.meaning host.old).outside.writing ≡ true }
+        ensures outside { PutsThrough result (H.meaning host.old).outside (H.meaning host.new).outside self.old self.new }
         ensures room { OnOk result (length self.new < 4096) }
-        ensures failed { OnErr result (Fails (H.meaning host.old) (H.meaning host.new) self.old self.new) }
-        ensures fault { IsErrOf result Failed.Fault → Rose (H.meaning host.old).write_faults (H.meaning host.new).write_faults }
-        ensures steady { Steady (H.meaning host.old) (H.meaning host.new) result }
-        ensures precise { OnOk result (Precise (H.meaning host.old) (H.meaning host.new)) }
+        ensures counts { CountsWriting result (H.meaning host.old).counts (H.meaning host.new).counts }
     {
         if self.pending.len() < ROOM {
             Ok(())
@@ -111,15 +104,12 @@ impl Spool {
     ///
     /// The output then is what it was, followed by what was pending, and nothing is pending. It fails only where a `write` of the host
     /// does; then the output begins with what it was, and goes on with the front of what was pending, and nothing is pending. It takes no
-    /// memory.
+    /// memory, and leaves all of the host but its output and its count of faults of writing.
     pub fn flush<H: Host>(&mut self, host: &mut H) -> Result<(), Failed>
-        requires { (H.meaning host.old).writing ≡ true }
-        ensures written { OnOk result (WritesAll (H.meaning host.old) (H.meaning host.new) self.old) }
-        ensures failed { OnErr result (WritesFront (H.meaning host.old) (H.meaning host.new) self.old) }
+        requires { (H.meaning host.old).outside.writing ≡ true }
+        ensures outside { WritesAll result (H.meaning host.old).outside (H.meaning host.new).outside self.old }
         ensures pending { self.new ≡ [] }
-        ensures fault { IsErrOf result Failed.Fault → Rose (H.meaning host.old).write_faults (H.meaning host.new).write_faults }
-        ensures steady { Steady (H.meaning host.old) (H.meaning host.new) result }
-        ensures precise { OnOk result (Precise (H.meaning host.old) (H.meaning host.new)) }
+        ensures counts { CountsWriting result (H.meaning host.old).counts (H.meaning host.new).counts }
     {
         let written = write_all(host, self.pending.as_slice());
         self.pending.clear();

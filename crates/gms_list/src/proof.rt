@@ -140,7 +140,7 @@ impl Listing {
         requires there { bound_of F.value with_objective lp.now (map F.value duals.now) ≢ None }
         ensures { Appends result self.old self.new (bound_lines F.limit (lp_numbers F.value lp.now) (map F.value duals.now) with_objective) }
     {
-        match dual_bound(lp, with_objective, duals) {
+        match dual_bound(alloc, lp, with_objective, duals) {
             Ok(bound) => {
                 let mut digits = Digits::new();
                 let number = exact(bound, &mut digits);

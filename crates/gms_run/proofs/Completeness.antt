@@ -1,12 +1,16 @@
 -- A program that the host has is run, where no fault is met.
-use Rattle.std.proofs.Common.{◌≡◌, ◌≢◌, ℕ, true, List, [], Option, Some, None, IfSome, is_some, option_map, refl, sym, ap, ◌∙◌, subst, ◌⊎◌, inl, inr}
+use Rattle.std.proofs.Common.{◌≡◌, ℕ, true, List, Option, Some, None, IfSome, is_some, refl, sym, ap, ◌∙◌, subst, ◌⊎◌, inl, inr}
 use Rattle.std.specs.FinMap as files_map
-use Rattle.gms_host.specs.Meaning.{Meaning, Files}
+use Rattle.std.specs.Prelude.{◌↔◌}
+use Rattle.gms_host.specs.Meaning.{Meaning, Files, Outside}
 use Rattle.gq_frac.specs.Frac.{frac_value}
 use Rattle.gms_run.specs.declared.status.Status.{Status}
 use Rattle.gms_run.specs.declared.status.Status.TheVariants.{Done, Usage, Compile, Execution, ReadFault, WriteFault}
-use Rattle.gms_words.specs.CommandLine.{Asked, Origin, in_file, generated}
-use Rattle.gms_run.specs.Answers.{Solving, SolvesNothing, AnswersSo, HasOrigin, HasSource, IsListing, IsReported, IsReadyFor, IsSourceOf, ListsSource, NamesProgram, MeetsNoFault, number_limit, status_code}
+use Rattle.gms_words.specs.CommandLine.{Asked, Origin, in_file, generated, request_of}
+use Rattle.gms_run.specs.Solving.{Solving, number_limit}
+use Rattle.gms_run.specs.Jobs.{status_code}
+use Rattle.gms_run.specs.Statuses.{CountsSo, EndsByNoFault, HasOrigin, IsReadyFor, IsRun, IsRunOf, IsSource, IsSourceOf, MeetsNoFault, NamesProgram}
+use Rattle.gms_parse.specs.Outcomes.{IsProgram}
 use Rattle.gms_run.proofs.OneReading.{program_or_fault}
 
 -- two values of one option are one
@@ -14,58 +18,60 @@ pub one_value : {A : Type 0} {o : Option A} {x y : A} → o ≡ Some x → o ≡
 one_value p q = cc
 
 -- A reliable host is ready for words that name a program.
-ready_for : (solvers : List (List ℕ)) (old : Meaning) (words : List (List ℕ)) → NamesProgram solvers old words → old.reliable ≡ true → IsReadyFor old words
+ready_for : (solvers : List (List ℕ)) (old : Meaning) (words : List (List ℕ)) → NamesProgram solvers old.outside words → old.counts.reliable ≡ true → IsReadyFor old words
 ready_for solvers old words n reliable =
-    record { reliable = reliable; there = subst (λ (o : Option Asked). IfSome o (λ request. HasOrigin old request.source)) (sym n.named) (found n.request.source n.found) }
+    record { reliable = reliable; there = subst (λ (o : Option Asked). IfSome o (λ request. HasOrigin old.outside request.source)) (sym n.named) (found n.request.source n.found) }
   where
-    found : (o : Origin) → IsSourceOf old o n.source → HasOrigin old o
+    found : (o : Origin) → IsSourceOf old.outside o n.source → HasOrigin old.outside o
     found (in_file file) f = subst (λ (files : Option Files). IfSome files (λ fs. is_some (files_map.get fs file) ≡ true)) (sym f.1) (ap is_some f.2)
     found (generated size) f = tt
 
--- what holds of the source of an origin as it is told holds of this one
-of_source : (old : Meaning) (o : Origin) (source : List ℕ) (P : List ℕ → Type 0) → IsSourceOf old o source → HasSource old o P → P source
-of_source old (in_file file) source P f h =
-    let told = subst (λ (o : Option Files). IfSome o (λ files. (s : List ℕ) × (files_map.get files file ≡ Some s) × P s)) f.1 h in
-    subst P (sym (one_value f.2 told.1)) told.2
-of_source old (generated size) source P f h = subst P (sym f) h
+-- where the host tells a source it is the source
+the_source : (old : Outside) (o : Origin) (told source : List ℕ) → IsSourceOf old o told → IsSource old o source → source ≡ told
+the_source old (in_file file) told source f is =
+    let at : files_map.get f.0 file ≡ Some source = subst (λ (files : Option Files). IfSome files (λ fs. files_map.get fs file ≡ Some source)) f.1 is in
+    one_value at f.2
+the_source old (generated size) told source f is = is ∙ sym f
 
 -- A program without errors is not refused.
-not_refused : (solving : Solving) (old new : Meaning) (words : List (List ℕ)) (request : Asked) → IsReported Compile solving old new request → (n : NamesProgram solving.solvers old words) → n.request ≡ request → ⊥
-not_refused solving old new words request is n same =
-    let listed = of_source old n.request.source n.source (λ source. (text : List ℕ) × IsListing Compile solving source text × (new.output ≡ option_map (λ _. text) old.output)) n.found (subst (λ (r : Asked). ListsSource Compile solving old new r.source) (sym same) is.listing) in
-    elim listed.1.0 [
-      | inl refusal ↦ program_or_fault number_limit n.source frac_value n.program refusal.fault n.is_program refusal.refused
-      | inr errors ↦ errors.some (n.no_error errors.program errors.is_program)
+not_refused : (solving : Solving) (old new : Outside) (words : List (List ℕ)) (request : Asked) → IsRunOf Compile solving old new request → (n : NamesProgram solving.before.names old words) → n.request ≡ request → ⊥
+not_refused solving old new words request run n same =
+    let is : run.source ≡ n.source = the_source old n.request.source n.source run.source n.found (subst (λ (r : Asked). IsSource old r.source run.source) (sym same) run.is_source) in
+    elim run.ran.listing.0 [
+      | inl refusal ↦ program_or_fault number_limit run.source frac_value n.program refusal.fault (subst (λ (s : List ℕ). IsProgram number_limit s frac_value n.program) (sym is) n.is_program) refusal.refused
+      | inr errors ↦ errors.some (n.no_error errors.program (subst (λ (s : List ℕ). IsProgram number_limit s frac_value errors.program) is errors.is_program))
     ]
 
 -- What a run did that met no fault, for words that name a program: it ended with 0 or with 3.
-pub completes : (status : Status) (solving : Solving) (words : List (List ℕ)) (old new : Meaning) → AnswersSo status solving words old new → (IsReadyFor old words → (status ≢ ReadFault) × (status ≢ WriteFault)) → NamesProgram solving.solvers old words → MeetsNoFault old new → (status_code status ≡ 0) ⊎ (status_code status ≡ 3)
-completes Done solving words old new answers steady n unmet = inl refl
-completes Execution solving words old new answers steady n unmet = inr refl
-completes Usage solving words old new answers steady n unmet = let z : ⊥ = (let e : None ≡ Some n.request = sym answers.0.refused ∙ n.named in cc) in absurd z
-completes Compile solving words old new answers steady n unmet = absurd (not_refused solving old new words answers.0 answers.2 n (one_value n.named answers.1))
-completes ReadFault solving words old new answers steady n (inl reliable) = absurd ((steady (ready_for solving.solvers old words n reliable)).0 refl)
-completes ReadFault solving words old new answers steady n (inr none) = absurd (none.0 answers.2.0.rose)
-completes WriteFault solving words old new answers steady n (inl reliable) = absurd ((steady (ready_for solving.solvers old words n reliable)).1 refl)
-completes WriteFault solving words old new answers steady n (inr none) = absurd (none.1 answers.2.rose)
+pub completes : (status : Status) (solving : Solving) (words : List (List ℕ)) (old new : Meaning) → IsRun status solving words old new → CountsSo status old.counts new.counts → (IsReadyFor old words → EndsByNoFault status) → NamesProgram solving.before.names old.outside words → MeetsNoFault old.counts new.counts → (status_code status ≡ 0) ⊎ (status_code status ≡ 3)
+completes Done solving words old new run counts unmet n none = inl refl
+completes Execution solving words old new run counts unmet n none = inr refl
+completes Usage solving words old new run counts unmet n none = let z : ⊥ = (let e : None ≡ Some n.request = sym run.0 ∙ n.named in cc) in absurd z
+completes Compile solving words old new run counts unmet n none = absurd (not_refused solving old.outside new.outside words run.0 run.1.1 n (one_value n.named run.1.0))
+completes ReadFault solving words old new run counts unmet n (inl reliable) = absurd (unmet (ready_for solving.before.names old words n reliable))
+completes ReadFault solving words old new run counts unmet n (inr none) = absurd (none.0 counts)
+completes WriteFault solving words old new run counts unmet n (inl reliable) = absurd (unmet (ready_for solving.before.names old words n reliable))
+completes WriteFault solving words old new run counts unmet n (inr none) = absurd (none.1 counts)
 
--- Where the words are refused or the file is not read, nothing is solved.
-solves_nothing : (status : Status) (solving : Solving) (words : List (List ℕ)) (old new : Meaning) → AnswersSo status solving words old new → (status_code status ≡ 1) ⊎ (status_code status ≡ 4) → SolvesNothing solving
-solves_nothing Usage solving words old new answers is = answers.1
-solves_nothing ReadFault solving words old new answers is = answers.2.1
-solves_nothing Done solving words old new answers (inl is) = let z : ⊥ = cc in absurd z
-solves_nothing Done solving words old new answers (inr is) = let z : ⊥ = cc in absurd z
-solves_nothing Compile solving words old new answers (inl is) = let z : ⊥ = cc in absurd z
-solves_nothing Compile solving words old new answers (inr is) = let z : ⊥ = cc in absurd z
-solves_nothing Execution solving words old new answers (inl is) = let z : ⊥ = cc in absurd z
-solves_nothing Execution solving words old new answers (inr is) = let z : ⊥ = cc in absurd z
-solves_nothing WriteFault solving words old new answers (inl is) = let z : ⊥ = cc in absurd z
-solves_nothing WriteFault solving words old new answers (inr is) = let z : ⊥ = cc in absurd z
+-- the words are refused exactly where the status says so
+pub refused_so : (status : Status) (solving : Solving) (words : List (List ℕ)) (old new : Meaning) → IsRun status solving words old new → (status_code status ≡ 1) ↔ (request_of words ≡ None)
+refused_so status solving words old new run = (there status run, back status run)
+  where
+    there : (s : Status) → IsRun s solving words old new → status_code s ≡ 1 → request_of words ≡ None
+    there Usage run e = run.0
+    there Done run e = let z : ⊥ = cc in absurd z
+    there Compile run e = let z : ⊥ = cc in absurd z
+    there Execution run e = let z : ⊥ = cc in absurd z
+    there ReadFault run e = let z : ⊥ = cc in absurd z
+    there WriteFault run e = let z : ⊥ = cc in absurd z
 
--- No answer is given then.
-pub none_given : (status : Status) (solving : Solving) (words : List (List ℕ)) (old new : Meaning) → AnswersSo status solving words old new → (status_code status ≡ 1) ⊎ (status_code status ≡ 4) → solving.answers ≡ []
-none_given status solving words old new answers is = (solves_nothing status solving words old new answers is).0
+    asks : (request : Asked) → request_of words ≡ Some request → request_of words ≡ None → ⊥
+    asks request named none = cc
 
--- And the paths stay.
-pub paths_kept : (status : Status) (solving : Solving) (words : List (List ℕ)) (old new : Meaning) → AnswersSo status solving words old new → (status_code status ≡ 1) ⊎ (status_code status ≡ 4) → solving.paths_after ≡ solving.paths_before
-paths_kept status solving words old new answers is = (solves_nothing status solving words old new answers is).1
+    back : (s : Status) → IsRun s solving words old new → request_of words ≡ None → status_code s ≡ 1
+    back Usage run none = refl
+    back Done run none = absurd (asks run.0 run.1.0 none)
+    back Compile run none = absurd (asks run.0 run.1.0 none)
+    back Execution run none = absurd (asks run.0 run.1.0 none)
+    back ReadFault run none = absurd (asks run.0 run.1.0 none)
+    back WriteFault run none = absurd (asks run.0 run.1.0 none)

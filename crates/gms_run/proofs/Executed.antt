@@ -23,10 +23,9 @@ use Rattle.gms_exec.specs.Walks.{Runs, Seen, come_to}
 use Rattle.gms_exec.proofs.Behind.{behind}
 use Rattle.gms_list.specs.Conditions.{IsListable}
 use Rattle.gms_list.specs.ListingText.{event_text, events_text}
-use Rattle.gms_run.specs.Answers.{number_limit}
-use Rattle.gms_run.proofs.Paths.{Grew}
+use Rattle.gms_run.specs.Solving.{HaveGrown, number_limit}
 use Rattle.gms_run.proofs.Proved.{listable}
-use Rattle.gms_run.specs.Steps.{Between, IsListed, course_at}
+use Rattle.gms_run.specs.InnerSteps.{Between, IsListed, course_at}
 
 -- what was shown stands, where nothing was shown before
 pub all_stand : (rules : List Rule) (answers : List (Answer Frac)) (before events : List (OwnEvent Frac)) → before ≡ [] → ShowsStanding frac_value number_limit rules answers before events → All (IsStanding frac_value number_limit rules answers) events
@@ -56,7 +55,7 @@ module _ (program : Program Frac) (rules : List Rule) (does : Course → Course)
   behind_front front left = ap (λ es. does (course_at old es left None)) (sym (append-nil front)) ∙ is_behind front (come_to frac_value seen_old left)
 
   -- A statement that was executed goes on.
-  pub listed_on : {A : Type 0} (x : A) (none : List (OwnEvent Frac)) (before after : List ℕ) → none ≡ [] → Runs frac_value (let r : Result A (StopOrMemory Frac) = Ok x in r) does (seen_before none) seen_new → All (IsStanding frac_value number_limit rules new.answers) events → Grew old.paths new.paths new.answers (events_in frac_value events) →
+  pub listed_on : {A : Type 0} (x : A) (none : List (OwnEvent Frac)) (before after : List ℕ) → none ≡ [] → Runs frac_value (let r : Result A (StopOrMemory Frac) = Ok x in r) does (seen_before none) seen_new → All (IsStanding frac_value number_limit rules new.answers) events → HaveGrown old.solvers new.solvers new.answers (events_in frac_value events) →
       after ≡ before ++ events_text program.names program.labels number_limit numbers (events_in frac_value events) → IsListed true does program rules old new before after
   listed_on {A} x none before after e given standing grown text =
       let runs : Runs frac_value (let r : Result A (StopOrMemory Frac) = Ok x in r) does seen_old seen_new = subst (λ es. Runs frac_value (let r : Result A (StopOrMemory Frac) = Ok x in r) does (seen_before es) seen_new) e given in
@@ -73,7 +72,7 @@ module _ (program : Program Frac) (rules : List Rule) (does : Course → Course)
       }
 
   -- A statement that a stop ended is listed with its fault.
-  pub listed_stop : {A : Type 0} (stop : ExecStop Frac) (none : List (OwnEvent Frac)) (before middle after : List ℕ) → none ≡ [] → Runs frac_value (let r : Result A (StopOrMemory Frac) = Err (Stop stop) in r) does (seen_before none) seen_new → All (IsStanding frac_value number_limit rules new.answers) events → Grew old.paths new.paths new.answers (events_in frac_value events) →
+  pub listed_stop : {A : Type 0} (stop : ExecStop Frac) (none : List (OwnEvent Frac)) (before middle after : List ℕ) → none ≡ [] → Runs frac_value (let r : Result A (StopOrMemory Frac) = Err (Stop stop) in r) does (seen_before none) seen_new → All (IsStanding frac_value number_limit rules new.answers) events → HaveGrown old.solvers new.solvers new.answers (events_in frac_value events) →
       middle ≡ before ++ events_text program.names program.labels number_limit numbers (events_in frac_value events) →
       after ≡ middle ++ event_text program.names program.labels number_limit numbers (stops (fault_of frac_value stop)) → IsListed false does program rules old new before after
   listed_stop {A} stop none before middle after e given standing grown text more =

@@ -1,34 +1,30 @@
--- How far the execution of a program has come, statement by statement, and what has gone out of its listing.
-use Rattle.std.proofs.Common.{◌≡◌, ℕ, ◌+◌, ◌<◌, ◌≤◌, Bool, true, false, List, [], ◌∷◌, ◌++◌, length, map, take, get_or, refl, sym, ap, ◌∙◌, subst, append_assoc, append-nil, inl, inr, arith}
-use Rattle.std.specs.Prelude.{min}
-use Rattle.std.proofs.lemmas.List.{take-map, take_more, map_push, take-append-le, take_all, length-map}
-use Rattle.std.proofs.Math.Nat.{le-min, min-le_left, min-le_right}
-use Rattle.std.proofs.lemmas.Bool.{cases_lt}
+-- How far the execution of a job has come, statement by statement, and what has gone out of its listing.
+use Rattle.std.proofs.Common.{◌≡◌, ℕ, ◌+◌, ◌<◌, ◌≤◌, Bool, true, false, List, [], ◌∷◌, ◌++◌, length, map, take, get_or, refl, sym, ap, ◌∙◌, subst, append_assoc, append-nil, inl, inr, arith, length-append}
+use Rattle.std.proofs.lemmas.List.{take-map, take_more, map_push, length-map}
 use Rattle.gq_frac.specs.declared.frac.Frac.{Frac}
 use Rattle.gq_frac.specs.Frac.{frac_value}
 use Rattle.gms_ast.specs.declared.program.Program.{Program}
+use Rattle.gms_ast.specs.declared.program.Stmt.{Stmt}
 use Rattle.gms_check.specs.Loaded.{loaded}
 use Rattle.gms_store.specs.State.{State}
-use Rattle.gms_ast.specs.declared.program.Stmt.{Stmt}
-use Rattle.gms_host.specs.Meaning.{Meaning, Rose, greatest_count}
-use Rattle.gms_host.specs.Rules.{Writes}
+use Rattle.gms_host.specs.Meaning.{Meaning, Outside}
+use Rattle.gms_host.specs.Rules.{CountsWriting}
 use Rattle.gms_host.specs.Spooling.{Passes, WritesFront}
-use Rattle.gms_host.proofs.Calmness.{Calm, calm_none, calm_more}
-use Rattle.gms_host.proofs.Fronts.{Writes-none, Writes-more}
+use Rattle.gms_host.proofs.Counting.{all_done}
+use Rattle.gms_host.proofs.Fronts.{front_longer, output-both, passes_none, passes_on}
 use Rattle.lp_core.specs.declared.answer.Answer.{Answer}
 use Rattle.lp_core.specs.declared.answer.Rule.{Rule}
-use Rattle.gms_exec.specs.Run.{Course, one_after_another, while_it_runs}
+use Rattle.gms_exec.specs.Run.{Course, one_after_another, of_statement, while_it_runs}
 use Rattle.gms_exec.specs.Dimensions.{AreOneDimensional}
 use Rattle.gms_exec.specs.Walks.{AreKept}
-use Rattle.gms_run.specs.Steps.{Between, IsListed}
-use Rattle.gms_run.proofs.Listed.{listed_none, listed_more, one_more}
+use Rattle.gms_list.specs.ListingText.{echo_text}
 use Rattle.gms_run.specs.declared.status.Status.{Status}
 use Rattle.gms_run.specs.declared.status.Status.TheVariants.{Done, Execution}
-use Rattle.gms_run.specs.Answers.{Solving, course_of}
-use Rattle.gms_run.specs.Outside.{ComesToRest, RunsTo, shown_by}
-use Rattle.gms_run.proofs.Outlets.{front_of_due}
-use Rattle.gms_run.proofs.Paths.{AllPaths}
-use Rattle.gms_run.proofs.Rest.{Ends, begin, comes_to_rest, ends_done, ends_stopped, statements, statement_of}
+use Rattle.gms_run.specs.Solving.{Solvers, Solving, number_limit}
+use Rattle.gms_run.specs.Jobs.{IsSolved, Job, first_of, job_of, shown_by}
+use Rattle.gms_run.specs.InnerSteps.{Between, BreaksBehind, BreaksJob, EndsBehind, EndsJob, IsListed, work}
+use Rattle.gms_run.proofs.Listed.{listed_none, listed_more, one_more}
+use Rattle.gms_run.proofs.Rest.{Done_so, EndsWith, begin, comes_to_rest, ends_done, ends_stopped, shown_by_first, solving_with, statements, statement_of, taken_by_first}
 
 -- a text that was listed behind another is one of its own
 pub alone : (goes_on : Bool) (does : Course → Course) (program : Program Frac) (rules : List Rule) (old new : Between) (before after : List ℕ) → IsListed goes_on does program rules old new before after →
@@ -46,180 +42,201 @@ pub same_listed : (goes_on : Bool) (f h : Course → Course) (program : Program 
 same_listed goes_on f h program rules old new before after same p =
     record { shown = p.shown; fault = p.fault; end = p.end; fresh = p.fresh; answers = p.answers; standing = p.standing; grown = p.grown; comes = λ events more. same _ ∙ p.comes events more; text = p.text }
 
-module _ (program : Program Frac) (solvers : List (List ℕ)) (rules : List Rule) (paths : AllPaths) where
-  abbrev pub Done_so : Bool → ℕ → Between → List ℕ → Type 0
-  Done_so goes_on i now text = IsListed goes_on (one_after_another (take i (statements program solvers rules paths)) []) program rules (begin program solvers rules paths) now [] text
-
+module _ (job : Job) (before : Solvers) where
   -- nothing was executed
-  pub done_none : Done_so true 0 (begin program solvers rules paths) []
-  done_none = listed_none program rules (begin program solvers rules paths) []
+  pub done_none : Done_so job before true 0 (begin job before) []
+  done_none = listed_none job.program before.rules (begin job before) []
 
   -- One statement more was executed.
-  pub done_more : (i : ℕ) (s : Stmt Frac) (goes_on : Bool) (now next : Between) (text more : List ℕ) → i < length program.statements.items → s ≡ get_or program.statements.items i s →
-      Done_so true i now text → IsListed goes_on (statement_of program solvers rules paths s []) program rules now next [] more → Done_so goes_on (i + 1) next (text ++ more)
+  pub done_more : (i : ℕ) (s : Stmt Frac) (goes_on : Bool) (now next : Between) (text more : List ℕ) → i < length job.statements → s ≡ get_or job.statements i s →
+      Done_so job before true i now text → IsListed goes_on (statement_of job before s []) job.program before.rules now next [] more → Done_so job before goes_on (i + 1) next (text ++ more)
   done_more i s goes_on now next text more l is p q =
-      let ss = statements program solvers rules paths in
-      let f = statement_of program solvers rules paths in
+      let ss = statements job before in
+      let f = statement_of job before in
       let front : take (i + 1) ss ≡ take i ss ++ f s ∷ [] =
-      take-map f (i + 1) program.statements.items ∙ ap (map f) (take_more program.statements.items i s l ∙ ap (λ x. take i program.statements.items ++ x ∷ []) (sym is)) ∙ map_push f (take i program.statements.items) s ∙ ap (λ xs. xs ++ f s ∷ []) (sym (take-map f i program.statements.items)) in
-      same_listed goes_on (λ c. while_it_runs (f s []) (one_after_another (take i ss) [] c)) (one_after_another (take (i + 1) ss) []) program rules (begin program solvers rules paths) next [] (text ++ more)
+      take-map f (i + 1) job.statements ∙ ap (map f) (take_more job.statements i s l ∙ ap (λ x. take i job.statements ++ x ∷ []) (sym is)) ∙ map_push f (take i job.statements) s ∙ ap (λ xs. xs ++ f s ∷ []) (sym (take-map f i job.statements)) in
+      same_listed goes_on (λ c. while_it_runs (f s []) (one_after_another (take i ss) [] c)) (one_after_another (take (i + 1) ss) []) job.program before.rules (begin job before) next [] (text ++ more)
       (λ c. ap (λ xs. one_after_another xs [] c) front ∙ one_more (take i ss) (f s) [] c)
-      (listed_more program rules goes_on (one_after_another (take i ss) []) (f s []) (begin program solvers rules paths) now next [] text (text ++ more) p (onto goes_on (f s []) program rules now next text more q))
+      (listed_more job.program before.rules goes_on (one_after_another (take i ss) []) (f s []) (begin job before) now next [] text (text ++ more) p (onto goes_on (f s []) job.program before.rules now next text more q))
 
--- What has gone out when so many statements were executed.
-pub record HasCome (program : Program Frac) (solvers : List (List ℕ)) (rules : List Rule) (paths : AllPaths) (old now : Meaning) (pending listing : List ℕ) (i : ℕ) (at : Between) (left : List ℕ) : Type 0 where
+  -- What a statement did for solvers of the same names and rules.
+  listed_for : (names_now : List (List ℕ)) (rules_now : List Rule) (goes_on : Bool) (s : Stmt Frac) (now next : Between) (x y : List ℕ) → names_now ≡ before.names → rules_now ≡ before.rules →
+      IsListed goes_on (of_statement frac_value number_limit (record { program = job.program; solvers = names_now }) s []) job.program rules_now now next x y → IsListed goes_on (statement_of job before s []) job.program before.rules now next x y
+  listed_for names_now rules_now goes_on s now next x y same_names same_rules p =
+      subst (λ rs. IsListed goes_on (statement_of job before s []) job.program rs now next x y) same_rules
+      (subst (λ ns. IsListed goes_on (of_statement frac_value number_limit (record { program = job.program; solvers = ns }) s []) job.program rules_now now next x y) same_names p)
+
+-- no more is left than a spool has, where nothing stands behind it
+pub room_behind : (spool rest : List ℕ) → length spool ≤ 4096 → rest ≡ [] → length (spool ++ rest) ≤ 4096
+room_behind spool rest few none = subst (λ t. length t ≤ 4096) (sym (ap (λ t. spool ++ t) none ∙ append-nil spool)) few
+
+-- What has gone out, behind a text that is due, when so many statements were executed.
+pub record HasCome (job : Job) (before : Solvers) (old now : Outside) (due : List ℕ) (i : ℕ) (at : Between) (left : List ℕ) : Type 0 where
   pub text : List ℕ
-  pub done : Done_so program solvers rules paths true i at text
-  pub passes : Passes old now (pending ++ (listing ++ text)) left
-  pub calm : Calm old now
+  pub done : Done_so job before true i at text
+  pub passes : Passes old now (due ++ text) left
 
--- ---- fronts
-
--- the front of a text is one of a longer text
-pub front_longer : (old new : Meaning) (text more : List ℕ) → WritesFront old new text → WritesFront old new (text ++ more)
-front_longer old new text more f =
-    elim (cases_lt (length text) f.0) [
-      | inl past ↦ (length text, subst (Writes old new) (take_all f.0 text (omega (arith, past)) ∙ sym (take-append-le (length text) text more (omega arith) ∙ take_all (length text) text (omega arith))) f.1)
-      | inr within ↦ (f.0, subst (Writes old new) (sym (take-append-le f.0 text more within)) f.1)
-    ]
-
--- What a statement did for solvers of the same names and rules.
-pub listed_for : (program : Program Frac) (solvers names_now : List (List ℕ)) (rules rules_now : List Rule) (paths : AllPaths) (goes_on : Bool) (s : Stmt Frac) (now next : Between) (before after : List ℕ) → names_now ≡ solvers → rules_now ≡ rules →
-    IsListed goes_on (statement_of program names_now rules_now paths s []) program rules_now now next before after → IsListed goes_on (statement_of program solvers rules paths s []) program rules now next before after
-listed_for program solvers names_now rules rules_now paths goes_on s now next before after same_names same_rules p =
-    subst (λ rs. IsListed goes_on (statement_of program solvers rs paths s []) program rs now next before after) same_rules
-    (subst (λ ns. IsListed goes_on (statement_of program ns rules_now paths s []) program rules_now now next before after) same_names p)
-
--- ---- the run of a program
-
-module _ (program : Program Frac) (solvers : List (List ℕ)) (rules : List Rule) (paths : AllPaths) (old : Meaning) (pending listing : List ℕ) where
-  abbrev pub Come : Meaning → ℕ → Between → List ℕ → Type 0
-  Come now i at left = HasCome program solvers rules paths old now pending listing i at left
+module _ (job : Job) (before : Solvers) (old : Outside) (due : List ℕ) where
+  abbrev pub Come : Outside → ℕ → Between → List ℕ → Type 0
+  Come now i at left = HasCome job before old now due i at left
 
   -- before the first statement
-  pub come_start : (at : Between) (left : List ℕ) → at.state ≡ loaded frac_value program → at.answers ≡ [] → at.paths ≡ paths → left ≡ pending ++ listing → Come old 0 at left
-  come_start at left begins none as_before same =
-      let is : at ≡ begin program solvers rules paths =
-      ap (λ (state : State). let b : Between = record { state = state; answers = at.answers; paths = at.paths } in b) begins
-      ∙ ap (λ (answers : List (Answer Frac)). let b : Between = record { state = loaded frac_value program; answers = answers; paths = at.paths } in b) none
-      ∙ ap (λ (ps : AllPaths). let b : Between = record { state = loaded frac_value program; answers = []; paths = ps } in b) as_before in
-      subst (λ at. Come old 0 at left) (sym is) (record {
+  pub come_start : (answers : List (Answer Frac)) → answers ≡ [] → Come old 0 (record { state = job.state; answers = answers; solvers = before }) due
+  come_start answers none =
+      subst (λ (given : List (Answer Frac)). Come old 0 (record { state = job.state; answers = given; solvers = before }) due) (sym none) (record {
         text = [];
-        done = done_none program solvers rules paths;
-        passes = record { bytes = []; written = Writes-none old; split = ap (λ t. pending ++ t) (append-nil listing) ∙ sym same };
-        calm = calm_none old;
+        done = done_none job before;
+        passes = subst (λ d. Passes old old d due) (sym (append-nil due)) (passes_none old due);
       })
 
   -- One statement more was executed, whose listing stands behind what is left.
-  pub record Executes (mid : Meaning) (goes_on : Bool) (i : ℕ) (next : Between) (left : List ℕ) : Type 0 where
+  pub record Executes (mid : Outside) (goes_on : Bool) (i : ℕ) (next : Between) (left : List ℕ) : Type 0 where
     pub text : List ℕ
-    pub done : Done_so program solvers rules paths goes_on i next text
-    pub passes : Passes old mid (pending ++ (listing ++ text)) left
-    pub calm : Calm old mid
+    pub done : Done_so job before goes_on (i + 1) next text
+    pub passes : Passes old mid (due ++ text) left
+    pub pending : length (due ++ shown_by (first_of i job) (solving_with job before next)) ≤ length passes.bytes + 4096
 
-  pub executes_more : (mid : Meaning) (goes_on : Bool) (i : ℕ) (s : Stmt Frac) (now next : Between) (spool before after left : List ℕ) → Come mid i now left → left ≡ spool ++ before → i < length program.statements.items → s ≡ get_or program.statements.items i s →
-      IsListed goes_on (statement_of program solvers rules paths s []) program rules now next before after → Executes mid goes_on (i + 1) next (spool ++ after)
-  executes_more mid goes_on i s now next spool before after left h same l is p =
-      let own = alone goes_on (statement_of program solvers rules paths s []) program rules now next before after p in
+  -- what was shown before is written, but for what is left
+  pends : (text bytes left shown : List ℕ) → due ++ text ≡ bytes ++ left → length left ≤ 4096 → shown ≡ text → length (due ++ shown) ≤ length bytes + 4096
+  pends text bytes left shown split few same =
+      let e : length (due ++ shown) ≡ length (bytes ++ left) = ap (λ (t : List ℕ). length (due ++ t)) same ∙ ap length split in
+      omega (arith, e, length-append bytes left, few)
+
+  pub executes_more : (mid : Outside) (goes_on : Bool) (i : ℕ) (s : Stmt Frac) (now next : Between) (spool x y : List ℕ) → Come mid i now (spool ++ x) → length (spool ++ x) ≤ 4096 → i < length job.statements → s ≡ get_or job.statements i s →
+      IsListed goes_on (of_statement frac_value number_limit (record { program = job.program; solvers = now.solvers.names }) s []) job.program now.solvers.rules now next x y → Executes mid goes_on i next (spool ++ y)
+  executes_more mid goes_on i s now next spool x y h few l is q =
+      let p = listed_for job before now.solvers.names now.solvers.rules goes_on s now next x y h.done.grown.names h.done.grown.rules q in
+      let own = alone goes_on (statement_of job before s []) job.program before.rules now next x y p in
       let more = own.0 in
       record {
         text = h.text ++ more;
-        done = done_more program solvers rules paths i s goes_on now next h.text more l is h.done own.2;
+        done = done_more job before i s goes_on now next h.text more l is h.done own.2;
         passes = record {
           bytes = h.passes.bytes;
           written = h.passes.written;
           split =
-              sym (append_assoc pending (listing ++ h.text) more ∙ ap (λ t. pending ++ t) (append_assoc listing h.text more))
-              ∙ ap (λ t. t ++ more) (h.passes.split ∙ ap (λ t. h.passes.bytes ++ t) same)
-              ∙ append_assoc h.passes.bytes (spool ++ before) more
-              ∙ ap (λ t. h.passes.bytes ++ t) (append_assoc spool before more ∙ ap (λ t. spool ++ t) (sym own.1));
+              sym (append_assoc due h.text more)
+              ∙ ap (λ t. t ++ more) h.passes.split
+              ∙ append_assoc h.passes.bytes (spool ++ x) more
+              ∙ ap (λ t. h.passes.bytes ++ t) (append_assoc spool x more ∙ ap (λ t. spool ++ t) (sym own.1));
         };
-        calm = h.calm;
+        pending = pends h.text h.passes.bytes (spool ++ x) _ h.passes.split few (shown_by_first job before i now next p.fresh h.text p.answers h.done);
       }
 
-  -- The same of the statement at a place of a list, which was executed with solvers of the same names and rules.
-  pub executes_next : (mid : Meaning) (goes_on : Bool) (i : ℕ) (s : Stmt Frac) (now next : Between) (spool before after : List ℕ) (xs : List (Stmt Frac)) (names_now : List (List ℕ)) (rules_now : List Rule) → Come mid i now (spool ++ before) →
-      names_now ≡ solvers → rules_now ≡ rules → xs ≡ program.statements.items → i < length xs → s ≡ get_or xs i s → IsListed goes_on (statement_of program names_now rules_now paths s []) program rules_now now next before after → Executes mid goes_on (i + 1) next (spool ++ after)
-  executes_next mid goes_on i s now next spool before after xs names_now rules_now h same_names same_rules same l is p =
-      executes_more mid goes_on i s now next spool before after (spool ++ before) h refl (subst (λ ys. i < length ys) same l) (is ∙ ap (λ ys. get_or ys i s) same)
-      (listed_for program solvers names_now rules rules_now paths goes_on s now next before after same_names same_rules p)
+  -- the same of the statement at a place of a list
+  pub executes_next : (mid : Outside) (goes_on : Bool) (i : ℕ) (s : Stmt Frac) (now next : Between) (spool x y : List ℕ) (xs : List (Stmt Frac)) → Come mid i now (spool ++ x) → length (spool ++ x) ≤ 4096 → xs ≡ job.statements → i < length xs → s ≡ get_or xs i s →
+      IsListed goes_on (of_statement frac_value number_limit (record { program = job.program; solvers = now.solvers.names }) s []) job.program now.solvers.rules now next x y → Executes mid goes_on i next (spool ++ y)
+  executes_next mid goes_on i s now next spool x y xs h few same l is p =
+      executes_more mid goes_on i s now next spool x y h few (subst (λ ys. i < length ys) same l) (is ∙ ap (λ ys. get_or ys i s) same) p
 
-  -- What is left was passed on.
-  pub executes_passed : (mid new : Meaning) (goes_on : Bool) (i : ℕ) (next : Between) (due left : List ℕ) → Executes mid goes_on i next due → Passes mid new due left → Calm mid new → Executes new goes_on i next left
-  executes_passed mid new goes_on i next due left h q calm =
-      record {
-        text = h.text;
-        done = h.done;
-        passes = record {
-          bytes = h.passes.bytes ++ q.bytes;
-          written = Writes-more h.passes.bytes q.bytes h.passes.written q.written;
-          split = h.passes.split ∙ ap (λ t. h.passes.bytes ++ t) q.split ∙ sym (append_assoc h.passes.bytes q.bytes left);
-        };
-        calm = calm_more h.calm calm;
-      }
-
-  -- And nothing stands behind the spool then.
-  pub executes_out : (mid new : Meaning) (goes_on : Bool) (i : ℕ) (next : Between) (due spool rest : List ℕ) → Executes mid goes_on i next due → Passes mid new due spool → rest ≡ [] → Calm mid new → Executes new goes_on i next (spool ++ rest)
-  executes_out mid new goes_on i next due spool rest h q none calm =
-      subst (Executes new goes_on i next) (sym (ap (λ t. spool ++ t) none ∙ append-nil spool)) (executes_passed mid new goes_on i next due spool h q calm)
-
-  -- So the run comes to the next statement.
-  pub come_more : (new : Meaning) (i : ℕ) (next : Between) (left : List ℕ) → Executes new true i next left → Come new i next left
-  come_more new i next left h = record { text = h.text; done = h.done; passes = h.passes; calm = h.calm }
+  -- What is left was passed on, and the run comes to the next statement.
+  pub come_more : (mid new : Outside) (i : ℕ) (next : Between) (left spool rest : List ℕ) → Executes mid true i next left → Passes mid new left spool → rest ≡ [] → Come new (i + 1) next (spool ++ rest)
+  come_more mid new i next left spool rest h q none =
+      record { text = h.text; done = h.done; passes = subst (Passes old new (due ++ h.text)) (sym (ap (λ t. spool ++ t) none ∙ append-nil spool)) (passes_on old mid new (due ++ h.text) left spool h.passes q) }
 
   -- ---- the end
 
-  abbrev pub with_answers : Between → Solving
-  with_answers at = record { solvers = solvers; rules = rules; answers = at.answers; paths_before = paths; paths_after = at.paths }
-
-  -- A run has ended so: this is what it leaves.
-  pub record Came (new : Meaning) (status : Status) (at : Between) (left : List ℕ) : Type 0 where
-    pub ends : RunsTo status (with_answers at) program
-    pub last : (course_of (with_answers at) program).state ≡ at.state
-    pub shown : Passes old new (pending ++ (listing ++ shown_by (with_answers at) program)) left
-    pub calm : Calm old new
-
-  came : (new : Meaning) (status : Status) (at : Between) (text left : List ℕ) → Ends program solvers rules paths status at text → Passes old new (pending ++ (listing ++ text)) left → Calm old new → Came new status at left
-  came new status at text left e passes calm =
-      record { ends = e.runs; last = e.last; shown = subst (λ t. Passes old new (pending ++ (listing ++ t)) left) (sym e.shown) passes; calm = calm }
+  ended : (new : Outside) (status : Status) (at : Between) (text left : List ℕ) → EndsWith job before status at text → Passes old new (due ++ text) left → length left ≤ 4096 → EndsBehind status job (solving_with job before at) at.state old new due left
+  ended new status at text left e passes room = record { ends = e.ends; passes = subst (λ t. Passes old new (due ++ t) left) (sym e.shown) passes; room = room }
 
   -- behind the last statement
-  pub came_done : (new : Meaning) (i : ℕ) (at : Between) (left : List ℕ) → Come new i at left → length program.statements.items ≤ i → Came new Done at left
-  came_done new i at left h all = came new Done at h.text left (ends_done program solvers rules paths i at h.text all h.done) h.passes h.calm
+  pub came_done : (new : Outside) (i : ℕ) (at : Between) (left : List ℕ) (xs : List (Stmt Frac)) → Come new i at left → length left ≤ 4096 → xs ≡ job.statements → length xs ≤ i → EndsBehind Done job (solving_with job before at) at.state old new due left
+  came_done new i at left xs h room same all = ended new Done at h.text left (ends_done job before i at h.text (subst (λ ys. length ys ≤ i) same all) h.done) h.passes room
 
   -- behind a statement that a fault stopped
-  pub came_stopped : (new : Meaning) (i : ℕ) (at : Between) (left : List ℕ) → Executes new false i at left → Came new Execution at left
-  came_stopped new i at left h = came new Execution at h.text left (ends_stopped program solvers rules paths i at h.text h.done) h.passes h.calm
+  pub came_stopped : (mid new : Outside) (i : ℕ) (at : Between) (left spool rest : List ℕ) → Executes mid false i at left → Passes mid new left spool → length spool ≤ 4096 → rest ≡ [] → EndsBehind Execution job (solving_with job before at) at.state old new due (spool ++ rest)
+  came_stopped mid new i at left spool rest h q room none =
+      ended new Execution at h.text (spool ++ rest) (ends_stopped job before (i + 1) at h.text h.done) (subst (Passes old new (due ++ h.text)) (sym (ap (λ t. spool ++ t) none ∙ append-nil spool)) (passes_on old mid new (due ++ h.text) left spool h.passes q)) (room_behind spool rest room none)
 
-  -- Where what is left is not written, the front of what the run shows was written, and the run comes to rest.
-  pub record Broke (new : Meaning) (at : Between) : Type 0 where
-    pub front : WritesFront old new (pending ++ listing ++ shown_by (with_answers at) program)
-    pub rests : ComesToRest (with_answers at) program
+  -- what is pending behind more bytes
+  pends_more : (n : ℕ) (xs ys : List ℕ) → n ≤ length xs + 4096 → n ≤ length (xs ++ ys) + 4096
+  pends_more n xs ys h = omega (arith, h, length-append xs ys)
 
-  pub broke : (mid new : Meaning) (goes_on : Bool) (i : ℕ) (at : Between) (due : List ℕ) → Executes mid goes_on i at due → WritesFront mid new due → Broke new at
-  broke mid new goes_on i at due h front =
-      let r = comes_to_rest program solvers rules paths i goes_on at h.text h.done in
+  -- What is left was not written: the job is cut off.
+  pub broke : (mid new : Outside) (goes_on : Bool) (i : ℕ) (at : Between) (left : List ℕ) → Executes mid goes_on i at left → WritesFront mid new left → BreaksBehind job (solving_with job before at) old new due
+  broke mid new goes_on i at left h f =
+      let r = comes_to_rest job before (i + 1) goes_on at h.text h.done in
       record {
-        front =
-            subst (WritesFront old new) (ap (λ t. t ++ r.later) (sym (append_assoc pending listing h.text)) ∙ append_assoc (pending ++ listing) h.text r.later ∙ ap (λ t. pending ++ listing ++ t) (sym r.shown))
-            (front_longer old new (pending ++ (listing ++ h.text)) r.later (front_of_due h.passes front));
-        rests = r.rests;
+        solved = r.solved;
+        front = (
+          f.0 ++ r.later,
+          record {
+            bytes = h.passes.bytes ++ f.1.bytes;
+            written = output-both old mid new h.passes.bytes f.1.bytes h.passes.written f.1.written;
+            split =
+                ap (λ t. due ++ t) r.shown
+                ∙ sym (append_assoc due h.text r.later)
+                ∙ ap (λ t. t ++ r.later) (h.passes.split ∙ ap (λ t. h.passes.bytes ++ t) f.1.split ∙ sym (append_assoc h.passes.bytes f.1.bytes f.0))
+                ∙ append_assoc (h.passes.bytes ++ f.1.bytes) f.0 r.later;
+          },
+        );
+        last = i;
+        taken = taken_by_first job before goes_on at h.text (i + 1) h.done;
+        pending = pends_more _ h.passes.bytes f.1.bytes h.pending;
       }
 
--- Where the loop over the statements of a program stands: what has gone out so far, with the same solvers, and settings and definitions as they
--- have to be.
-pub record AtStatement (program : Program Frac) (solvers : List (List ℕ)) (rules : List Rule) (paths : AllPaths) (many : ℕ) (old now : Meaning) (pending listing : List ℕ) (i : ℕ) (at : Between) (left : List ℕ) (names_now : List (List ℕ)) (rules_now : List Rule) : Type 0 where
-  pub come : HasCome program solvers rules paths old now pending listing i at left
-  pub names_stay : names_now ≡ solvers
-  pub rules_stay : rules_now ≡ rules
+-- Where the loop over the statements of a job stands: what has gone out so far, with settings and definitions as they have to be.
+pub record AtStatement (job : Job) (before : Solvers) (many : ℕ) (old now : Meaning) (due : List ℕ) (i : ℕ) (at : Between) (left : List ℕ) : Type 0 where
+  pub come : HasCome job before old.outside now.outside due i at left
+  pub room : length left ≤ 4096
   pub settings : AreKept many at.state.settings
-  pub plain : AreOneDimensional at.state program.statements.items
-
--- a count that rose behind another that did not fall rose
-pub rose_behind : (a b c : ℕ) → a ≤ b → Rose b c → Rose a c
-rose_behind a b c l rose =
-    omega (arith, rose, le-min {k = min (a + 1) greatest_count} {a = b + 1} {b = greatest_count} (omega (arith, l, min-le_left (a + 1) greatest_count)) (min-le_right (a + 1) greatest_count))
+  pub plain : AreOneDimensional at.state job.program.statements.items
+  pub counts : CountsWriting all_done old.counts now.counts
 
 -- as many solvers as before, where they have the same names
 pub same_many : {S : Type 0} (name : S → List ℕ) (xs ys : List S) → map name xs ≡ map name ys → length xs ≡ length ys
 same_many name xs ys same = sym (length-map xs name) ∙ ap length same ∙ length-map ys name
+
+-- ---- behind the echo
+
+module _ (source : List ℕ) (program : Program Frac) (old mid : Outside) (due spool rest : List ℕ) (first : Passes old mid due spool) (none : rest ≡ []) (echo : due ≡ echo_text 1 source) where
+  -- a job that is not echoed is solved as the one that is
+  echoed : (state : State) (solving : Solving) → state ≡ loaded frac_value program → IsSolved (work program state program.statements.items) solving → IsSolved (job_of source program) solving
+  echoed state solving same s =
+      let r = subst (λ st. IsSolved (work program st program.statements.items) solving) same s in
+      record { all_taken = r.all_taken; answered = r.answered; ended = r.ended; grown = r.grown }
+
+  -- what is in front is the echo
+  in_front : (shown bytes lost : List ℕ) → (spool ++ rest) ++ shown ≡ bytes ++ lost → echo_text 1 source ++ shown ≡ (first.bytes ++ bytes) ++ lost
+  in_front shown bytes lost split =
+      ap (λ t. t ++ shown) (sym echo ∙ first.split) ∙ append_assoc first.bytes spool shown
+      ∙ ap (λ t. first.bytes ++ (t ++ shown)) (sym (ap (λ t. spool ++ t) none ∙ append-nil spool)) ∙ ap (λ t. first.bytes ++ t) split ∙ sym (append_assoc first.bytes bytes lost)
+
+  -- The statements came to their end behind the echo.
+  pub ends_echoed : (status : Status) (solving : Solving) (state last : State) (new : Outside) (pending : List ℕ) → state ≡ loaded frac_value program →
+      EndsBehind status (work program state program.statements.items) solving last mid new (spool ++ rest) pending → EndsJob status (job_of source program) solving last old new pending
+  ends_echoed status solving state last new pending same e =
+      let r = subst (λ st. EndsBehind status (work program st program.statements.items) solving last mid new (spool ++ rest) pending) same e in
+      record {
+        ends = record { solved = echoed state solving same e.ends.solved; halts = r.ends.halts; comes = r.ends.comes };
+        passes = record { bytes = first.bytes ++ r.passes.bytes; written = output-both old mid new first.bytes r.passes.bytes first.written r.passes.written; split = in_front _ r.passes.bytes pending r.passes.split };
+        room = e.room;
+      }
+
+  -- what is pending of a longer text
+  pends_echoed : (shown bytes : List ℕ) → length ((spool ++ rest) ++ shown) ≤ length bytes + 4096 → length (echo_text 1 source ++ shown) ≤ length (first.bytes ++ bytes) + 4096
+  pends_echoed shown bytes h =
+      let e : length (echo_text 1 source ++ shown) ≡ length ((first.bytes ++ []) ++ ((spool ++ rest) ++ shown)) = ap length (in_front shown [] ((spool ++ rest) ++ shown) refl) in
+      omega (arith, e, h, length-append (first.bytes ++ []) ((spool ++ rest) ++ shown), length-append first.bytes bytes, length-append first.bytes [])
+
+  -- They were cut off behind the echo.
+  pub breaks_echoed : (solving : Solving) (state : State) (new : Outside) → state ≡ loaded frac_value program → BreaksBehind (work program state program.statements.items) solving mid new (spool ++ rest) → BreaksJob (job_of source program) solving old new
+  breaks_echoed solving state new same b =
+      let r = subst (λ st. BreaksBehind (work program st program.statements.items) solving mid new (spool ++ rest)) same b in
+      record {
+        solved = echoed state solving same b.solved;
+        front = (r.front.0, record { bytes = first.bytes ++ r.front.1.bytes; written = output-both old mid new first.bytes r.front.1.bytes first.written r.front.1.written; split = in_front _ r.front.1.bytes r.front.0 r.front.1.split });
+        cut = inr (r.last, r.taken, pends_echoed _ r.front.1.bytes r.pending);
+      }
+
+-- The echo itself was not written whole, and nothing was executed.
+pub breaks_first : (source : List ℕ) (program : Program Frac) (before : Solvers) (answers : List (Answer Frac)) (old new : Outside) (due : List ℕ) → answers ≡ [] → due ≡ echo_text 1 source → WritesFront old new due →
+    BreaksJob (job_of source program) (record { before = before; after = before; answers = answers }) old new
+breaks_first source program before answers old new due none echo f =
+    let job = job_of source program in
+    let r = comes_to_rest job before 0 true (begin job before) [] (done_none job before) in
+    subst (λ (given : List (Answer Frac)). BreaksJob job (record { before = before; after = before; answers = given }) old new) (sym none) (record {
+      solved = r.solved;
+      front = front_longer (shown_by job (solving_with job before (begin job before))) (subst (WritesFront old new) echo f);
+      cut = inl (refl, refl);
+    })

@@ -1,13 +1,13 @@
+pub mod Comings
 pub mod Completeness
 pub mod Executed
 pub mod Executing
 pub mod FirstSettings
-pub mod Fronts
 pub mod Growing
+pub mod Joined
 pub mod Listed
 pub mod Loading
 pub mod OneReading
-pub mod Outlets
 pub mod Paths
 pub mod Proved
 pub mod Reports

@@ -23,9 +23,9 @@ use Rattle.gms_exec.specs.Standing.{IsStanding}
 use Rattle.gms_exec.proofs.Standing.{answered_by_standing}
 use Rattle.gms_list.specs.ListingText.{event_text, events_text}
 use Rattle.gms_list.specs.SolveText.{solve_text}
-use Rattle.gms_run.specs.Answers.{number_limit}
-use Rattle.gms_run.specs.Steps.{Between, IsListed, course_at}
-use Rattle.gms_run.proofs.Paths.{Grew, grew_none, grew_more, stands-more}
+use Rattle.gms_run.specs.Solving.{HaveGrown, number_limit}
+use Rattle.gms_run.specs.InnerSteps.{Between, IsListed, course_at}
+use Rattle.gms_run.proofs.Paths.{grown_none, grown_more, stands-more}
 
 module _ (rules : List Rule) where
   abbrev Stands : List (Answer Frac) → OwnEvent Frac → Type 0
@@ -70,7 +70,7 @@ module _ (rules : List Rule) where
         let solved : Solved = record { line = line; model = model; equations = equations; lp = lp_numbers frac_value lp; answer = answer; solver = solver; settings = settings; objective_level = frac_value level } in
         ap (λ o. flat_map (solve_text names labels number_limit solved) (option_to_list o)) (new ∙ sym old)
 
-    texts-more : (answers more : List (Answer Frac)) (es : List (OwnEvent Frac)) → All (Stands answers) es → texts (answers ++ more) (events_in frac_value es) ≡ texts answers (events_in frac_value es)
+    pub texts-more : (answers more : List (Answer Frac)) (es : List (OwnEvent Frac)) → All (Stands answers) es → texts (answers ++ more) (events_in frac_value es) ≡ texts answers (events_in frac_value es)
     texts-more answers more [] is = refl
     texts-more answers more (e ∷ es) is =
         ap (λ t. t ++ texts (answers ++ more) (events_in frac_value es)) (text-more answers more e (All-head (Stands answers) e es is)) ∙ ap (λ t. one_text answers (event_in frac_value e) ++ t) (texts-more answers more es (All-tail (Stands answers) e es is))
@@ -85,7 +85,7 @@ listed_none program rules now text =
       fresh = [];
       answers = sym (append-nil now.answers);
       standing = All-nil (IsStanding frac_value number_limit rules now.answers);
-      grown = grew_none now.paths now.answers;
+      grown = grown_none now.solvers now.answers;
       comes = λ events more. ap (λ es. course_at now es more None) (sym (append-nil events));
       text = sym (append-nil text);
     }
@@ -136,10 +136,10 @@ listed_more program rules goes_on first next a b c x y z p q =
         sym (flat_map-append (event_text program.names program.labels number_limit (numbers c.answers)) (events_in frac_value p.shown) (events_in frac_value q.shown ++ stop))
         ∙ ap (events_text program.names program.labels number_limit (numbers c.answers)) (sym (append_assoc (events_in frac_value p.shown) (events_in frac_value q.shown) stop) ∙ ap (λ es. es ++ stop) (sym (map-append (event_in frac_value) p.shown q.shown)))
 
-    grown : Grew a.paths c.paths c.answers (events_in frac_value (p.shown ++ q.shown))
+    grown : HaveGrown a.solvers c.solvers c.answers (events_in frac_value (p.shown ++ q.shown))
     grown =
-        subst (Grew a.paths c.paths c.answers) (sym (map-append (event_in frac_value) p.shown q.shown))
-        (grew_more rules a.paths b.paths c.paths b.answers q.fresh c.answers (events_in frac_value p.shown) (events_in frac_value q.shown) q.answers
+        subst (HaveGrown a.solvers c.solvers c.answers) (sym (map-append (event_in frac_value) p.shown q.shown))
+        (grown_more rules a.solvers b.solvers c.solvers b.answers q.fresh c.answers (events_in frac_value p.shown) (events_in frac_value q.shown) q.answers
         (answered_by_standing frac_value number_limit rules b.answers p.shown p.standing) p.grown q.grown)
 
     comes : (events : List Event) (more : List (Answer Number)) →

@@ -15,7 +15,7 @@ use Rattle.lp_core.specs.declared.answer.Rule.{Rule}
 use Rattle.gms_exec.specs.Answering.{AreAnswered, IsAnswered}
 use Rattle.gms_exec.specs.Walks.{Answered, paths_taken}
 use Rattle.gms_exec.proofs.Quiet.{IsNoSolve}
-use Rattle.gms_run.specs.Answers.{number_limit, paths_of}
+use Rattle.gms_run.specs.Solving.{Solvers, HaveGrown, number_limit, paths_of, seen}
 
 -- the paths of all solvers
 abbrev pub AllPaths : Type 0
@@ -114,3 +114,25 @@ grew_answered name rule paths old new answers none events empty a = λ k.
     let shown : events ≡ a.shown = a.events ∙ ap (λ es. es ++ a.shown) empty in
     a.grown k
     ∙ ap (λ taken. option_map (λ before. before ++ taken) (slice_get (map paths old) k)) (taken_of k answers a.shown ∙ ap (λ es. paths_of k answers (events_in frac_value es)) (sym shown))
+
+-- ---- solvers
+
+-- nothing was shown
+pub grown_none : (solvers : Solvers) (answers : List (Answer Frac)) → HaveGrown solvers solvers answers []
+grown_none solvers answers = record { names = refl; rules = refl; paths = grew_none solvers.paths answers }
+
+-- one growth behind another, with more answers
+pub grown_more : (rules : List Rule) (old mid new : Solvers) (answers fresh all : List (Answer Frac)) (first second : List Event) → all ≡ answers ++ fresh → AreAnswered frac_value number_limit rules answers first →
+    HaveGrown old mid answers first → HaveGrown mid new all second → HaveGrown old new all (first ++ second)
+grown_more rules old mid new answers fresh all first second same are p q =
+    record { names = q.names ∙ p.names; rules = q.rules ∙ p.rules; paths = grew_more rules old.paths mid.paths new.paths answers fresh all first second same are p.paths q.paths }
+
+-- behind events of which none is a solve
+pub grown_quiet : (old new : Solvers) (answers : List (Answer Frac)) (es more : List Event) → All IsNoSolve more → HaveGrown old new answers es → HaveGrown old new answers (es ++ more)
+grown_quiet old new answers es more quiet p = record { names = p.names; rules = p.rules; paths = grew_quiet old.paths new.paths answers es more quiet p.paths }
+
+-- What a statement says of its solvers, where nothing was shown before it.
+pub grown_answered : {S : Type 0} (name : S → List ℕ) (rule : S → Rule) (paths : S → List (List Pivot)) (old new : List S) (answers : List (Answer Frac)) (none events : List (OwnEvent Frac)) → none ≡ [] →
+    Answered frac_value number_limit name rule paths old new answers none events → HaveGrown (seen name rule paths old) (seen name rule paths new) answers (events_in frac_value events)
+grown_answered name rule paths old new answers none events empty a =
+    record { names = a.names; rules = a.rules; paths = grew_answered name rule paths old new answers none events empty a }

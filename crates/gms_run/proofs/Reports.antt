@@ -1,21 +1,19 @@
 -- The listing of a source, put together from its parts, as it goes out.
-use Rattle.std.proofs.Common.{◌≡◌, ◌≢◌, Option, Some, None, ℕ, zero, suc, ◌+◌, ◌<◌, ◌≤◌, ◌==◌, true, false, not, List, [], ◌∷◌, ◌++◌, length, take, map, get_or, Result, Vec, refl, sym, ap, ap₂, ◌∙◌, subst, append_assoc, append-nil, add-one, inl, inr, arith}
+use Rattle.std.proofs.Common.{◌≡◌, ◌≢◌, Option, Some, None, ℕ, zero, suc, ◌+◌, ◌<◌, ◌≤◌, ◌==◌, true, false, not, List, [], ◌∷◌, ◌++◌, length, take, map, get_or, Vec, refl, sym, ap, ap₂, ◌∙◌, subst, append_assoc, add-one, ◌⊎◌, inl, inr, arith, length-append}
 use Rattle.std.specs.Prelude.{String, string_bytes, vec_len}
 use Rattle.std.specs.declared.alloc.Global.{Global}
 use Rattle.std.proofs.Math.Seq.{take-suc}
 use Rattle.std.proofs.lemmas.Bool.{eqb-true}
-use Rattle.std.proofs.lemmas.List.{length-map, map-append}
+use Rattle.std.proofs.lemmas.List.{map-append, take_all}
 use denote.Enum.Bare.{sameb}
 use Rattle.gq_frac.specs.declared.frac.Frac.{Frac}
 use Rattle.gq_frac.specs.Frac.{frac_value}
-use Rattle.lp_core.specs.Numbers.{answer_numbers}
-use Rattle.gms_host.specs.declared.host.Failed.{Failed}
-use Rattle.gms_host.specs.Meaning.{Meaning, Rose}
-use Rattle.gms_host.specs.Rules.{Writes, CountsStay, Steady}
+use Rattle.gms_host.specs.Meaning.{Outside}
+use Rattle.gms_host.specs.Rules.{with_output}
 use Rattle.gms_host.specs.Spooling.{Passes, WritesFront}
-use Rattle.gms_host.proofs.Calmness.{same_more}
-use Rattle.gms_host.proofs.Fronts.{Writes-none}
+use Rattle.gms_host.proofs.Fronts.{output-both, passes_behind, passes_none, passes_whole}
 use Rattle.gms_ast.specs.declared.program.Program.{Program}
+use Rattle.gms_ast.specs.declared.program.Stmt.{Stmt}
 use Rattle.gms_parse.specs.declared.fault.SourceError.{SourceError}
 use Rattle.gms_parse.specs.declared.fault.SourceError.TheVariants.{TooLong}
 use Rattle.gms_parse.specs.contracts.fault.SourceError.{the_type}
@@ -23,24 +21,27 @@ use Rattle.gms_parse.specs.declared.fault.SourceFault.{SourceFault}
 use Rattle.gms_parse.specs.Outcomes.{IsProgram, IsFault}
 use Rattle.gms_check.specs.declared.error.CompileError.{CompileError}
 use Rattle.gms_check.specs.CompileErrors.{compile_errors}
-use Rattle.gms_exec.specs.Run.{last_event}
-use Rattle.gms_list.specs.ListingText.{echo_text, events_text, end_text, refused_echo, source_error_text, compile_errors_text}
+use Rattle.gms_exec.specs.Run.{Halt}
+use Rattle.gms_list.specs.ListingText.{echo_text, end_text, refused_echo, source_error_text, compile_errors_text}
 use Rattle.gms_run.specs.declared.status.Status.{Status}
 use Rattle.gms_run.specs.declared.status.Status.TheVariants.{Done, Usage, Compile, Execution, ReadFault, WriteFault}
 use Rattle.gms_run.specs.declared.report.Last.{Last}
 use Rattle.gms_store.specs.State.{State}
 use Rattle.gms_words.specs.CommandLine.{Asked, Origin, in_file, generated, closing_line}
-use Rattle.gms_run.specs.Answers.{Solving, SolvesNothing, AreClosing, IsAcceptedSource, IsModelLine, ShowsRun, TellsModel, TellsRun, TellsSize, course_of, number_limit, status_code}
-use Rattle.gms_run.specs.Outside.{IsTold, KeepsLast, KeepsRun, Lists, ListsFront, Prepares, IsBody, RunsTo, Waits, ComesToRest, shown_by}
-use Rattle.gms_run.proofs.Outlets.{whole_written, front_of_due, front_longer}
+use Rattle.gms_run.specs.Solving.{Solving, SolvesNothing, number_limit}
+use Rattle.gms_run.specs.Jobs.{HaltsSo, IsCutOff, IsSolved, Job, body_of, course_of, first_of, job_of, job_text, last_line, status_code}
+use Rattle.gms_run.specs.Listings.{AreClosing, IsAccepted, IsExecuted, IsFront, IsListing, IsModelLine, TellsModel, TellsRun, TellsSize}
+use Rattle.gms_run.specs.Statuses.{IsUnwritten}
+use Rattle.gms_run.specs.InnerReports.{IsTold, KeepsLast, KeepsRun, Lists, Prepares}
+use Rattle.gms_run.specs.InnerSteps.{BreaksJob, EndsJob}
 
 -- what stands behind a spool and a text that are both empty
 pub behind_nothing : (spool before text : List ℕ) → spool ++ before ≡ [] → spool ++ (before ++ text) ≡ text
 behind_nothing spool before text empty = sym (append_assoc spool before text) ∙ ap (λ t. t ++ text) empty
 
 -- a body is on its way where nothing of it was written
-all_pending : (status : Status) (solving : Solving) (now : Meaning) (source body pending : List ℕ) → IsBody status solving source body → pending ≡ body → Prepares status solving now now source pending
-all_pending status solving now source body pending is same = (body, is, record { bytes = []; written = Writes-none now; split = sym same })
+all_pending : (status : Status) (solving : Solving) (now : Outside) (source body pending : List ℕ) → IsListing status solving source (body ++ end_text (status_code status) (length solving.answers)) → pending ≡ body → status ≡ Compile → Prepares status solving now now source pending
+all_pending status solving now source body pending is same compile = record { body = body; listing = is; passes = subst (Passes now now body) (sym same) (passes_none now body); room = inl compile }
 
 -- ---- refusals
 
@@ -59,87 +60,109 @@ pub two_behind : (old echo mid line new : List ℕ) → mid ≡ old ++ echo → 
 two_behind old echo mid line new p q = q ∙ ap (λ t. t ++ line) p ∙ append_assoc old echo line
 
 -- The listing of a source that is no program.
-pub prepares_refusal : (status : Status) (solving : Solving) (now : Meaning) (source spool before pending listing : List ℕ) (fault : SourceFault) →
+pub prepares_refusal : (status : Status) (solving : Solving) (now : Outside) (source spool before pending listing : List ℕ) (fault : SourceFault) →
     IsFault number_limit source fault → SolvesNothing solving → spool ++ before ≡ [] → status ≡ Compile → pending ≡ spool → listing ≡ before ++ (refused_echo fault.error source ++ source_error_text fault) →
     Prepares status solving now now source (pending ++ listing)
 prepares_refusal status solving now source spool before pending listing fault refused none empty same kept put =
     let body : List ℕ = refused_echo fault.error source ++ source_error_text fault in
-    let is : IsBody Compile solving source body = (inl (record { fault = fault; refused = refused; listing = ap (λ n. body ++ end_text 2 n) (ap length none.0) }), none) in
-    all_pending status solving now source body _ (subst (λ s. IsBody s solving source body) (sym same) is) (ap₂ (λ a b. a ++ b) kept put ∙ behind_nothing spool before body empty)
+    let is : IsListing Compile solving source (body ++ end_text 2 (length solving.answers)) = (inl (record { fault = fault; refused = refused; listing = ap (λ n. body ++ end_text 2 n) (ap length none.0) }), none) in
+    all_pending status solving now source body _ (subst (λ s. IsListing s solving source (body ++ end_text (status_code s) (length solving.answers))) (sym same) is) (ap₂ (λ a b. a ++ b) kept put ∙ behind_nothing spool before body empty) same
 
 -- The listing of a program that has errors.
-pub prepares_errors : (solving : Solving) (now : Meaning) (source spool before mid after : List ℕ) (program : Program Frac) (errors : List CompileError) →
-    IsProgram number_limit source frac_value program → errors ≡ compile_errors frac_value program solving.solvers → errors ≢ [] → SolvesNothing solving → spool ++ before ≡ [] →
+pub prepares_errors : (solving : Solving) (now : Outside) (source spool before mid after : List ℕ) (program : Program Frac) (errors : List CompileError) →
+    IsProgram number_limit source frac_value program → errors ≡ compile_errors frac_value program solving.before.names → errors ≢ [] → SolvesNothing solving → spool ++ before ≡ [] →
     mid ≡ before ++ echo_text 1 source → after ≡ mid ++ compile_errors_text errors →
     Prepares Compile solving now now source (spool ++ after)
 prepares_errors solving now source spool before mid after program errors is_program same some none empty echoed put =
-    let body : List ℕ = echo_text 1 source ++ compile_errors_text (compile_errors frac_value program solving.solvers) in
-    let is : IsBody Compile solving source body = (inr (record { program = program; is_program = is_program; some = λ e. some (same ∙ e); listing = ap (λ n. body ++ end_text 2 n) (ap length none.0) }), none) in
-    let put_all : after ≡ before ++ body = two_behind before (echo_text 1 source) mid (compile_errors_text (compile_errors frac_value program solving.solvers)) after echoed (put ∙ ap (λ e. mid ++ compile_errors_text e) same) in
-    all_pending Compile solving now source body _ is (ap (λ t. spool ++ t) put_all ∙ behind_nothing spool before body empty)
+    let found = compile_errors frac_value program solving.before.names in
+    let body : List ℕ = echo_text 1 source ++ compile_errors_text found in
+    let is : IsListing Compile solving source (body ++ end_text 2 (length solving.answers)) = (inr (record { program = program; is_program = is_program; some = λ e. some (same ∙ e); listing = ap (λ n. body ++ end_text 2 n) (ap length none.0) }), none) in
+    let put_all : after ≡ before ++ body = two_behind before (echo_text 1 source) mid (compile_errors_text found) after echoed (put ∙ ap (λ e. mid ++ compile_errors_text e) same) in
+    all_pending Compile solving now source body _ is (ap (λ t. spool ++ t) put_all ∙ behind_nothing spool before body empty) refl
 
 -- ---- runs
 
--- the listing of a run that ended, but for its last line
-abbrev run_body : Solving → List ℕ → Program Frac → List ℕ
-run_body solving source program = echo_text 1 source ++ shown_by solving program
+-- the last line of a job that halts so is that of its status
+ends_line : (status : Status) (halted : Option Halt) (n : ℕ) → HaltsSo status halted → end_text (status_code status) n ≡ last_line halted n
+ends_line Done halted n is = ap (λ h. last_line h n) (sym is)
+ends_line Execution halted n is = ap (λ h. last_line h n) (sym is.1)
+ends_line Usage halted n is = absurd is
+ends_line Compile halted n is = absurd is
+ends_line ReadFault halted n is = absurd is
+ends_line WriteFault halted n is = absurd is
 
--- the run of an accepted source is shown
-shows_run : (status : Status) (solving : Solving) (source : List ℕ) (program : Program Frac) → IsAcceptedSource solving.solvers source program → RunsTo status solving program → ShowsRun status solving source (run_body solving source program ++ end_text (status_code status) (length solving.answers))
-shows_run status solving source program accepted runs =
+-- a job that came to its end has its listing
+listed_job : (status : Status) (solving : Solving) (source : List ℕ) (program : Program Frac) → IsAccepted solving.before.names source program → IsSolved (job_of source program) solving → HaltsSo status (course_of (job_of source program) solving).halted →
+    IsListing status solving source (body_of (job_of source program) solving ++ end_text (status_code status) (length solving.answers))
+listed_job status solving source program accepted solved halts = by status halts
+  where
+    job : Job
+    job = job_of source program
+
+    run : (s : Status) → HaltsSo s (course_of job solving).halted → IsExecuted solving source (body_of job solving ++ end_text (status_code s) (length solving.answers))
+    run s h = record { program = program; accepted = accepted; solved = solved; listing = ap (λ t. body_of job solving ++ t) (ends_line s (course_of job solving).halted (length solving.answers) h) }
+
+    by : (s : Status) → HaltsSo s (course_of job solving).halted → IsListing s solving source (body_of job solving ++ end_text (status_code s) (length solving.answers))
+    by Done h = (run Done h, h)
+    by Execution h = (run Execution h, h)
+    by Usage h = absurd h
+    by Compile h = absurd h
+    by ReadFault h = absurd h
+    by WriteFault h = absurd h
+
+-- The listing of a job that came to its end.
+pub prepares_job : (status : Status) (solving : Solving) (old new : Outside) (source left : List ℕ) (program : Program Frac) (last : State) → IsProgram number_limit source frac_value program → compile_errors frac_value program solving.before.names ≡ [] →
+    EndsJob status (job_of source program) solving last old new left → Prepares status solving old new source left
+prepares_job status solving old new source left program last is_program no_error e =
     record {
-      program = program;
-      accepted = accepted;
-      ends = runs.ends;
-      all_taken = runs.all_taken;
-      answered = runs.answered;
-      ended = runs.ended;
-      grown = runs.grown;
-      listing = ap (λ n. run_body solving source program ++ end_text (status_code status) n) (sym (length-map solving.answers (answer_numbers frac_value)));
+      body = body_of (job_of source program) solving;
+      listing = listed_job status solving source program (record { is_program = is_program; no_error = no_error }) e.ends.solved e.ends.halts;
+      passes = e.passes;
+      room = inr e.room;
     }
 
--- that is the body of its listing
-is_run_body : (status : Status) (solving : Solving) (source : List ℕ) (program : Program Frac) → IsAcceptedSource solving.solvers source program → RunsTo status solving program → IsBody status solving source (run_body solving source program)
-is_run_body Done solving source program accepted runs = shows_run Done solving source program accepted runs
-is_run_body Execution solving source program accepted runs = shows_run Execution solving source program accepted runs
-is_run_body Compile solving source program accepted runs = absurd runs.ends
-is_run_body Usage solving source program accepted runs = absurd runs.ends
-is_run_body ReadFault solving source program accepted runs = absurd runs.ends
-is_run_body WriteFault solving source program accepted runs = absurd runs.ends
-
--- The listing of a run that ended.
-pub prepares_run : (status : Status) (solving : Solving) (old new : Meaning) (source spool before listing left : List ℕ) (program : Program Frac) →
-    IsProgram number_limit source frac_value program → compile_errors frac_value program solving.solvers ≡ [] → RunsTo status solving program → spool ++ before ≡ [] → listing ≡ before ++ echo_text 1 source →
-    Passes old new (spool ++ (listing ++ shown_by solving program)) left → Prepares status solving old new source left
-prepares_run status solving old new source spool before listing left program is_program no_error runs empty echoed passes =
-    let accepted : IsAcceptedSource solving.solvers source program = record { is_program = is_program; no_error = no_error } in
-    let body : List ℕ = run_body solving source program in
-    let shown : List ℕ = shown_by solving program in
-    let same : spool ++ (listing ++ shown) ≡ body = ap (λ t. spool ++ t) (ap (λ t. t ++ shown) echoed ∙ append_assoc before (echo_text 1 source) shown) ∙ behind_nothing spool before body empty in
-    (body, is_run_body status solving source program accepted runs, subst (λ due. Passes old new due left) same passes)
-
 -- The program of a run that ended and its last state were kept.
-pub keeps_run : (status : Status) (solving : Solving) (source : List ℕ) (program : Program Frac) (store : State) → IsProgram number_limit source frac_value program → RunsTo status solving program → (course_of solving program).state ≡ store →
+pub keeps_run : (status : Status) (solving : Solving) (source : List ℕ) (program : Program Frac) (store : State) → IsProgram number_limit source frac_value program → HaltsSo status (course_of (job_of source program) solving).halted → (course_of (job_of source program) solving).state ≡ store →
     KeepsLast status solving source (let kept : Option Last = Some (record { program = program; store = store }) in kept)
-keeps_run Done solving source program store is_program runs last = (record { program = program; store = store }, refl, (is_program, sym last))
-keeps_run Execution solving source program store is_program runs last = (record { program = program; store = store }, refl, (is_program, sym last))
-keeps_run Compile solving source program store is_program runs last = absurd runs.ends
-keeps_run Usage solving source program store is_program runs last = absurd runs.ends
-keeps_run ReadFault solving source program store is_program runs last = absurd runs.ends
-keeps_run WriteFault solving source program store is_program runs last = absurd runs.ends
+keeps_run status solving source program store is_program halts last = by status halts
+  where
+    kept : Option Last
+    kept = Some (record { program = program; store = store })
+
+    run : KeepsRun solving source kept
+    run = record { last = record { program = program; store = store }; is = refl; is_program = is_program; state = sym last }
+
+    by : (s : Status) → HaltsSo s (course_of (job_of source program) solving).halted → KeepsLast s solving source kept
+    by Done h = run
+    by Execution h = run
+    by Usage h = absurd h
+    by Compile h = absurd h
+    by ReadFault h = absurd h
+    by WriteFault h = absurd h
 
 -- Of a source that is no program nothing was kept.
 pub keeps_nothing : (status : Status) (solving : Solving) (source : List ℕ) → status ≡ Compile → KeepsLast status solving source (let kept : Option Last = None in kept)
 keeps_nothing status solving source same = subst (λ s. KeepsLast s solving source None) (sym same) refl
+
+-- A job that was cut off.
+pub unwritten_job : (solving : Solving) (old new : Outside) (source : List ℕ) (program : Program Frac) → IsProgram number_limit source frac_value program → compile_errors frac_value program solving.before.names ≡ [] → BreaksJob (job_of source program) solving old new → IsUnwritten solving old new source
+unwritten_job solving old new source program is_program no_error b =
+    let job = job_of source program in
+    let line : List ℕ = last_line (course_of job solving).halted (length solving.answers) in
+    record {
+      text = job_text job solving;
+      front = (b.front.0 ++ line, record { bytes = b.front.1.bytes; written = b.front.1.written; split = ap (λ t. t ++ line) b.front.1.split ∙ append_assoc b.front.1.bytes b.front.0 line });
+      due = inr (record { program = program; accepted = record { is_program = is_program; no_error = no_error }; solved = b.solved; listing = refl }, b.cut);
+    }
 
 -- ---- what is said in the end
 
 -- what is told of a run that kept its program and its last state
 told_run : (solving : Solving) (size : ℕ) (source line : List ℕ) (kept : Option Last) → KeepsRun solving source kept → IsTold (generated size) kept solving.answers line → TellsModel solving size source line
 told_run solving size source line kept keeps told =
-    let last : Last = keeps.0 in
-    let of_last : IsModelLine size last.program last.store solving.answers line = subst (λ (k : Option Last). IsTold (generated size) k solving.answers line) keeps.1 told in
-    record { program = last.program; is_program = keeps.2.0; told = subst (λ (state : State). IsModelLine size last.program state solving.answers line) keeps.2.1 of_last }
+    let last : Last = keeps.last in
+    let of_last : IsModelLine size last.program last.store solving.answers line = subst (λ (k : Option Last). IsTold (generated size) k solving.answers line) keeps.is told in
+    record { program = last.program; is_program = keeps.is_program; told = subst (λ (state : State). IsModelLine size last.program state solving.answers line) keeps.state of_last }
 
 -- of a generated model, as its status says
 told_size : (status : Status) (solving : Solving) (size : ℕ) (source line : List ℕ) (kept : Option Last) → KeepsLast status solving source kept → IsTold (generated size) kept solving.answers line → TellsSize status solving size source line
@@ -160,64 +183,79 @@ are_closing status solving request o source lines output kept keeps same named s
     tells (in_file file) told = told
     tells (generated size) told = told_size status solving size source said.0 kept keeps told
 
--- the front of a body is a front of the listing that is due
-due_front : (status : Status) (solving : Solving) {old new : Meaning} (source body : List ℕ) → IsBody status solving source body → WritesFront old new body → ListsFront solving old new source
-due_front status solving source body is front =
-    (body ++ end_text (status_code status) (length solving.answers), inl (status, is), front_longer _ _ body (end_text (status_code status) (length solving.answers)) front)
-
--- what a run shows that waits
-shown_so_far : (solving : Solving) (program : Program Frac) → Waits solving program → shown_by solving program ≡ events_text program.names program.labels number_limit (map (answer_numbers frac_value) solving.answers) (course_of solving program).events
-shown_so_far solving program w =
-    ap (λ events. events_text program.names program.labels number_limit (map (answer_numbers frac_value) solving.answers) events)
-    (ap (λ halt. (course_of solving program).events ++ last_event halt) w.waits ∙ append-nil (course_of solving program).events)
-
--- The front of the listing of a run, as far as its answers go.
-pub run_front : (solving : Solving) (old new : Meaning) (source spool before listing : List ℕ) (program : Program Frac) →
-    IsProgram number_limit source frac_value program → compile_errors frac_value program solving.solvers ≡ [] → spool ++ before ≡ [] → listing ≡ before ++ echo_text 1 source →
-    ComesToRest solving program → WritesFront old new (spool ++ listing ++ shown_by solving program) → ListsFront solving old new source
-run_front solving old new source spool before listing program is_program no_error empty echoed rests front =
-    let accepted : IsAcceptedSource solving.solvers source program = record { is_program = is_program; no_error = no_error } in
-    let body : List ℕ = run_body solving source program in
-    let same : spool ++ listing ≡ echo_text 1 source = ap (λ t. spool ++ t) echoed ∙ behind_nothing spool before (echo_text 1 source) empty in
-    let written : WritesFront old new body = subst (WritesFront old new) (ap (λ t. t ++ shown_by solving program) same) front in
-    elim rests [
-      | inl ended ↦ due_front ended.0 solving source body (is_run_body ended.0 solving source program accepted ended.1) written
-      | inr w ↦ (body, inr (record { program = program; accepted = accepted; waits = w.waits; answered = w.answered; ended = w.ended; grown = w.grown; listing = ap (λ t. echo_text 1 source ++ t) (shown_so_far solving program w) }), written)
-    ]
-
 -- ---- the last line
 
--- the last line behind a body that is on its way
-passes_end : {old mid : Meaning} (body pending line : List ℕ) → Passes old mid body pending → Passes old mid (body ++ line) (pending ++ line)
-passes_end body pending line p = record { bytes = p.bytes; written = p.written; split = ap (λ t. t ++ line) p.split ∙ append_assoc p.bytes pending line }
-
 -- The whole listing was written.
-pub lists_ended : (status : Status) (solving : Solving) (old mid new : Meaning) (source pending : List ℕ) (solves : ℕ) → solves ≡ length solving.answers → Prepares status solving old mid source pending →
-    Writes mid new (pending ++ end_text (status_code status) solves) → Lists status solving old new source
+pub lists_ended : (status : Status) (solving : Solving) (old mid new : Outside) (source pending : List ℕ) (solves : ℕ) → solves ≡ length solving.answers → Prepares status solving old mid source pending →
+    new ≡ with_output mid (pending ++ end_text (status_code status) solves) → Lists status solving old new source
 lists_ended status solving old mid new source pending solves many p w =
     let line : ℕ → List ℕ = end_text (status_code status) in
-    (p.0 ++ line (length solving.answers), p.1, subst (λ n. Writes old new (p.0 ++ line n)) many (whole_written (passes_end p.0 pending (line solves) p.2) w))
+    record { text = p.body ++ line (length solving.answers); listing = p.listing; written = subst (λ n. new ≡ with_output old (p.body ++ line n)) many (passes_whole old mid new (p.body ++ line solves) (pending ++ line solves) (passes_behind (line solves) p.passes) w) }
+
+-- all statements of a job are the job
+whole_job : (job : Job) (n : ℕ) → length job.statements ≤ n → first_of n job ≡ job
+whole_job job n h = ap (λ (ss : List (Stmt Frac)). record job { statements = ss }) (take_all n job.statements h)
+
+-- a job that was executed whole is cut off where its text is not written
+cut_whole : (job : Job) (solving : Solving) (written : ℕ) → (course_of job solving).left ≡ [] → length (body_of job solving) ≤ written + 4096 → IsCutOff job solving written
+cut_whole job solving written taken pending =
+    let n = length job.statements in
+    inr (n, subst (λ (j : Job). (course_of j solving).left ≡ []) (sym (whole_job job (n + 1) (omega arith))) taken, subst (λ (j : Job). length (body_of j solving) ≤ written + 4096) (sym (whole_job job n (omega arith))) pending)
+
+-- two texts that are as long with the same line behind them
+as_long : (a b x y : List ℕ) → x ≡ y → a ++ x ≡ b ++ y → length a ≡ length b
+as_long a b x y line e =
+    let n : length x ≡ length y = ap length line in
+    let m : length (a ++ x) ≡ length (b ++ y) = ap length e in
+    omega (arith, n, m, length-append a x, length-append b y)
+
+-- a listing is a front that is due, where all but its last line and no more than a spool has of that is written
+listed_front : (status : Status) (solving : Solving) (source body : List ℕ) (written : ℕ) → (status ≡ Compile) ⊎ (length body ≤ written + 4096) → IsListing status solving source (body ++ end_text (status_code status) (length solving.answers)) →
+    IsFront solving source (body ++ end_text (status_code status) (length solving.answers)) written
+listed_front status solving source body written room is = by status room is
+  where
+    text : Status → List ℕ
+    text s = body ++ end_text (status_code s) (length solving.answers)
+
+    executed : (s : Status) → (run : IsExecuted solving source (text s)) → HaltsSo s (course_of (job_of source run.program) solving).halted → length body ≤ written + 4096 → IsFront solving source (text s) written
+    executed s run h few =
+        let job = job_of source run.program in
+        let same : length body ≡ length (body_of job solving) = as_long body (body_of job solving) _ _ (ends_line s (course_of job solving).halted (length solving.answers) h) run.listing in
+        inr (run, cut_whole job solving written run.solved.all_taken (omega (arith, same, few)))
+
+    by : (s : Status) → (s ≡ Compile) ⊎ (length body ≤ written + 4096) → IsListing s solving source (text s) → IsFront solving source (text s) written
+    by Compile room is = inl is
+    by Done (inr few) is = executed Done is.0 is.1 few
+    by Execution (inr few) is = executed Execution is.0 is.1 few
+    by Done (inl e) is = absurd (let z : ⊥ = cc in z)
+    by Execution (inl e) is = absurd (let z : ⊥ = cc in z)
+    by Usage room is = absurd is.1
+    by ReadFault room is = absurd is.1
+    by WriteFault room is = absurd is.1
 
 -- The listing was written as far as its front.
-pub front_ended : (status : Status) (solving : Solving) (old mid new : Meaning) (source pending : List ℕ) (solves : ℕ) → solves ≡ length solving.answers → Prepares status solving old mid source pending →
-    WritesFront mid new (pending ++ end_text (status_code status) solves) → ListsFront solving old new source
+pub front_ended : (status : Status) (solving : Solving) (old mid new : Outside) (source pending : List ℕ) (solves : ℕ) → solves ≡ length solving.answers → Prepares status solving old mid source pending →
+    WritesFront mid new (pending ++ end_text (status_code status) solves) → IsUnwritten solving old new source
 front_ended status solving old mid new source pending solves many p front =
-    let line : ℕ → List ℕ = end_text (status_code status) in
-    (p.0 ++ line (length solving.answers), inl (status, p.1), subst (λ n. WritesFront old new (p.0 ++ line n)) many (front_of_due (passes_end p.0 pending (line solves) p.2) front))
-
--- ---- one call behind another
-
--- a count of faults rose behind others that did not fall
-pub rose_later : (a b c : Meaning) → CountsStay a b → Rose b.write_faults c.write_faults → Rose a.write_faults c.write_faults
-rose_later a b c counts rose = let h : a.write_faults ≤ b.write_faults = counts.write_faults in omega (arith, h, rose)
-
--- a reliable host counted and answered no fault in two calls
-pub steady_more : {A B : Type 0} {a b c : Meaning} (r : Result A Failed) (s : Result B Failed) → CountsStay a b → Steady a b r → Steady b c s → Steady a c s
-steady_more r s counts p q = λ t. record { answers = (q (counts.reliable ∙ t)).answers; counts = same_more (p t).counts (q (counts.reliable ∙ t)).counts }
-
--- both calls are done
-pub steady_done : {A B : Type 0} {a b c : Meaning} (r : Result A Failed) (s : Result B Failed) → CountsStay a b → Steady a b r → Steady b c s → Steady a c r
-steady_done r s counts p q = λ t. record { answers = (p t).answers; counts = same_more (p t).counts (q (counts.reliable ∙ t)).counts }
+    let line : List ℕ = end_text (status_code status) (length solving.answers) in
+    let f : WritesFront mid new (pending ++ line) = subst (λ n. WritesFront mid new (pending ++ end_text (status_code status) n)) many front in
+    record {
+      text = p.body ++ line;
+      front = (
+        f.0,
+        record {
+          bytes = p.passes.bytes ++ f.1.bytes;
+          written = output-both old mid new p.passes.bytes f.1.bytes p.passes.written f.1.written;
+          split = ap (λ t. t ++ line) p.passes.split ∙ append_assoc p.passes.bytes pending line ∙ ap (λ t. p.passes.bytes ++ t) f.1.split ∙ sym (append_assoc p.passes.bytes f.1.bytes f.0);
+        },
+      );
+      due = listed_front status solving source p.body _ (elim p.room [ inl e ↦ inl e | inr few ↦ inr (pends_over p.body p.passes.bytes f.1.bytes pending p.passes.split few) ]) p.listing;
+    }
+  where
+    pends_over : (body bytes more pending : List ℕ) → body ≡ bytes ++ pending → length pending ≤ 4096 → length body ≤ length (bytes ++ more) + 4096
+    pends_over body bytes more pending split few =
+        let n : length body ≡ length (bytes ++ pending) = ap length split in
+        omega (arith, n, few, length-append bytes pending, length-append bytes more)
 
 -- ---- lists
 

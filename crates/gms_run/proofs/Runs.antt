@@ -1,24 +1,27 @@
 -- What a run did, put together from its steps.
-use Rattle.std.proofs.Common.{◌≡◌, refl, ℕ, ◌+◌, ◌<◌, ◌≤◌, List, [], length, take, drop, Option, Some, None, Result, Ok, Err, IfOk, OnOk, sym, ap, ◌∙◌, subst, ◌⊎◌, inl, inr, arith, length-take}
-use Rattle.std.specs.Prelude.{IfSome, IsErrOf, option_map}
+use Rattle.std.proofs.Common.{◌≡◌, refl, ℕ, ◌+◌, ◌<◌, ◌≤◌, true, false, List, [], length, take, Option, Some, Result, Ok, Err, Vec, IfOk, OnOk, sym, ap, ◌∙◌, subst, ◌⊎◌, inl, inr, arith, length-take, append-nil}
+use Rattle.std.specs.Prelude.{IfSome, IsErrOf}
 use Rattle.std.specs.declared.alloc.AllocError.{AllocError}
-use Rattle.std.specs.FinMap as files_map
+use Rattle.std.specs.declared.alloc.Global.{Global}
 use Rattle.std.proofs.lemmas.List.{take_all}
 use Rattle.std.proofs.lemmas.Bool.{cases_lt}
 use Rattle.gms_host.specs.declared.host.Failed.{Failed}
 use Rattle.gms_host.specs.declared.host.Failed.TheVariants.{Fault}
-use Rattle.gms_host.specs.Meaning.{Meaning, Files, Rose}
-use Rattle.gms_host.specs.Rules.{Says, names_with, bytes_with}
-use Rattle.gms_host.proofs.Calmness.{CountsStay-none, calm_none, same_more}
+use Rattle.gms_host.specs.Meaning.{Counts, Meaning, Outside, Rose}
+use Rattle.gms_host.specs.Rules.{ClosesOutput, CountsReading, CountsWriting, IsThere, OpensOutput, with_kept, with_opened, with_output, with_said}
+use Rattle.gms_host.specs.Spooling.{SaysFront}
+use Rattle.gms_host.proofs.Counting.{all_done, done_with}
 use Rattle.gms_lex.specs.Tokens.{most_bytes}
 use Rattle.gms_parse.specs.Outcomes.{IsFault}
 use Rattle.gms_list.specs.ListingText.{refused_listing}
 use Rattle.gms_run.specs.declared.status.Status.{Status}
 use Rattle.gms_run.specs.declared.status.Status.TheVariants.{Done, Usage, Compile, Execution, ReadFault, WriteFault}
 use Rattle.gms_gen.specs.Generator.{model_text}
-use Rattle.gms_words.specs.CommandLine.{Asked, Origin, in_file, generated, read_fault_line}
-use Rattle.gms_run.specs.Answers.{Solving, SolvesNothing, number_limit, AreClosing, HasSource, IsListing, IsDue, LeavesFront, LeavesNothing, LeavesRest, ListsSource, SaysBehind, IsReported, IsReadFault, IsWriteFault, OfRequest, ShowsRun, ShowsFront, ShowsErrors, ShowsRefusal, TellsRun, generated_text}
-use Rattle.gms_run.specs.Outside.{AsksNoMore, IsTaken, ReadsFile, Reports, LeavesReport, RanSo, SaysOnly, TakesOrigin}
+use Rattle.gms_words.specs.CommandLine.{Asked, Origin, in_file, generated, read_fault_line, request_of}
+use Rattle.gms_run.specs.Solving.{Solving, SolvesNothing, number_limit}
+use Rattle.gms_run.specs.Listings.{AreClosing, IsExecuted, IsFront, IsListing, IsRefused, ShowsErrors, ShowsRefusal, TellsRun}
+use Rattle.gms_run.specs.Statuses.{CountsSo, EndsByNoFault, HasOrigin, IsReadyFor, IsReported, IsRun, IsSource, IsUnread, IsUnwritten, IsWriteFault, OfRequest, RanSo, SaysLine, with_listing, with_source}
+use Rattle.gms_run.specs.InnerReports.{CountsMention, CountsRun, Lists, ReadsFile}
 
 -- ---- sources that are too long
 
@@ -32,44 +35,48 @@ long_refusal a b text long more r = by_fault r.refused
     by_fault (inr (inl lexical)) = let few : length a ≤ most_bytes = lexical.short in absurd (omega (arith, long, few))
     by_fault (inr (inr syntactic)) = let few : length a ≤ most_bytes = syntactic.short in absurd (omega (arith, long, few))
 
--- a source that is too long is not run
-no_run : (status : Status) (solving : Solving) (bytes text : List ℕ) → most_bytes < length bytes → ShowsRun status solving bytes text → ⊥
-no_run status solving bytes text long run = let few : length bytes ≤ most_bytes = run.accepted.is_program.short in omega (arith, few, long)
+-- a source that is too long is not executed
+no_run : (solving : Solving) (bytes text : List ℕ) → most_bytes < length bytes → IsExecuted solving bytes text → ⊥
+no_run solving bytes text long run = let few : length bytes ≤ most_bytes = run.accepted.is_program.short in omega (arith, few, long)
 
 -- nor does it have the errors of a program
 no_errors : (solvers : List (List ℕ)) (bytes text : List ℕ) → most_bytes < length bytes → ShowsErrors solvers bytes text → ⊥
 no_errors solvers bytes text long errors = let few : length bytes ≤ most_bytes = errors.is_program.short in omega (arith, few, long)
 
--- nor does its run wait
-no_front : (solving : Solving) (bytes text : List ℕ) → most_bytes < length bytes → ShowsFront solving bytes text → ⊥
-no_front solving bytes text long front = let few : length bytes ≤ most_bytes = front.accepted.is_program.short in omega (arith, few, long)
+-- what is refused of a source that is too long is refused of another
+long_refused : (solving : Solving) (a b text : List ℕ) → most_bytes < length a → most_bytes < length b → IsRefused solving a text → IsRefused solving b text
+long_refused solving a b text long more (inl refusal, none) = (inl (long_refusal a b text long more refusal), none)
+long_refused solving a b text long more (inr errors, none) = absurd (no_errors solving.before.names a text long errors)
 
 -- what is listed of a source that is too long is listed of another
 long_listing : (status : Status) (solving : Solving) (a b text : List ℕ) → most_bytes < length a → most_bytes < length b → IsListing status solving a text → IsListing status solving b text
-long_listing Done solving a b text long more run = absurd (no_run Done solving a text long run)
-long_listing Execution solving a b text long more run = absurd (no_run Execution solving a text long run)
-long_listing Compile solving a b text long more (inl refusal, none) = (inl (long_refusal a b text long more refusal), none)
-long_listing Compile solving a b text long more (inr errors, none) = absurd (no_errors solving.solvers a text long errors)
-long_listing Usage solving a b text long more is = is
-long_listing ReadFault solving a b text long more is = is
-long_listing WriteFault solving a b text long more is = is
+long_listing Compile solving a b text long more is = long_refused solving a b text long more is
+long_listing Done solving a b text long more is = absurd (no_run solving a text long is.0)
+long_listing Execution solving a b text long more is = absurd (no_run solving a text long is.0)
+long_listing Usage solving a b text long more is = absurd is.1
+long_listing ReadFault solving a b text long more is = absurd is.1
+long_listing WriteFault solving a b text long more is = absurd is.1
 
--- What is listed of the first bytes of a source, one more than it may have, is listed of the source.
-pub listed_whole : (status : Status) (solving : Solving) (bytes text : List ℕ) → IsListing status solving (take (most_bytes + 1) bytes) text → IsListing status solving bytes text
-listed_whole status solving bytes text is =
-    elim (cases_lt (most_bytes + 1) (length bytes)) [
-      | inl h ↦ long_listing status solving (take (most_bytes + 1) bytes) bytes text (omega (arith, h, length-take (most_bytes + 1) bytes)) (omega (arith, h)) is
-      | inr h ↦ subst (λ (b : List ℕ). IsListing status solving b text) (take_all (most_bytes + 1) bytes h) is
-    ]
+module _ (bytes : List ℕ) where
+  -- the first bytes of a source, one more than it may have
+  abbrev pub first_bytes : List ℕ
+  first_bytes = take (most_bytes + 1) bytes
 
--- the same of a text that is due
-due_whole : (solving : Solving) (bytes text : List ℕ) → IsDue solving (take (most_bytes + 1) bytes) text → IsDue solving bytes text
-due_whole solving bytes text (inl is) = inl (is.0, listed_whole is.0 solving bytes text is.1)
-due_whole solving bytes text (inr front) =
-    elim (cases_lt (most_bytes + 1) (length bytes)) [
-      | inl h ↦ absurd (no_front solving (take (most_bytes + 1) bytes) text (omega (arith, h, length-take (most_bytes + 1) bytes)) front)
-      | inr h ↦ inr (subst (λ (b : List ℕ). ShowsFront solving b text) (take_all (most_bytes + 1) bytes h) front)
-    ]
+  -- What holds of the first bytes holds of the whole, where it does for two sources that are too long.
+  of_whole : (P : List ℕ → Type 0) → (most_bytes < length first_bytes → most_bytes < length bytes → P first_bytes → P bytes) → P first_bytes → P bytes
+  of_whole P long is =
+      elim (cases_lt (most_bytes + 1) (length bytes)) [
+        | inl h ↦ long (omega (arith, h, length-take (most_bytes + 1) bytes)) (omega (arith, h)) is
+        | inr h ↦ subst P (take_all (most_bytes + 1) bytes h) is
+      ]
+
+  -- What is listed of the first bytes is listed of the source.
+  pub listed_whole : (status : Status) (solving : Solving) (text : List ℕ) → IsListing status solving first_bytes text → IsListing status solving bytes text
+  listed_whole status solving text = of_whole (λ b. IsListing status solving b text) (λ long more is. long_listing status solving first_bytes bytes text long more is)
+
+  -- the same of the front of a text that is due
+  front_whole : (solving : Solving) (text : List ℕ) (written : ℕ) → IsFront solving first_bytes text written → IsFront solving bytes text written
+  front_whole solving text written = of_whole (λ b. IsFront solving b text written) (λ long more is. elim is [ inl refused ↦ inl (long_refused solving first_bytes bytes text long more refused) | inr run ↦ absurd (no_run solving first_bytes text long run.0) ])
 
 -- ---- what is said in the end
 
@@ -79,211 +86,294 @@ closing_of_file status solving request file a b lines e c = (c.0, tells request.
   where
     tells : (o : Origin) → o ≡ in_file file → TellsRun status solving o a c.0 → TellsRun status solving o b c.0
     tells (in_file f) e t = t
-    tells (generated size) e t = cc
-
--- Of the source that was taken the same is said as of the text that is generated.
-closing_taken : (status : Status) (solving : Solving) (old : Meaning) (request : Asked) (source lines : List ℕ) → IsTaken old request.source source → AreClosing status solving request source lines → AreClosing status solving request (generated_text request.source) lines
-closing_taken status solving old request source lines taken c = (c.0, tells request.source taken c.1, c.2)
-  where
-    tells : (o : Origin) → IsTaken old o source → TellsRun status solving o source c.0 → TellsRun status solving o (generated_text o) c.0
-    tells (in_file f) taken t = t
-    tells (generated size) taken t = subst (λ (text : List ℕ). TellsRun status solving (generated size) text c.0) taken t
+    tells (generated size) e t = let z : ⊥ = cc in absurd z
 
 -- ---- reports
 
--- what holds of a source that was taken holds of the source as it is told, where for a file it holds of all bytes as of the first of them
-has_taken : (old : Meaning) (o : Origin) (source : List ℕ) (P : List ℕ → Type 0) → ((file bytes : List ℕ) → o ≡ in_file file → P (take (most_bytes + 1) bytes) → P bytes) → IsTaken old o source → P source → HasSource old o P
-has_taken old (in_file file) source P whole taken p = of_files old.files taken
-  where
-    of_files : (files : Option Files) → IfSome files (λ f. (bytes : List ℕ) × (files_map.get f file ≡ Some bytes) × (source ≡ take (most_bytes + 1) bytes)) → IfSome files (λ f. (bytes : List ℕ) × (files_map.get f file ≡ Some bytes) × P bytes)
-    of_files None taken = tt
-    of_files (Some f) taken = (taken.0, taken.1, whole file taken.0 refl (subst P taken.2 p))
-has_taken old (generated size) source P whole taken p = subst P taken p
+module _ (solving : Solving) (old new : Outside) (request : Asked) (file whole : List ℕ) (in_it : request.source ≡ in_file file) where
+  -- what was reported of the first bytes of a file was reported of the file
+  reported_whole : (status : Status) → IsReported status solving old new request (first_bytes whole) → IsReported status solving old new request whole
+  reported_whole status r =
+      record { text = r.text; listing = listed_whole whole status solving r.text r.listing; lines = r.lines; closing = closing_of_file status solving request file (first_bytes whole) whole r.lines in_it r.closing; outside = r.outside }
 
--- What is left of the input behind a source that was taken is left behind all that keeps it.
-keeps_rest : (old mid new : Meaning) (o : Origin) → LeavesRest old mid o → new.input ≡ mid.input → LeavesRest old new o
-keeps_rest old mid new (in_file file) left same =
-    subst (λ (input : Option (List ℕ)). IfSome old.files (λ files. IfSome (files_map.get files file) (λ source. input ≡ Some (drop (most_bytes + 1) source)))) (sym same) left
-keeps_rest old mid new (generated size) left same = same ∙ left
+  -- so was what could not be written
+  unwritten_whole : IsWriteFault solving old new request (first_bytes whole) → IsWriteFault solving old new request whole
+  unwritten_whole (inl u) = inl u
+  unwritten_whole (inr (inl u)) = inr (inl (record { text = u.text; front = u.front; due = front_whole whole solving u.text (length u.front.1.bytes) u.due }))
+  unwritten_whole (inr (inr (inl u))) = inr (inr (inl (record { status = u.status; text = u.text; listing = listed_whole whole u.status solving u.text u.listing; outside = u.outside })))
+  unwritten_whole (inr (inr (inr u))) = inr (inr (inr (record { status = u.status; text = u.text; listing = listed_whole whole u.status solving u.text u.listing; lines = u.lines; closing = closing_of_file u.status solving request file (first_bytes whole) whole u.lines in_it u.closing; front = u.front })))
 
--- the listing that was reported of a source, where it is told
-lists_source : (status : Status) (solving : Solving) (old mid new : Meaning) (request : Asked) (source : List ℕ) → TakesOrigin old mid request.source source → Reports status solving mid new request source → ListsSource status solving old new request.source
-lists_source status solving old mid new request source takes report =
-    has_taken old request.source source Listed (λ file bytes e listed. (listed.0, listed_whole status solving bytes listed.0 listed.1, listed.2)) takes.taken (text, report.listing.1, told)
-  where
-    Listed : List ℕ → Type 0
-    Listed s = (t : List ℕ) × IsListing status solving s t × (new.output ≡ option_map (λ _. t) old.output)
+  -- and all that a run did
+  pub ran_whole : (status : Status) → RanSo status solving old new request (first_bytes whole) → RanSo status solving old new request whole
+  ran_whole Done r = reported_whole Done r
+  ran_whole Compile r = reported_whole Compile r
+  ran_whole Execution r = reported_whole Execution r
+  ran_whole WriteFault r = unwritten_whole r
+  ran_whole Usage r = absurd r
+  ran_whole ReadFault r = absurd r
 
-    text : List ℕ
-    text = report.listing.0
+-- What a run of a source that was taken did is what it did for a request.
+pub of_request : (status : Status) (solving : Solving) (old new : Meaning) (request : Asked) (source : List ℕ) → IsSource old.outside request.source source → RanSo status solving (with_source old.outside request.source source) new.outside request source → OfRequest status solving old new request
+of_request Done solving old new request source is r = record { source = source; is_source = is; ran = r }
+of_request Compile solving old new request source is r = record { source = source; is_source = is; ran = r }
+of_request Execution solving old new request source is r = record { source = source; is_source = is; ran = r }
+of_request WriteFault solving old new request source is r = record { source = source; is_source = is; ran = r }
+of_request Usage solving old new request source is r = absurd r
+of_request ReadFault solving old new request source is r = absurd r
 
-    told : new.output ≡ option_map (λ (_ : List ℕ). text) old.output
-    told = report.listing.2 ∙ ap (option_map (λ (_ : List ℕ). text)) takes.output
+-- The same of a result, for a file whose first bytes were taken.
+pub of_file : (r : Result Status AllocError) (solving : Solving) (old mid new : Meaning) (request : Asked) (file : List ℕ) (source : Vec ℕ Global) (bytes : List ℕ) → request.source ≡ in_file file → bytes ≡ source.items → ReadsFile (done_with source) old.outside mid.outside file →
+    IfOk r (λ status. RanSo status solving mid.outside new.outside request bytes) → IfOk r (λ status. OfRequest status solving old new request)
+of_file (Ok status) solving old mid new request file source bytes in_it same read ran =
+    let whole = read.0 in
+    let is : IsSource old.outside request.source whole = subst (λ (o : Origin). IsSource old.outside o whole) (sym in_it) read.1.0 in
+    let taken : bytes ≡ take (most_bytes + 1) whole = same ∙ read.1.1.0 in
+    let place : mid.outside ≡ with_source old.outside request.source whole = read.1.1.1 ∙ ap (λ (o : Origin). with_source old.outside o whole) (sym in_it) in
+    of_request status solving old new request whole is
+    (ran_whole solving (with_source old.outside request.source whole) new.outside request file whole in_it status
+    (subst (λ (o : Outside). RanSo status solving o new.outside request (take (most_bytes + 1) whole)) place (subst (λ (b : List ℕ). RanSo status solving mid.outside new.outside request b) taken ran)))
+of_file (Err e) solving old mid new request file source bytes in_it same read ran = tt
 
--- what was reported, as the status says
-is_reported : (status : Status) (solving : Solving) (old mid new : Meaning) (request : Asked) (source : List ℕ) → TakesOrigin old mid request.source source → Reports status solving mid new request source → IsReported status solving old new request
-is_reported status solving old mid new request source takes report =
-    record {
-      listing = lists_source status solving old mid new request source takes report;
-      asked = report.asked ∙ ap (λ (names : Option (List (List ℕ))). names_with names request.output) takes.asked;
-      said = (report.said.0, closing_taken status solving old request source report.said.0 takes.taken report.said.1, report.said.2 ∙ ap (λ (said : Option (List ℕ)). bytes_with said report.said.0) takes.said);
-      closed = report.closed;
-      left = keeps_rest old mid new request.source takes.left report.input;
-      precise = λ t. same_more (takes.precise t) (report.precise (takes.counts.precise ∙ t));
-    }
+-- And for a model that was generated, without any call.
+pub of_generated : (r : Result Status AllocError) (solving : Solving) (old new : Meaning) (request : Asked) (size : ℕ) (source : List ℕ) → request.source ≡ generated size → source ≡ model_text size size size →
+    IfOk r (λ status. RanSo status solving old.outside new.outside request source) → IfOk r (λ status. OfRequest status solving old new request)
+of_generated (Ok status) solving old new request size source e is ran =
+    of_request status solving old new request source (subst (λ (o : Origin). IsSource old.outside o source) (sym e) is) (subst (λ (o : Outside). RanSo status solving o new.outside request source) (ap (λ (o : Origin). with_source old.outside o source) (sym e)) ran)
+of_generated (Err x) solving old new request size source e is ran = tt
 
--- ---- failures
+-- A report is what its status says.
+pub reports_so : (status : Status) (solving : Solving) (old new : Outside) (request : Asked) (source : List ℕ) → IsReported status solving old new request source → RanSo status solving old new request source
+reports_so Done solving old new request source r = r
+reports_so Compile solving old new request source r = r
+reports_so Execution solving old new request source r = r
+reports_so Usage solving old new request source r = absurd r.listing.1
+reports_so ReadFault solving old new request source r = absurd r.listing.1
+reports_so WriteFault solving old new request source r = absurd r.listing.1
 
--- a fault of writing that came later
-write_rose : (old mid new : Meaning) → old.write_faults ≤ mid.write_faults → Rose mid.write_faults new.write_faults → Rose old.write_faults new.write_faults
-write_rose old mid new h rose = omega (arith, h, rose)
+-- ---- the steps of a report
 
--- The front of what is due, of an output that stands as it stood before.
-moved_front : (solving : Solving) (old mid new : Meaning) (request : Asked) (source : List ℕ) → mid.output ≡ old.output → mid.said ≡ old.said → LeavesFront solving mid new request source → LeavesFront solving old new request source
-moved_front solving old mid new request source same quiet left =
-    record {
-      text = left.text;
-      due = left.due;
-      front = (left.front.0, left.front.1 ∙ ap (option_map (λ (_ : List ℕ). take left.front.0 left.text)) same);
-      said = elim left.said [ inl n ↦ inl (n ∙ quiet) | inr s ↦ inr (behind s) ];
-    }
-  where
-    behind : SaysBehind solving mid new request source left.text → SaysBehind solving old new request source left.text
-    behind s =
-        record {
-          status = s.status;
-          whole = s.whole;
-          written = s.written ∙ ap (option_map (λ (_ : List ℕ). left.text)) same;
-          lines = s.lines;
-          closing = s.closing;
-          said = (s.said.0, s.said.1 ∙ ap (λ (o : Option (List ℕ)). bytes_with o (take s.said.0 s.lines)) quiet);
-        }
+-- where the output is opened its name is that which the request asks for
+opened_as : (old mid : Outside) (name output : List ℕ) → name ≡ output → mid ≡ with_opened old name → mid ≡ with_opened old output
+opened_as old mid name output same e = e ∙ ap (with_opened old) same
 
--- The front of what is due for the first bytes of a file is one for the whole file.
-whole_front : (solving : Solving) (old new : Meaning) (request : Asked) (file bytes : List ℕ) → request.source ≡ in_file file → LeavesFront solving old new request (take (most_bytes + 1) bytes) → LeavesFront solving old new request bytes
-whole_front solving old new request file bytes e left =
-    record {
-      text = left.text;
-      due = due_whole solving bytes left.text left.due;
-      front = left.front;
-      said = elim left.said [ inl n ↦ inl n | inr s ↦ inr (behind s) ];
-    }
-  where
-    behind : SaysBehind solving old new request (take (most_bytes + 1) bytes) left.text → SaysBehind solving old new request bytes left.text
-    behind s =
-        record {
-          status = s.status;
-          whole = listed_whole s.status solving bytes left.text s.whole;
-          written = s.written;
-          lines = s.lines;
-          closing = closing_of_file s.status solving request file (take (most_bytes + 1) bytes) bytes s.lines e s.closing;
-          said = s.said;
-        }
+-- the output was not opened
+pub unopened : (solving : Solving) (old new : Outside) (request : Asked) (source name : List ℕ) (failed : Failed) → name ≡ request.output → SolvesNothing solving → OpensOutput (Err failed) old new name → IsWriteFault solving old new request source
+unopened solving old new request source name failed same none opened =
+    inl (record { none = none; outside = subst (λ (n : List ℕ). OpensOutput (Err failed) old new n) same opened })
 
--- A run that failed to write behind a source that was taken.
-write_failed : (solving : Solving) (old mid new : Meaning) (request : Asked) (source : List ℕ) → TakesOrigin old mid request.source source → LeavesReport solving mid new request source → Rose mid.write_faults new.write_faults → IsWriteFault solving old new request
-write_failed solving old mid new request source takes left rose =
-    record {
-      rose = write_rose old mid new takes.counts.write_faults rose;
-      front = has_taken old request.source source Left (λ file bytes e at. elim at [ inl none ↦ inl none | inr front ↦ inr (whole_front solving old new request file bytes e front) ]) takes.taken here;
-      asked = elim left.asked [
-        | inl same ↦ inl (same ∙ takes.asked)
-        | inr more ↦ inr (more ∙ ap (λ (names : Option (List (List ℕ))). names_with names request.output) takes.asked)
-      ];
-      left = keeps_rest old mid new request.source takes.left left.input;
-    }
-  where
-    Left : List ℕ → Type 0
-    Left s = (LeavesNothing old new × SolvesNothing solving) ⊎ LeavesFront solving old new request s
+-- the listing was not written whole
+pub unwritten : (solving : Solving) (old mid new : Outside) (request : Asked) (source name : List ℕ) → name ≡ request.output → mid ≡ with_opened old name → IsUnwritten solving mid new source → IsWriteFault solving old new request source
+unwritten solving old mid new request source name same opened u = inr (inl (subst (λ (o : Outside). IsUnwritten solving o new source) (opened_as old mid name request.output same opened) u))
 
-    -- what was not written over the opened output was not written at all
-    nothing : LeavesNothing mid new → LeavesNothing old new
-    nothing none = record { output = none.output ∙ ap (option_map (λ (_ : List ℕ). [])) takes.output; said = none.said ∙ takes.said }
+module _ (status : Status) (solving : Solving) (old mid wrote : Outside) (request : Asked) (source name : List ℕ) (same : name ≡ request.output) (opened : mid ≡ with_opened old name) (lists : Lists status solving mid wrote source) where
+  -- what was written
+  written : wrote ≡ with_listing old request.output lists.text
+  written = lists.written ∙ ap (λ (o : Outside). with_output o lists.text) (opened_as old mid name request.output same opened)
 
-    here : Left source
-    here =
-        elim left.front [
-          | inl none ↦ inl (nothing none.0, none.1)
-          | inr front ↦ inr (moved_front solving old mid new request source takes.output takes.said front)
-        ]
+  -- the output was not closed well
+  pub unclosed : (new : Outside) (failed : Failed) → ClosesOutput (Err failed) wrote new → IsWriteFault solving old new request source
+  unclosed new failed closed =
+      inr (inr (inl (record { status = status; text = lists.text; listing = lists.listing; outside = closed ∙ ap (λ (o : Outside). record o { writing = false }) written })))
 
--- What a run did behind a source that was taken, as its status says.
-pub ran : (status : Status) (solving : Solving) (old mid new : Meaning) (request : Asked) (source : List ℕ) → TakesOrigin old mid request.source source → RanSo status solving mid new request source → OfRequest status solving old new request
-ran Done solving old mid new request source takes did = is_reported Done solving old mid new request source takes did
-ran Compile solving old mid new request source takes did = is_reported Compile solving old mid new request source takes did
-ran Execution solving old mid new request source takes did = is_reported Execution solving old mid new request source takes did
-ran WriteFault solving old mid new request source takes did = write_failed solving old mid new request source takes did.0 did.1
-ran Usage solving old mid new request source takes did = absurd did
-ran ReadFault solving old mid new request source takes did = absurd did
+  module _ (shut : Outside) (closed : ClosesOutput all_done wrote shut) (lines : List ℕ) (closing : AreClosing status solving request source lines) where
+    kept : shut ≡ with_kept (with_listing old request.output lists.text)
+    kept = closed ∙ ap with_kept written
 
--- the same of a result
-pub ran_all : (r : Result Status AllocError) (solving : Solving) (old mid new : Meaning) (request : Asked) (source : List ℕ) → TakesOrigin old mid request.source source → IfOk r (λ status. RanSo status solving mid new request source) → IfOk r (λ status. OfRequest status solving old new request)
-ran_all (Ok status) solving old mid new request source takes did = ran status solving old mid new request source takes did
-ran_all (Err e) solving old mid new request source takes did = tt
+    -- the closing lines were not said whole
+    pub unsaid : (new : Outside) → SaysFront shut new lines → IsWriteFault solving old new request source
+    unsaid new front =
+        inr (inr (inr (record { status = status; text = lists.text; listing = lists.listing; lines = lines; closing = closing; front = subst (λ (o : Outside). SaysFront o new lines) kept front })))
 
--- a source that was read from its file was taken
-pub taken_of_file : (old mid : Meaning) (o : Origin) (file source : List ℕ) → o ≡ in_file file → ReadsFile old mid file source → TakesOrigin old mid o source
-taken_of_file old mid o file source e read =
-    subst (λ (x : Origin). TakesOrigin old mid x source) (sym e)
-    (record { taken = read.taken; left = read.left; output = read.output; said = read.said; asked = read.asked; counts = read.counts; precise = read.precise })
+    -- all was done
+    pub reported : (new : Outside) → new ≡ with_said shut lines → IsReported status solving old new request source
+    reported new said =
+        record { text = lists.text; listing = lists.listing; lines = lines; closing = closing; outside = said ∙ ap (λ (o : Outside). with_said o lines) kept }
 
--- and a model that was generated is taken without any call
-pub taken_generated : (old : Meaning) (o : Origin) (size : ℕ) (source : List ℕ) → o ≡ generated size → source ≡ model_text size size size → TakesOrigin old old o source
-taken_generated old o size source e is =
-    subst (λ (x : Origin). TakesOrigin old old x source) (sym e)
-    (record { taken = is; left = refl; output = refl; said = refl; asked = refl; counts = CountsStay-none old; precise = (calm_none old).precisely })
-
--- A listing was written, or the closing lines were not said whole: what the status of such a run says.
-pub reports_so : (status : Status) (solving : Solving) (old new : Meaning) (request : Asked) (source : List ℕ) → Reports status solving old new request source → RanSo status solving old new request source
-reports_so Done solving old new request source report = report
-reports_so Compile solving old new request source report = report
-reports_so Execution solving old new request source report = report
-reports_so Usage solving old new request source report = absurd report.listing.1
-reports_so ReadFault solving old new request source report = absurd report.listing.1
-reports_so WriteFault solving old new request source report = absurd report.listing.1
+-- ---- files that are not read
 
 -- The file could not be read, and the line that says so was said.
-not_read : (old mid new : Meaning) (request : Asked) (file : List ℕ) → request.source ≡ in_file file → AsksNoMore old mid file → Rose old.read_faults mid.read_faults → SaysOnly mid new (read_fault_line file) → IsReadFault old new request
-not_read old mid new request file in_it asks rose says =
-    record {
-      file = file;
-      in_it = in_it;
-      rose = let h : mid.read_faults ≤ new.read_faults = says.counts.read_faults in omega (arith, h, rose);
-      output = says.output ∙ asks.output;
-      asked = elim asks.asked [ inl same ↦ inl (says.asked ∙ same) | inr more ↦ inr (says.asked ∙ more) ];
-      said = record {
-        front = (says.said.front.0, says.said.front.1 ∙ ap (λ (o : Option (List ℕ)). bytes_with o (take says.said.front.0 (read_fault_line file))) asks.said);
-        whole = elim says.said.whole [
-          | inl all ↦ inl (all ∙ ap (λ (o : Option (List ℕ)). bytes_with o (read_fault_line file)) asks.said)
-          | inr fault ↦ inr (write_rose old mid new asks.counts.write_faults fault)
-        ];
-      };
-    }
+pub unread : (r : Result Status AllocError) (solving : Solving) (old mid new : Meaning) (request : Asked) (file : List ℕ) → request.source ≡ in_file file → IsUnread old.outside mid.outside file → CountsReading (let x : Result (Vec ℕ Global) Failed = Err Fault in x) (IsThere old.outside file) old.counts mid.counts →
+    IfOk r (λ status. status ≡ ReadFault) → OnOk r (SaysLine mid new mid.outside (read_fault_line file)) → SolvesNothing solving → IfOk r (λ status. OfRequest status solving old new request)
+unread (Ok status) solving old mid new request file in_it not counts same said none =
+    let faults : mid.counts.write_faults ≡ old.counts.write_faults = ap (λ (c : Counts). c.write_faults) counts.rest in
+    subst (λ s. OfRequest s solving old new request) (sym same) (
+      record {
+        file = file;
+        in_it = in_it;
+        before = mid.outside;
+        unread = not;
+        said = record { front = said.front; whole = elim said.whole [ inl all ↦ inl all | inr rose ↦ inr (subst (λ n. Rose n new.counts.write_faults) faults rose) ] };
+      },
+      none,
+    )
+unread (Err e) solving old mid new request file in_it not counts same said none = tt
 
--- What a run did that could not read its file.
-pub read_failed : (r : Result Status AllocError) (solving : Solving) (old mid new : Meaning) (request : Asked) (file : List ℕ) → request.source ≡ in_file file → AsksNoMore old mid file → Rose old.read_faults mid.read_faults →
-    IfOk r (λ status. status ≡ ReadFault) → OnOk r (SaysOnly mid new (read_fault_line file)) → SolvesNothing solving → IfOk r (λ status. OfRequest status solving old new request)
-read_failed (Ok status) solving old mid new request file in_it asks rose same says none = subst (λ s. OfRequest s solving old new request) (sym same) (not_read old mid new request file in_it asks rose says, none)
-read_failed (Err e) solving old mid new request file in_it asks rose same says none = tt
+-- ---- lines
 
--- what holds however a call ends holds where it is done
-pub on_ok : {T E P : Type 0} (r : Result T E) → P → OnOk r P
-on_ok (Ok x) p = p
-on_ok (Err e) p = tt
+-- A line that was said whole.
+pub says_whole : (old new : Meaning) (line : List ℕ) → new.outside ≡ with_said old.outside line → SaysLine old new old.outside line
+says_whole old new line said =
+    record { front = ([], record { bytes = line; said = said; split = sym (append-nil line) }); whole = inl said }
+
+-- A line whose saying a fault ended.
+pub says_front : (old new : Meaning) (line : List ℕ) → SaysFront old.outside new.outside line → Rose old.counts.write_faults new.counts.write_faults → SaysLine old new old.outside line
+says_front old new line front rose = record { front = front; whole = inr rose }
+
+-- ---- counts
 
 -- a fault that is an error of a result
 pub fault_of : (T : Type 0) (e : Failed) → e ≡ Fault → IsErrOf {T = T} {E = Failed} (Err e) Fault
 fault_of T e is = ap (λ (x : Failed). let r : Result T Failed = Err x in r) is
 
--- A line that was said whole.
-pub says_whole : (old new : Meaning) (line : List ℕ) → Says old new line → SaysOnly old new line
-says_whole old new line s =
+-- what saying a line counts
+pub mentioned : {A : Type 0} (r : Result A Failed) (old new : Counts) → CountsWriting r old new → CountsMention old new
+mentioned r old new c =
+    record { rest = c.rest; no_fall = c.own.no_fall; stay = λ t. c.rest ∙ ap (λ n. record old { write_faults = n }) (c.own.steady t) }
+
+-- where no line is said nothing is counted
+pub mentioned_none : (c : Counts) → CountsMention c c
+mentioned_none c = record { rest = refl; no_fall = omega arith; stay = λ t. refl }
+
+-- what a report counts where it was done
+pub counts_reported : (status : Status) (old new : Counts) → CountsWriting (done_with status) old new → (status ≡ Done) ⊎ ((status ≡ Compile) ⊎ (status ≡ Execution)) → CountsRun (let r : Result Status AllocError = Ok status in r) (old.reliable ≡ true) old new
+counts_reported status old new c is =
+    record { said = by status is; stay = stay; unmet = λ t. met status is }
+  where
+    stay : old.reliable ≡ true → new ≡ old
+    stay t = c.rest ∙ ap (λ n. record old { write_faults = n }) (c.own.steady t)
+
+    precise : old.precise ≡ true → new ≡ old
+    precise t = c.rest ∙ ap (λ n. record old { write_faults = n }) (c.own.done t)
+
+    by : (s : Status) → (s ≡ Done) ⊎ ((s ≡ Compile) ⊎ (s ≡ Execution)) → CountsSo s old new
+    by Done is = precise
+    by Compile is = precise
+    by Execution is = precise
+    by Usage is = tt
+    by ReadFault (inl e) = let z : ⊥ = cc in absurd z
+    by ReadFault (inr (inl e)) = let z : ⊥ = cc in absurd z
+    by ReadFault (inr (inr e)) = let z : ⊥ = cc in absurd z
+    by WriteFault (inl e) = let z : ⊥ = cc in absurd z
+    by WriteFault (inr (inl e)) = let z : ⊥ = cc in absurd z
+    by WriteFault (inr (inr e)) = let z : ⊥ = cc in absurd z
+
+    met : (s : Status) → (s ≡ Done) ⊎ ((s ≡ Compile) ⊎ (s ≡ Execution)) → EndsByNoFault s
+    met Done is = tt
+    met Compile is = tt
+    met Execution is = tt
+    met Usage is = tt
+    met ReadFault (inl e) = let z : ⊥ = cc in absurd z
+    met ReadFault (inr (inl e)) = let z : ⊥ = cc in absurd z
+    met ReadFault (inr (inr e)) = let z : ⊥ = cc in absurd z
+    met WriteFault (inl e) = let z : ⊥ = cc in absurd z
+    met WriteFault (inr (inl e)) = let z : ⊥ = cc in absurd z
+    met WriteFault (inr (inr e)) = let z : ⊥ = cc in absurd z
+
+-- a report has the listing of one of three statuses
+pub reported_status : (status : Status) (solving : Solving) (old new : Outside) (request : Asked) (source : List ℕ) → IsReported status solving old new request source → (status ≡ Done) ⊎ ((status ≡ Compile) ⊎ (status ≡ Execution))
+reported_status Done solving old new request source r = inl refl
+reported_status Compile solving old new request source r = inr (inl refl)
+reported_status Execution solving old new request source r = inr (inr refl)
+reported_status Usage solving old new request source r = absurd r.listing.1
+reported_status ReadFault solving old new request source r = absurd r.listing.1
+reported_status WriteFault solving old new request source r = absurd r.listing.1
+
+-- what a report counts that a fault ended
+pub counts_fault : (old new : Counts) → CountsWriting (let r : Result Status Failed = Err Fault in r) old new → CountsRun (let r : Result Status AllocError = Ok WriteFault in r) (old.reliable ≡ true) old new
+counts_fault old new c =
     record {
-      output = s.output;
-      asked = s.asked;
-      said = record {
-        front = (length line, s.said ∙ ap (bytes_with old.said) (sym (take_all (length line) line (omega arith))));
-        whole = inl s.said;
-      };
-      counts = s.counts;
+      said = c.own.fault refl;
+      stay = λ t. c.rest ∙ ap (λ n. record old { write_faults = n }) (c.own.steady t);
+      unmet = λ t. c.own.unfailing t refl;
     }
+
+-- what a run counts that ends by want of memory
+pub counts_memory : (e : AllocError) (r : Result Status Failed) (old new : Counts) → CountsWriting r old new → CountsRun (let x : Result Status AllocError = Err e in x) (old.reliable ≡ true) old new
+counts_memory e r old new c = record { said = tt; stay = λ t. c.rest ∙ ap (λ n. record old { write_faults = n }) (c.own.steady t); unmet = λ t. tt }
+
+-- and what it counts where nothing was done before
+pub counts_nothing : (e : AllocError) (sure : Type 0) (c : Counts) → CountsRun (let x : Result Status AllocError = Err e in x) sure c c
+counts_nothing e sure c = record { said = tt; stay = λ t. refl; unmet = λ t. tt }
+
+-- a count that rose behind one that stayed or rose
+rose_on : (a b c : ℕ) → a ≤ b → Rose b c → Rose a c
+rose_on a b c h rose = omega (arith, h, rose)
+
+-- a count that rose before one that did not fall
+rose_first : (a b c : ℕ) → Rose a b → b ≤ c → Rose a c
+rose_first a b c rose h = omega (arith, h, rose)
+
+-- what a run counts behind a file that was read
+pub counts_read : {A : Type 0} (x : A) (there : Type 0) (r : Result Status AllocError) (old mid new : Counts) → CountsReading (done_with x) there old mid → CountsRun r (mid.reliable ≡ true) mid new → CountsRun r ((old.reliable ≡ true) × there) old new
+counts_read x there r old mid new p q =
+    record { said = by r q.said; stay = λ t. q.stay (reliable t.0) ∙ first t; unmet = λ t. q.unmet (reliable t.0) }
+  where
+    reliable : old.reliable ≡ true → mid.reliable ≡ true
+    reliable t = ap (λ (c : Counts). c.reliable) p.rest ∙ t
+
+    first : (old.reliable ≡ true) × there → mid ≡ old
+    first t = p.rest ∙ ap (λ n. record old { read_faults = n }) (p.own.steady t)
+
+    precise : old.precise ≡ true → mid ≡ old
+    precise t = p.rest ∙ ap (λ n. record old { read_faults = n }) (p.own.done t)
+
+    both : (mid.precise ≡ true → new ≡ mid) → old.precise ≡ true → new ≡ old
+    both q t = q (ap (λ (c : Counts). c.precise) p.rest ∙ t) ∙ precise t
+
+    writes : mid.write_faults ≡ old.write_faults
+    writes = ap (λ (c : Counts). c.write_faults) p.rest
+
+    of_status : (s : Status) → CountsSo s mid new → CountsSo s old new
+    of_status Done q = both q
+    of_status Compile q = both q
+    of_status Execution q = both q
+    of_status Usage q = tt
+    of_status ReadFault q = rose_on old.read_faults mid.read_faults new.read_faults p.own.no_fall q
+    of_status WriteFault q = subst (λ n. Rose n new.write_faults) writes q
+
+    by : (r : Result Status AllocError) → IfOk r (λ s. CountsSo s mid new) → IfOk r (λ s. CountsSo s old new)
+    by (Ok s) q = of_status s q
+    by (Err e) q = tt
+
+-- what a run counts whose file was not read
+pub counts_unread : (there : Type 0) (r : Result Status AllocError) (old mid new : Counts) → CountsReading (let x : Result (Vec ℕ Global) Failed = Err Fault in x) there old mid → CountsMention mid new → IfOk r (λ s. s ≡ ReadFault) → CountsRun r ((old.reliable ≡ true) × there) old new
+counts_unread there r old mid new p q is =
+    record { said = by r is; stay = λ t. absurd (p.own.unfailing t refl); unmet = λ t. absurd (p.own.unfailing t refl) }
+  where
+    read : new.read_faults ≡ mid.read_faults
+    read = ap (λ (c : Counts). c.read_faults) q.rest
+
+    rose : Rose old.read_faults new.read_faults
+    rose = subst (λ n. Rose old.read_faults n) (sym read) (p.own.fault refl)
+
+    by : (r : Result Status AllocError) → IfOk r (λ s. s ≡ ReadFault) → IfOk r (λ s. CountsSo s old new)
+    by (Ok s) e = subst (λ s. CountsSo s old new) (sym e) rose
+    by (Err e) is = tt
+
+-- and where memory was wanting in reading it
+pub counts_read_memory : (e : AllocError) (there : Type 0) (r : Result (Vec ℕ Global) Failed) (old mid : Counts) → CountsReading r there old mid → CountsRun (let x : Result Status AllocError = Err e in x) ((old.reliable ≡ true) × there) old mid
+counts_read_memory e there r old mid p = record { said = tt; stay = λ t. p.rest ∙ ap (λ n. record old { read_faults = n }) (p.own.steady t); unmet = λ t. tt }
+
+-- what a run counts where it is sure for another reason
+pub counts_sure : (r : Result Status AllocError) (sure other : Type 0) (old new : Counts) → (other → sure) → CountsRun r sure old new → CountsRun r other old new
+counts_sure r sure other old new s c = record { said = c.said; stay = λ t. c.stay (s t); unmet = λ t. c.unmet (s t) }
+
+-- where the words are refused a line is said and no more
+pub counts_usage : (words : List (List ℕ)) (old : Meaning) (new : Counts) → CountsMention old.counts new → CountsRun (let r : Result Status AllocError = Ok Usage in r) (IsReadyFor old words) old.counts new
+counts_usage words old new c = record { said = tt; stay = λ t. c.stay t.reliable; unmet = λ t. tt }
+
+-- a ready host has what a request asks for
+pub ready_of : (old : Meaning) (words : List (List ℕ)) (request : Asked) → request_of words ≡ Some request → IsReadyFor old words → (old.counts.reliable ≡ true) × HasOrigin old.outside request.source
+ready_of old words request named r = (r.reliable, subst (λ (o : Option Asked). IfSome o (λ q. HasOrigin old.outside q.source)) named r.there)
+
+-- ---- words
+
+-- What a run did for a request is what it did for words that ask for it.
+pub is_run : (r : Result Status AllocError) (solving : Solving) (words : List (List ℕ)) (old new : Meaning) (request : Asked) → request_of words ≡ Some request → IfOk r (λ status. OfRequest status solving old new request) → IfOk r (λ status. IsRun status solving words old new)
+is_run (Err e) solving words old new request named did = tt
+is_run (Ok Done) solving words old new request named did = (request, (named, did))
+is_run (Ok Compile) solving words old new request named did = (request, (named, did))
+is_run (Ok Execution) solving words old new request named did = (request, (named, did))
+is_run (Ok WriteFault) solving words old new request named did = (request, (named, did))
+is_run (Ok ReadFault) solving words old new request named did = (request, (named, did))
+is_run (Ok Usage) solving words old new request named did = absurd did.ran

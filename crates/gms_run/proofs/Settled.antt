@@ -1,5 +1,5 @@
 -- Each solve of a run is answered, and its search comes to its end.
-use Rattle.std.proofs.Common.{◌≡◌, ◌≤◌, ℕ, List, [], ◌∷◌, ◌++◌, Option, Some, None, sym, subst}
+use Rattle.std.proofs.Common.{◌≡◌, ℕ, ◌≤◌, List, [], ◌∷◌, ◌++◌, Option, Some, sym, subst}
 use Rattle.std.specs.Prelude.{slice_get, IfSome}
 use Rattle.std.specs.List.{All}
 use Rattle.std.proofs.lemmas.List.Elements.{All-nil, All-cons, All-head, All-tail, All-append, All-weaker}
@@ -24,7 +24,7 @@ use Rattle.gms_exec.specs.Answering.{AreAnswered, IsAnswered}
 use Rattle.gms_exec.specs.Standing.{IsStanding, IsStandingSolve}
 use Rattle.gms_exec.proofs.Quiet.{IsNoSolve}
 use Rattle.gms_exec.proofs.Standing.{answered_by_standing}
-use Rattle.gms_run.specs.Answers.{number_limit}
+use Rattle.gms_run.specs.Solving.{number_limit}
 use Rattle.gms_run.specs.Searches.{SearchEnds, SearchesEnd}
 use Rattle.gms_run.proofs.Completeness.{one_value}
 

@@ -1,5 +1,8 @@
-pub mod Answers
-pub mod Outside
-pub mod Steps
-pub mod Transfers
+pub mod Solving
 pub mod Searches
+pub mod Jobs
+pub mod Listings
+pub mod Statuses
+pub mod InnerSteps
+pub mod InnerReports
+pub mod Laws

@@ -2,8 +2,9 @@
 ghost use Rattle.std.specs.Prelude.{◌≡◌, ◌++◌, ℕ, List, IfOk, length, string_bytes};
 ghost use Rattle.gq_frac.specs.Frac.{frac_value};
 ghost use Rattle.gms_words.specs.CommandLine.{closing_line, origin};
-ghost use Rattle.gms_run.specs.Answers.{IsModelLine, model_status, objective_level, pivots_of, status_code};
-ghost use Rattle.gms_run.specs.Outside.{IsTold};
+ghost use Rattle.gms_run.specs.InnerReports.{IsTold};
+ghost use Rattle.gms_run.specs.Jobs.{status_code};
+ghost use Rattle.gms_run.specs.Listings.{IsModelLine, model_status, objective_level, pivots_of};
 
 use crate::report::{Last, Outcome};
 use gms_tuple::Tuple;

@@ -1,8 +1,7 @@
 //! The execution of a program, whose listing goes out statement by statement.
-ghost use Rattle.std.specs.Prelude.{◌≡◌, ◌<◌, ◌^◌, ◌++◌, [], true, length, map, IfOk, OnOk, IsErrOf};
+ghost use Rattle.std.specs.Prelude.{◌≡◌, ◌<◌, ◌≤◌, ◌^◌, ◌++◌, [], true, length, map, IfOk, OnOk};
 ghost use Rattle.std.specs.List.{All};
 ghost use Rattle.gq_frac.specs.Frac.{frac_value};
-ghost use Rattle.lp_core.specs.Numbers.{answer_numbers};
 ghost use Rattle.gms_event.specs.EventView.{events_in};
 ghost use Rattle.gms_exec.specs.Dimensions.{AreOneDimensional};
 ghost use Rattle.gms_exec.specs.Run.{of_statement};
@@ -10,13 +9,10 @@ ghost use Rattle.gms_exec.specs.Walks.{AreKept};
 ghost use Rattle.gms_list.specs.Conditions.{IsListable};
 ghost use Rattle.gms_list.specs.ListingText.{events_text};
 ghost use Rattle.gms_check.specs.CompileErrors.{compile_errors};
-ghost use Rattle.gms_check.specs.Loaded.{loaded};
-ghost use Rattle.gms_host.specs.Meaning.{Rose};
-ghost use Rattle.gms_host.specs.Rules.{Steady, Precise};
-ghost use Rattle.gms_host.specs.Spooling.{WritesFront};
-ghost use Rattle.gms_run.specs.Answers.{number_limit, course_of};
-ghost use Rattle.gms_run.specs.Outside.{Streams, RunsTo, ComesToRest, shown_by};
-ghost use Rattle.gms_run.specs.Steps.{IsListed};
+ghost use Rattle.gms_host.specs.Rules.{CountsWriting};
+ghost use Rattle.gms_run.specs.InnerSteps.{BreaksBehind, BreaksJob, ComesTo, EndsBehind, EndsJob, IsListed, between, work};
+ghost use Rattle.gms_run.specs.Jobs.{job_of};
+ghost use Rattle.gms_run.specs.Solving.{number_limit, numbers_of, solving};
 
 use crate::outlet::Outlet;
 use crate::status::Status;
@@ -51,7 +47,7 @@ fn list_events(
     listing: &mut Listing,
 ) -> Result<(), AllocError>
     requires { All (IsListable frac_value answers.now) events.now }
-    ensures { OnOk result (listing.new ≡ listing.old ++ events_text program.now.names program.now.labels number_limit (map (answer_numbers frac_value) answers.now) (events_in frac_value events.now)) }
+    ensures { OnOk result (listing.new ≡ listing.old ++ events_text program.now.names program.now.labels number_limit (numbers_of answers.now) (events_in frac_value events.now)) }
 {
     for event in events {
         listing.event(alloc, program, event, answers)?;
@@ -73,9 +69,7 @@ fn statement(
     requires settings { AreKept (length solvers.old.items) store.old.settings }
     requires plain { AreOneDimensional store.old program.now.statements.items }
     ensures listed { IfOk result (λ goes_on. IsListed goes_on (of_statement frac_value number_limit (record { program = program.now; solvers = map name solvers.old.items }) s.now []) program.now (map rule solvers.old.items)
-        (record { state = store.old; answers = answers.old.items; paths = map paths solvers.old.items }) (record { state = store.new; answers = answers.new.items; paths = map paths solvers.new.items }) listing.old listing.new) }
-    ensures names { OnOk result (map name solvers.new.items ≡ map name solvers.old.items) }
-    ensures rules { OnOk result (map rule solvers.new.items ≡ map rule solvers.old.items) }
+        (between name rule paths store.old answers.old.items solvers.old.items) (between name rule paths store.new answers.new.items solvers.new.items) listing.old listing.new) }
     ensures settings { OnOk result (AreKept (length solvers.old.items) store.new.settings) }
     ensures plain { OnOk result (AreOneDimensional store.new program.now.statements.items) }
 {
@@ -115,22 +109,15 @@ fn statements<H: Host>(
     answers: &mut Vec<Answer<Frac>>,
     outlet: &mut Outlet,
 ) -> Result<Status, Failed>
-    requires open { (H.meaning host.old).writing ≡ true }
+    requires open { (H.meaning host.old).outside.writing ≡ true }
     requires few { length solvers.old.items < 2 ^ 32 }
-    requires begins { store.old ≡ loaded frac_value program.now }
     requires settings { AreKept (length solvers.old.items) store.old.settings }
     requires plain { AreOneDimensional store.old program.now.statements.items }
     requires none { answers.old.items ≡ [] }
-    ensures ends { IfOk result (λ status. RunsTo status (record { solvers = map name solvers.old.items; rules = map rule solvers.old.items; answers = answers.new.items; paths_before = map paths solvers.old.items; paths_after = map paths solvers.new.items }) program.now) }
-    ensures last { OnOk result ((course_of (record { solvers = map name solvers.old.items; rules = map rule solvers.old.items; answers = answers.new.items; paths_before = map paths solvers.old.items; paths_after = map paths solvers.new.items }) program.now).state ≡ store.new) }
-    ensures shown { OnOk result (Streams (H.meaning host.old) (H.meaning host.new) outlet.old.spool (outlet.old.listing ++ shown_by (record { solvers = map name solvers.old.items; rules = map rule solvers.old.items; answers = answers.new.items; paths_before = map paths solvers.old.items; paths_after = map paths solvers.new.items }) program.now) (outlet.new.spool ++ outlet.new.listing)) }
-    ensures failed { IsErrOf result Failed.Fault → WritesFront (H.meaning host.old) (H.meaning host.new) (outlet.old.spool ++ outlet.old.listing ++ shown_by (record { solvers = map name solvers.old.items; rules = map rule solvers.old.items; answers = answers.new.items; paths_before = map paths solvers.old.items; paths_after = map paths solvers.new.items }) program.now) }
-    ensures rests { IsErrOf result Failed.Fault → ComesToRest (record { solvers = map name solvers.old.items; rules = map rule solvers.old.items; answers = answers.new.items; paths_before = map paths solvers.old.items; paths_after = map paths solvers.new.items }) program.now }
-    ensures fault { IsErrOf result Failed.Fault → Rose (H.meaning host.old).write_faults (H.meaning host.new).write_faults }
-    ensures steady { Steady (H.meaning host.old) (H.meaning host.new) result }
-    ensures precise { OnOk result (Precise (H.meaning host.old) (H.meaning host.new)) }
-    ensures kept { OnOk result ((map name solvers.new.items ≡ map name solvers.old.items) × (map rule solvers.new.items ≡ map rule solvers.old.items)) }
-    ensures kept_failed { IsErrOf result Failed.Fault → (map name solvers.new.items ≡ map name solvers.old.items) × (map rule solvers.new.items ≡ map rule solvers.old.items) }
+    requires room { length (outlet.old.spool ++ outlet.old.listing) ≤ 4096 }
+    ensures outside { ComesTo result (λ status. EndsBehind status (work program.now store.old program.now.statements.items) (solving name rule paths solvers.old.items solvers.new.items answers.new.items) store.new (H.meaning host.old).outside (H.meaning host.new).outside (outlet.old.spool ++ outlet.old.listing) (outlet.new.spool ++ outlet.new.listing))
+        (BreaksBehind (work program.now store.old program.now.statements.items) (solving name rule paths solvers.old.items solvers.new.items answers.new.items) (H.meaning host.old).outside (H.meaning host.new).outside (outlet.old.spool ++ outlet.old.listing)) }
+    ensures counts { CountsWriting result (H.meaning host.old).counts (H.meaning host.new).counts }
 {
     for s in &program.statements {
         let listing = &mut outlet.listing;
@@ -143,31 +130,28 @@ fn statements<H: Host>(
     Ok(Status::Done)
 }
 
-/// Executes an accepted program from its first state on. What a statement shows goes out before the next one is executed; after a failed
-/// write none is.
+/// Executes an accepted program from its first state on, behind the echo of its source. What a statement shows goes out before the next one is
+/// executed; after a failed write none is.
 pub(crate) fn execute<H: Host>(
     alloc: Global,
     host: &mut H,
+    source: &[u8],
     program: &Program<Frac>,
     solvers: &mut Vec<Box<dyn LpSolver>>,
     answers: &mut Vec<Answer<Frac>>,
     outlet: &mut Outlet,
 ) -> Result<Finish, Failed>
-    requires open { (H.meaning host.old).writing ≡ true }
+    requires open { (H.meaning host.old).outside.writing ≡ true }
     requires few { length solvers.old.items < 2 ^ 32 }
     requires accepted { compile_errors frac_value program.now (map name solvers.old.items) ≡ [] }
     requires none { answers.old.items ≡ [] }
-    ensures ends { IfOk result (λ finish. RunsTo finish.status (record { solvers = map name solvers.old.items; rules = map rule solvers.old.items; answers = answers.new.items; paths_before = map paths solvers.old.items; paths_after = map paths solvers.new.items }) program.now) }
-    ensures last { IfOk result (λ finish. (course_of (record { solvers = map name solvers.old.items; rules = map rule solvers.old.items; answers = answers.new.items; paths_before = map paths solvers.old.items; paths_after = map paths solvers.new.items }) program.now).state ≡ finish.store) }
-    ensures shown { OnOk result (Streams (H.meaning host.old) (H.meaning host.new) outlet.old.spool (outlet.old.listing ++ shown_by (record { solvers = map name solvers.old.items; rules = map rule solvers.old.items; answers = answers.new.items; paths_before = map paths solvers.old.items; paths_after = map paths solvers.new.items }) program.now) (outlet.new.spool ++ outlet.new.listing)) }
-    ensures failed { IsErrOf result Failed.Fault → WritesFront (H.meaning host.old) (H.meaning host.new) (outlet.old.spool ++ outlet.old.listing ++ shown_by (record { solvers = map name solvers.old.items; rules = map rule solvers.old.items; answers = answers.new.items; paths_before = map paths solvers.old.items; paths_after = map paths solvers.new.items }) program.now) }
-    ensures rests { IsErrOf result Failed.Fault → ComesToRest (record { solvers = map name solvers.old.items; rules = map rule solvers.old.items; answers = answers.new.items; paths_before = map paths solvers.old.items; paths_after = map paths solvers.new.items }) program.now }
-    ensures fault { IsErrOf result Failed.Fault → Rose (H.meaning host.old).write_faults (H.meaning host.new).write_faults }
-    ensures steady { Steady (H.meaning host.old) (H.meaning host.new) result }
-    ensures precise { OnOk result (Precise (H.meaning host.old) (H.meaning host.new)) }
-    ensures kept { OnOk result ((map name solvers.new.items ≡ map name solvers.old.items) × (map rule solvers.new.items ≡ map rule solvers.old.items)) }
-    ensures kept_failed { IsErrOf result Failed.Fault → (map name solvers.new.items ≡ map name solvers.old.items) × (map rule solvers.new.items ≡ map rule solvers.old.items) }
+    requires empty { outlet.old.spool ++ outlet.old.listing ≡ [] }
+    ensures outside { ComesTo result (λ finish. EndsJob finish.status (job_of source.now program.now) (solving name rule paths solvers.old.items solvers.new.items answers.new.items) finish.store (H.meaning host.old).outside (H.meaning host.new).outside (outlet.new.spool ++ outlet.new.listing))
+        (BreaksJob (job_of source.now program.now) (solving name rule paths solvers.old.items solvers.new.items answers.new.items) (H.meaning host.old).outside (H.meaning host.new).outside) }
+    ensures counts { CountsWriting result (H.meaning host.old).counts (H.meaning host.new).counts }
 {
+    outlet.listing.echo(alloc, source)?;
+    outlet.pass(host)?;
     let mut store = load(alloc, program)?;
     let status = statements(alloc, host, &mut store, program, solvers, answers, outlet)?;
     Ok(Finish { status, store })

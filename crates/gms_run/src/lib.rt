@@ -3,10 +3,12 @@
 
 mod closing;
 mod execution;
+mod laws;
 mod outlet;
 mod report;
 mod status;
 mod top_call;
 mod transfer;
 
+pub use laws::run_laws;
 pub use top_call::{Ended, run};

@@ -1,11 +1,10 @@
 //! The way out of a listing: its text, and the spool through which it goes.
-ghost use Rattle.std.specs.Prelude.{◌≡◌, ◌++◌, [], true, IfOk, OnOk, IsErrOf};
-ghost use Rattle.gms_host.specs.Meaning.{Rose};
-ghost use Rattle.gms_host.specs.Rules.{Steady, Precise};
-ghost use Rattle.gms_host.specs.Spooling.{WritesAll, WritesFront};
+ghost use Rattle.std.specs.Prelude.{◌≡◌, ◌≤◌, ◌++◌, [], true, length, IfOk, OnOk};
+ghost use Rattle.gms_host.specs.Rules.{CountsWriting, with_output};
+ghost use Rattle.gms_host.specs.Spooling.{PutsThrough, WritesFront};
 ghost use Rattle.gms_list.specs.ListingText.{end_text};
-ghost use Rattle.gms_run.specs.Answers.{status_code};
-ghost use Rattle.gms_run.specs.Outside.{Streams};
+ghost use Rattle.gms_run.specs.InnerSteps.{ComesTo};
+ghost use Rattle.gms_run.specs.Jobs.{status_code};
 
 use crate::status::Status;
 use gms_host::{Failed, Host, Spool};
@@ -34,13 +33,11 @@ impl Outlet {
 
     /// Puts the text so far into the spool.
     pub(crate) fn pass<H: Host>(&mut self, host: &mut H) -> Result<(), Failed>
-        requires { (H.meaning host.old).writing ≡ true }
-        ensures passed { OnOk result (Streams (H.meaning host.old) (H.meaning host.new) self.old.spool self.old.listing self.new.spool) }
+        requires { (H.meaning host.old).outside.writing ≡ true }
+        ensures outside { PutsThrough result (H.meaning host.old).outside (H.meaning host.new).outside (self.old.spool ++ self.old.listing) self.new.spool }
         ensures none { OnOk result (self.new.listing ≡ []) }
-        ensures failed { IsErrOf result Failed.Fault → WritesFront (H.meaning host.old) (H.meaning host.new) (self.old.spool ++ self.old.listing) }
-        ensures fault { IsErrOf result Failed.Fault → Rose (H.meaning host.old).write_faults (H.meaning host.new).write_faults }
-        ensures steady { Steady (H.meaning host.old) (H.meaning host.new) result }
-        ensures precise { OnOk result (Precise (H.meaning host.old) (H.meaning host.new)) }
+        ensures room { length self.new.spool ≤ 4096 }
+        ensures counts { CountsWriting result (H.meaning host.old).counts (H.meaning host.new).counts }
     {
         self.spool.put(host, self.listing.bytes())?;
         self.listing.clear();
@@ -55,12 +52,10 @@ impl Outlet {
         status: Status,
         solves: usize,
     ) -> Result<(), Failed>
-        requires { (H.meaning host.old).writing ≡ true }
-        ensures ended { OnOk result (WritesAll (H.meaning host.old) (H.meaning host.new) (self.old.spool ++ self.old.listing ++ end_text (status_code status) solves)) }
-        ensures failed { IsErrOf result Failed.Fault → WritesFront (H.meaning host.old) (H.meaning host.new) (self.old.spool ++ self.old.listing ++ end_text (status_code status) solves) }
-        ensures fault { IsErrOf result Failed.Fault → Rose (H.meaning host.old).write_faults (H.meaning host.new).write_faults }
-        ensures steady { Steady (H.meaning host.old) (H.meaning host.new) result }
-        ensures precise { OnOk result (Precise (H.meaning host.old) (H.meaning host.new)) }
+        requires { (H.meaning host.old).outside.writing ≡ true }
+        ensures outside { ComesTo result (λ done. (H.meaning host.new).outside ≡ with_output (H.meaning host.old).outside (self.old.spool ++ self.old.listing ++ end_text (status_code status) solves))
+            (WritesFront (H.meaning host.old).outside (H.meaning host.new).outside (self.old.spool ++ self.old.listing ++ end_text (status_code status) solves)) }
+        ensures counts { CountsWriting result (H.meaning host.old).counts (H.meaning host.new).counts }
     {
         self.listing.close(alloc, status.code(), solves)?;
         self.pass(host)?;

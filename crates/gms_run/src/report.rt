@@ -1,9 +1,11 @@
 //! The listing of a source, from its bytes, as it goes out.
-ghost use Rattle.std.specs.Prelude.{◌≡◌, ◌<◌, ◌^◌, ◌++◌, [], true, length, map, IfOk, OnOk, IsErrOf, string_bytes};
-ghost use Rattle.gms_host.specs.Meaning.{Rose};
-ghost use Rattle.gms_host.specs.Rules.{Steady, Precise};
+ghost use Rattle.std.specs.Prelude.{◌≡◌, ◌<◌, ◌^◌, ◌++◌, [], true, length, map, IfOk, OnOk, string_bytes};
+ghost use Rattle.gms_host.specs.Rules.{CountsWriting};
 ghost use Rattle.gms_list.specs.ListingText.{refused_echo, source_error_text};
-ghost use Rattle.gms_run.specs.Outside.{KeepsLast, Lists, ListsFront, Prepares};
+ghost use Rattle.gms_run.specs.InnerReports.{KeepsLast, Lists, Prepares};
+ghost use Rattle.gms_run.specs.InnerSteps.{ComesTo};
+ghost use Rattle.gms_run.specs.Solving.{solving};
+ghost use Rattle.gms_run.specs.Statuses.{IsUnwritten};
 
 use crate::execution::execute;
 use crate::outlet::Outlet;
@@ -82,18 +84,13 @@ fn listed<H: Host>(
     answers: &mut Vec<Answer<Frac>>,
     outlet: &mut Outlet,
 ) -> Result<Outcome, Failed>
-    requires open { (H.meaning host.old).writing ≡ true }
+    requires open { (H.meaning host.old).outside.writing ≡ true }
     requires few { length solvers.old.items < 2 ^ 32 }
     requires none { answers.old.items ≡ [] }
     requires empty { outlet.old.spool ++ outlet.old.listing ≡ [] }
-    ensures body { IfOk result (λ outcome. Prepares outcome.status (record { solvers = map name solvers.old.items; rules = map rule solvers.old.items; answers = answers.new.items; paths_before = map paths solvers.old.items; paths_after = map paths solvers.new.items }) (H.meaning host.old) (H.meaning host.new) source.now (outlet.new.spool ++ outlet.new.listing)) }
-    ensures last { IfOk result (λ outcome. KeepsLast outcome.status (record { solvers = map name solvers.old.items; rules = map rule solvers.old.items; answers = answers.new.items; paths_before = map paths solvers.old.items; paths_after = map paths solvers.new.items }) source.now outcome.last) }
-    ensures front { IsErrOf result Failed.Fault → ListsFront (record { solvers = map name solvers.old.items; rules = map rule solvers.old.items; answers = answers.new.items; paths_before = map paths solvers.old.items; paths_after = map paths solvers.new.items }) (H.meaning host.old) (H.meaning host.new) source.now }
-    ensures fault { IsErrOf result Failed.Fault → Rose (H.meaning host.old).write_faults (H.meaning host.new).write_faults }
-    ensures steady { Steady (H.meaning host.old) (H.meaning host.new) result }
-    ensures precise { OnOk result (Precise (H.meaning host.old) (H.meaning host.new)) }
-    ensures kept { OnOk result ((map name solvers.new.items ≡ map name solvers.old.items) × (map rule solvers.new.items ≡ map rule solvers.old.items)) }
-    ensures kept_failed { IsErrOf result Failed.Fault → (map name solvers.new.items ≡ map name solvers.old.items) × (map rule solvers.new.items ≡ map rule solvers.old.items) }
+    ensures outside { ComesTo result (λ outcome. Prepares outcome.status (solving name rule paths solvers.old.items solvers.new.items answers.new.items) (H.meaning host.old).outside (H.meaning host.new).outside source.now (outlet.new.spool ++ outlet.new.listing)) (IsUnwritten (solving name rule paths solvers.old.items solvers.new.items answers.new.items) (H.meaning host.old).outside (H.meaning host.new).outside source.now) }
+    ensures last { IfOk result (λ outcome. KeepsLast outcome.status (solving name rule paths solvers.old.items solvers.new.items answers.new.items) source.now outcome.last) }
+    ensures counts { CountsWriting result (H.meaning host.old).counts (H.meaning host.new).counts }
 {
     let program = match parse::<Frac>(alloc, source) {
         Ok(program) => program,
@@ -103,11 +100,10 @@ fn listed<H: Host>(
             return Ok(Outcome { status, last: None });
         }
     };
-    outlet.listing.echo(alloc, source)?;
     let names = names_of(alloc, solvers.as_slice())?;
     let errors = check(alloc, &program, &names)?;
     if errors.is_empty() {
-        let finish = execute(alloc, host, &program, solvers, answers, outlet)?;
+        let finish = execute(alloc, host, source, &program, solvers, answers, outlet)?;
         let last = Last {
             program,
             store: finish.store,
@@ -117,6 +113,7 @@ fn listed<H: Host>(
             last: Some(last),
         })
     } else {
+        outlet.listing.echo(alloc, source)?;
         outlet.listing.errors(alloc, &errors)?;
         Ok(Outcome {
             status: Status::Compile,
@@ -133,17 +130,12 @@ pub(crate) fn report<H: Host>(
     solvers: &mut Vec<Box<dyn LpSolver>>,
     answers: &mut Vec<Answer<Frac>>,
 ) -> Result<Outcome, Failed>
-    requires open { (H.meaning host.old).writing ≡ true }
+    requires open { (H.meaning host.old).outside.writing ≡ true }
     requires few { length solvers.old.items < 2 ^ 32 }
     requires none { answers.old.items ≡ [] }
-    ensures listed { IfOk result (λ outcome. Lists outcome.status (record { solvers = map name solvers.old.items; rules = map rule solvers.old.items; answers = answers.new.items; paths_before = map paths solvers.old.items; paths_after = map paths solvers.new.items }) (H.meaning host.old) (H.meaning host.new) source.now) }
-    ensures last { IfOk result (λ outcome. KeepsLast outcome.status (record { solvers = map name solvers.old.items; rules = map rule solvers.old.items; answers = answers.new.items; paths_before = map paths solvers.old.items; paths_after = map paths solvers.new.items }) source.now outcome.last) }
-    ensures front { IsErrOf result Failed.Fault → ListsFront (record { solvers = map name solvers.old.items; rules = map rule solvers.old.items; answers = answers.new.items; paths_before = map paths solvers.old.items; paths_after = map paths solvers.new.items }) (H.meaning host.old) (H.meaning host.new) source.now }
-    ensures fault { IsErrOf result Failed.Fault → Rose (H.meaning host.old).write_faults (H.meaning host.new).write_faults }
-    ensures steady { Steady (H.meaning host.old) (H.meaning host.new) result }
-    ensures precise { OnOk result (Precise (H.meaning host.old) (H.meaning host.new)) }
-    ensures kept { OnOk result ((map name solvers.new.items ≡ map name solvers.old.items) × (map rule solvers.new.items ≡ map rule solvers.old.items)) }
-    ensures kept_failed { IsErrOf result Failed.Fault → (map name solvers.new.items ≡ map name solvers.old.items) × (map rule solvers.new.items ≡ map rule solvers.old.items) }
+    ensures outside { ComesTo result (λ outcome. Lists outcome.status (solving name rule paths solvers.old.items solvers.new.items answers.new.items) (H.meaning host.old).outside (H.meaning host.new).outside source.now) (IsUnwritten (solving name rule paths solvers.old.items solvers.new.items answers.new.items) (H.meaning host.old).outside (H.meaning host.new).outside source.now) }
+    ensures last { IfOk result (λ outcome. KeepsLast outcome.status (solving name rule paths solvers.old.items solvers.new.items answers.new.items) source.now outcome.last) }
+    ensures counts { CountsWriting result (H.meaning host.old).counts (H.meaning host.new).counts }
 {
     let mut outlet = Outlet::new(alloc)?;
     let outcome = listed(alloc, host, source, solvers, answers, &mut outlet)?;

@@ -1,11 +1,11 @@
 //! The top call: from the words of the command line to the bytes of the listing.
-ghost use Rattle.std.specs.Prelude.{◌≡◌, ◌≢◌, ◌<◌, ◌≤◌, ◌^◌, ◌↔◌, ◌⊎◌, [], true, length, map, IfOk, OnOk, OnErr, IsErrOf};
-ghost use Rattle.gms_host.specs.Meaning.{Rose};
-ghost use Rattle.gms_host.specs.Rules.{SameCounts, Steady, IsThere};
+ghost use Rattle.std.specs.Prelude.{◌≡◌, ◌<◌, ◌≤◌, ◌^◌, ◌↔◌, ◌⊎◌, [], true, length, map, IfOk, OnOk};
+ghost use Rattle.gms_host.specs.Rules.{CountsReading, CountsWriting, IsThere};
 ghost use Rattle.gms_words.specs.CommandLine.{texts, request_of, asked_by, in_file, generated, read_fault_line};
-ghost use Rattle.gms_run.specs.Answers.{AnswersSo, HasOrigin, OfRequest, OfNamed, IsUsage, IsReported, IsReadFault, IsWriteFault, IsReadyFor, NamesProgram, MeetsNoFault};
-ghost use Rattle.gms_run.specs.Transfers.{SteadyCounts};
-ghost use Rattle.gms_run.specs.Outside.{ReadsFile, AsksNoMore, Reports, LeavesReport, RanSo, SaysOnly};
+ghost use Rattle.gms_run.specs.InnerReports.{CountsMention, CountsRun, ReadsFile};
+ghost use Rattle.gms_run.specs.InnerSteps.{ComesTo};
+ghost use Rattle.gms_run.specs.Solving.{solving};
+ghost use Rattle.gms_run.specs.Statuses.{CountsSo, EndsByNoFault, HasOrigin, IsReadyFor, IsReported, IsRun, IsWriteFault, MeetsNoFault, NamesProgram, OfRequest, OfStatus, RanSo, SaysLine};
 
 use crate::closing::closing_lines;
 use crate::report::report;
@@ -30,10 +30,8 @@ pub struct Ended {
 
 /// Reads the file of a name, or one byte more of it than a source may have.
 fn read_file<H: Host>(alloc: Global, host: &mut H, file: &str) -> Result<Vec<u8>, Failed>
-    ensures taken { IfOk result (λ source. ReadsFile (H.meaning host.old) (H.meaning host.new) file.now source.items) }
-    ensures failed { OnErr result (AsksNoMore (H.meaning host.old) (H.meaning host.new) file.now) }
-    ensures fault { IsErrOf result Failed.Fault → Rose (H.meaning host.old).read_faults (H.meaning host.new).read_faults }
-    ensures steady { IsThere (H.meaning host.old) file.now → Steady (H.meaning host.old) (H.meaning host.new) result }
+    ensures outside { ReadsFile result (H.meaning host.old).outside (H.meaning host.new).outside file.now }
+    ensures counts { CountsReading result (IsThere (H.meaning host.old).outside file.now) (H.meaning host.old).counts (H.meaning host.new).counts }
 {
     host.open_in(file)?;
     read_source(alloc, host)
@@ -52,12 +50,8 @@ fn write_report<H: Host>(
     requires few { length solvers.old.items < 2 ^ 32 }
     requires none { answers.old.items ≡ [] }
     requires named { output.now ≡ (asked_by request).output }
-    ensures reported { IfOk result (λ status. Reports status (record { solvers = map name solvers.old.items; rules = map rule solvers.old.items; answers = answers.new.items; paths_before = map paths solvers.old.items; paths_after = map paths solvers.new.items }) (H.meaning host.old) (H.meaning host.new) (asked_by request.entry) source.now) }
-    ensures failed { IsErrOf result Failed.Fault → LeavesReport (record { solvers = map name solvers.old.items; rules = map rule solvers.old.items; answers = answers.new.items; paths_before = map paths solvers.old.items; paths_after = map paths solvers.new.items }) (H.meaning host.old) (H.meaning host.new) (asked_by request.entry) source.now }
-    ensures fault { IsErrOf result Failed.Fault → Rose (H.meaning host.old).write_faults (H.meaning host.new).write_faults }
-    ensures steady { Steady (H.meaning host.old) (H.meaning host.new) result }
-    ensures kept { OnOk result ((map name solvers.new.items ≡ map name solvers.old.items) × (map rule solvers.new.items ≡ map rule solvers.old.items)) }
-    ensures kept_failed { IsErrOf result Failed.Fault → (map name solvers.new.items ≡ map name solvers.old.items) × (map rule solvers.new.items ≡ map rule solvers.old.items) }
+    ensures outside { ComesTo result (λ status. IsReported status (solving name rule paths solvers.old.items solvers.new.items answers.new.items) (H.meaning host.old).outside (H.meaning host.new).outside (asked_by request.entry) source.now) (IsWriteFault (solving name rule paths solvers.old.items solvers.new.items answers.new.items) (H.meaning host.old).outside (H.meaning host.new).outside (asked_by request.entry) source.now) }
+    ensures counts { CountsWriting result (H.meaning host.old).counts (H.meaning host.new).counts }
 {
     host.open_out(output)?;
     let outcome = report(alloc, host, source, solvers, answers)?;
@@ -70,8 +64,8 @@ fn write_report<H: Host>(
 
 /// Says a line. A fault in saying it changes nothing else.
 fn mention<H: Host>(host: &mut H, line: &str) -> Result<(), AllocError>
-    ensures said { OnOk result (SaysOnly (H.meaning host.old) (H.meaning host.new) line.now) }
-    ensures steady { SteadyCounts (H.meaning host.old) (H.meaning host.new) }
+    ensures said { OnOk result (SaysLine (H.meaning host.old) (H.meaning host.new) (H.meaning host.old).outside line.now) }
+    ensures counts { CountsMention (H.meaning host.old).counts (H.meaning host.new).counts }
 {
     match say_line(host, line.as_bytes()) {
         Ok(()) => Ok(()),
@@ -83,8 +77,8 @@ fn mention<H: Host>(host: &mut H, line: &str) -> Result<(), AllocError>
 /// Says that the file could not be read.
 fn report_read_fault<H: Host>(alloc: Global, host: &mut H, file: &str) -> Result<Status, AllocError>
     ensures status { IfOk result (λ status. status ≡ Status.ReadFault) }
-    ensures said { OnOk result (SaysOnly (H.meaning host.old) (H.meaning host.new) (read_fault_line file.now)) }
-    ensures steady { SteadyCounts (H.meaning host.old) (H.meaning host.new) }
+    ensures said { OnOk result (SaysLine (H.meaning host.old) (H.meaning host.new) (H.meaning host.old).outside (read_fault_line file.now)) }
+    ensures counts { CountsMention (H.meaning host.old).counts (H.meaning host.new).counts }
 {
     let line = read_fault_line(alloc, file)?;
     mention(host, line.as_str())?;
@@ -102,10 +96,8 @@ fn run_source<H: Host>(
 ) -> Result<Status, AllocError>
     requires few { length solvers.old.items < 2 ^ 32 }
     requires none { answers.old.items ≡ [] }
-    ensures ran { IfOk result (λ status. RanSo status (record { solvers = map name solvers.old.items; rules = map rule solvers.old.items; answers = answers.new.items; paths_before = map paths solvers.old.items; paths_after = map paths solvers.new.items }) (H.meaning host.old) (H.meaning host.new) (asked_by request.entry) source.now) }
-    ensures steady { SteadyCounts (H.meaning host.old) (H.meaning host.new) }
-    ensures no_fault { (H.meaning host.old).reliable ≡ true → IfOk result (λ status. (status ≢ Status.ReadFault) × (status ≢ Status.WriteFault)) }
-    ensures kept { OnOk result ((map name solvers.new.items ≡ map name solvers.old.items) × (map rule solvers.new.items ≡ map rule solvers.old.items)) }
+    ensures ran { IfOk result (λ status. RanSo status (solving name rule paths solvers.old.items solvers.new.items answers.new.items) (H.meaning host.old).outside (H.meaning host.new).outside (asked_by request.entry) source.now) }
+    ensures counts { CountsRun result ((H.meaning host.old).counts.reliable ≡ true) (H.meaning host.old).counts (H.meaning host.new).counts }
 {
     let output = output_of(alloc, request)?;
     let name = output.as_str();
@@ -128,10 +120,8 @@ fn run_file<H: Host>(
     requires few { length solvers.old.items < 2 ^ 32 }
     requires none { answers.old.items ≡ [] }
     requires named { (asked_by request).source ≡ in_file file.now }
-    ensures answers { IfOk result (λ status. OfRequest status (record { solvers = map name solvers.old.items; rules = map rule solvers.old.items; answers = answers.new.items; paths_before = map paths solvers.old.items; paths_after = map paths solvers.new.items }) (H.meaning host.old) (H.meaning host.new) (asked_by request.entry)) }
-    ensures steady { IsThere (H.meaning host.old) file.now → SteadyCounts (H.meaning host.old) (H.meaning host.new) }
-    ensures no_fault { IsThere (H.meaning host.old) file.now → (H.meaning host.old).reliable ≡ true → IfOk result (λ status. (status ≢ Status.ReadFault) × (status ≢ Status.WriteFault)) }
-    ensures kept { OnOk result ((map name solvers.new.items ≡ map name solvers.old.items) × (map rule solvers.new.items ≡ map rule solvers.old.items)) }
+    ensures ran { IfOk result (λ status. OfRequest status (solving name rule paths solvers.old.items solvers.new.items answers.new.items) (H.meaning host.old) (H.meaning host.new) (asked_by request.entry)) }
+    ensures counts { CountsRun result (((H.meaning host.old).counts.reliable ≡ true) × IsThere (H.meaning host.old).outside file.now) (H.meaning host.old).counts (H.meaning host.new).counts }
 {
     let source = match read_file(alloc, host, file) {
         Ok(source) => source,
@@ -153,10 +143,8 @@ fn run_generated<H: Host>(
     requires few { length solvers.old.items < 2 ^ 32 }
     requires none { answers.old.items ≡ [] }
     requires named { (asked_by request).source ≡ generated size }
-    ensures answers { IfOk result (λ status. OfRequest status (record { solvers = map name solvers.old.items; rules = map rule solvers.old.items; answers = answers.new.items; paths_before = map paths solvers.old.items; paths_after = map paths solvers.new.items }) (H.meaning host.old) (H.meaning host.new) (asked_by request.entry)) }
-    ensures steady { SteadyCounts (H.meaning host.old) (H.meaning host.new) }
-    ensures no_fault { (H.meaning host.old).reliable ≡ true → IfOk result (λ status. (status ≢ Status.ReadFault) × (status ≢ Status.WriteFault)) }
-    ensures kept { OnOk result ((map name solvers.new.items ≡ map name solvers.old.items) × (map rule solvers.new.items ≡ map rule solvers.old.items)) }
+    ensures ran { IfOk result (λ status. OfRequest status (solving name rule paths solvers.old.items solvers.new.items answers.new.items) (H.meaning host.old) (H.meaning host.new) (asked_by request.entry)) }
+    ensures counts { CountsRun result ((H.meaning host.old).counts.reliable ≡ true) (H.meaning host.old).counts (H.meaning host.new).counts }
 {
     let text = generate(alloc, u64::from(size), size, size)?;
     let source = text.as_str().as_bytes();
@@ -173,10 +161,8 @@ fn run_request<H: Host>(
 ) -> Result<Status, AllocError>
     requires few { length solvers.old.items < 2 ^ 32 }
     requires none { answers.old.items ≡ [] }
-    ensures answers { IfOk result (λ status. OfRequest status (record { solvers = map name solvers.old.items; rules = map rule solvers.old.items; answers = answers.new.items; paths_before = map paths solvers.old.items; paths_after = map paths solvers.new.items }) (H.meaning host.old) (H.meaning host.new) (asked_by request.entry)) }
-    ensures steady { HasOrigin (H.meaning host.old) (asked_by request.entry).source → SteadyCounts (H.meaning host.old) (H.meaning host.new) }
-    ensures no_fault { HasOrigin (H.meaning host.old) (asked_by request.entry).source → (H.meaning host.old).reliable ≡ true → IfOk result (λ status. (status ≢ Status.ReadFault) × (status ≢ Status.WriteFault)) }
-    ensures kept { OnOk result ((map name solvers.new.items ≡ map name solvers.old.items) × (map rule solvers.new.items ≡ map rule solvers.old.items)) }
+    ensures ran { IfOk result (λ status. OfRequest status (solving name rule paths solvers.old.items solvers.new.items answers.new.items) (H.meaning host.old) (H.meaning host.new) (asked_by request.entry)) }
+    ensures counts { CountsRun result (((H.meaning host.old).counts.reliable ≡ true) × HasOrigin (H.meaning host.old).outside (asked_by request.entry).source) (H.meaning host.old).counts (H.meaning host.new).counts }
 {
     match request.source {
         Source::File(file) => run_file(alloc, host, request, file, solvers, answers),
@@ -194,10 +180,8 @@ fn run_words<H: Host>(
 ) -> Result<Status, AllocError>
     requires few { length solvers.old.items < 2 ^ 32 }
     requires none { answers.old.items ≡ [] }
-    ensures answers { IfOk result (λ status. AnswersSo status (record { solvers = map name solvers.old.items; rules = map rule solvers.old.items; answers = answers.new.items; paths_before = map paths solvers.old.items; paths_after = map paths solvers.new.items }) (texts words.now) (H.meaning host.old) (H.meaning host.new)) }
-    ensures steady { IsReadyFor (H.meaning host.old) (texts words.now) → SameCounts (H.meaning host.old) (H.meaning host.new) }
-    ensures no_fault { IsReadyFor (H.meaning host.old) (texts words.now) → IfOk result (λ status. (status ≢ Status.ReadFault) × (status ≢ Status.WriteFault)) }
-    ensures kept { OnOk result ((map name solvers.new.items ≡ map name solvers.old.items) × (map rule solvers.new.items ≡ map rule solvers.old.items)) }
+    ensures ran { IfOk result (λ status. IsRun status (solving name rule paths solvers.old.items solvers.new.items answers.new.items) (texts words.now) (H.meaning host.old) (H.meaning host.new)) }
+    ensures counts { CountsRun result (IsReadyFor (H.meaning host.old) (texts words.now)) (H.meaning host.old).counts (H.meaning host.new).counts }
 {
     match request_of(alloc, words)? {
         Some(request) => run_request(alloc, host, request, solvers, answers),
@@ -212,10 +196,15 @@ fn run_words<H: Host>(
 ///
 /// The words are those of a command of `clap` with an optional FILE, `--out` with the name of the output, and `--generate` with a
 /// number from 1 to 30; exactly one of FILE and `--generate` is there. The source is read whole, or generated, before the output is
-/// opened; its listing is written there, and the closing lines are said (docs/LISTING.md). The status says how the run ended, and
-/// the clause of each status says when it comes and what stands after it. `AllocError` comes where memory was wanting, here or in
-/// the host; the output may then hold the front of a listing. A host that is reliable and has the file leads to neither fault.
-/// The solvers stay, with their names and rules, and the pivots of each answer stand behind the paths of the one that gave it.
+/// opened; its listing is written there, statement by statement, and behind the closed output the closing lines are said
+/// (docs/LISTING.md). `AllocError` comes where memory was wanting, here or in the host; the output may then hold the front of a listing.
+///
+/// What a run did is one statement, by its status, and holds over every host, whatever it tells: there is a source, which is what the
+/// host has at the name where it tells its files, and what the answers are to it, and what stands outside. 0 and 3: the source is accepted, its
+/// run takes all answers, each of which is one of its linear program, and the listing is the text of that run. 2: it is refused, and the listing
+/// says why. 1: the words ask for no source. 4: the file was not read. 5: how far the run came, and that no more was executed than was
+/// written, but for 4,096 bytes. The solvers stay, with their names and rules, and the pivots of each answer stand behind the paths of the
+/// one that gave it; with 1, 2 and 4 nothing is solved.
 pub fn run<H: Host>(
     alloc: Global,
     words: &[String],
@@ -223,32 +212,16 @@ pub fn run<H: Host>(
     solvers: &mut Vec<Box<dyn LpSolver>>,
 ) -> Result<Ended, AllocError>
     requires { length solvers.old.items < 2 ^ 32 }
-    ensures known { IfOk result (λ ended. ended.status ≤ 5) }
+    ensures run { IfOk result (λ ended. OfStatus ended.status (λ status. IsRun status (solving name rule paths solvers.old.items solvers.new.items ended.answers.items) (texts words.now) (H.meaning host.old) (H.meaning host.new))) }
 
-    // The words are refused exactly where they ask for no source.
+    // A fault is answered only where one of its kind was counted, and a ready host counts none and ends by none.
+    ensures counts { IfOk result (λ ended. OfStatus ended.status (λ status. CountsSo status (H.meaning host.old).counts (H.meaning host.new).counts)) }
+    ensures steady { IsReadyFor (H.meaning host.old) (texts words.now) → (H.meaning host.new).counts ≡ (H.meaning host.old).counts }
+    ensures no_fault { IsReadyFor (H.meaning host.old) (texts words.now) → IfOk result (λ ended. OfStatus ended.status EndsByNoFault) }
+
+    // The words are refused exactly where they ask for no source, and where no fault is met a program is run.
     ensures usage { IfOk result (λ ended. (ended.status ≡ 1) ↔ (request_of (texts words.now) ≡ None)) }
-    ensures usage_said { IfOk result (λ ended. ended.status ≡ 1 → IsUsage (H.meaning host.old) (H.meaning host.new) (texts words.now)) }
-
-    // The listing is that of the run which the source means, or of its refusal.
-    ensures done { IfOk result (λ ended. ended.status ≡ 0 → OfNamed (texts words.now) (IsReported Status.Done (record { solvers = map name solvers.old.items; rules = map rule solvers.old.items; answers = ended.answers.items; paths_before = map paths solvers.old.items; paths_after = map paths solvers.new.items }) (H.meaning host.old) (H.meaning host.new))) }
-    ensures compile { IfOk result (λ ended. ended.status ≡ 2 → OfNamed (texts words.now) (IsReported Status.Compile (record { solvers = map name solvers.old.items; rules = map rule solvers.old.items; answers = ended.answers.items; paths_before = map paths solvers.old.items; paths_after = map paths solvers.new.items }) (H.meaning host.old) (H.meaning host.new))) }
-    ensures execution { IfOk result (λ ended. ended.status ≡ 3 → OfNamed (texts words.now) (IsReported Status.Execution (record { solvers = map name solvers.old.items; rules = map rule solvers.old.items; answers = ended.answers.items; paths_before = map paths solvers.old.items; paths_after = map paths solvers.new.items }) (H.meaning host.old) (H.meaning host.new))) }
-
-    // A fault comes only where one was counted; the output is then as before, or the front of the listing.
-    ensures read_fault { IfOk result (λ ended. ended.status ≡ 4 → OfNamed (texts words.now) (IsReadFault (H.meaning host.old) (H.meaning host.new))) }
-    ensures write_fault { IfOk result (λ ended. ended.status ≡ 5 → OfNamed (texts words.now) (IsWriteFault (record { solvers = map name solvers.old.items; rules = map rule solvers.old.items; answers = ended.answers.items; paths_before = map paths solvers.old.items; paths_after = map paths solvers.new.items }) (H.meaning host.old) (H.meaning host.new))) }
-
-    // Nothing is solved where the words are refused, the file is not read, or the source is not accepted.
-    ensures none { IfOk result (λ ended. (ended.status ≡ 1) ⊎ (ended.status ≡ 4) → ended.answers.items ≡ []) }
-    ensures unsolved { IfOk result (λ ended. (ended.status ≡ 1) ⊎ (ended.status ≡ 4) → map paths solvers.new.items ≡ map paths solvers.old.items) }
-
-    // The solvers stay, in their order, with their names and rules; what was put behind their paths stands with each status.
-    ensures kept { OnOk result ((map name solvers.new.items ≡ map name solvers.old.items) × (map rule solvers.new.items ≡ map rule solvers.old.items)) }
-
-    // A reliable host that has the file counts no fault, and where no fault is met a program is run.
-    ensures steady { IsReadyFor (H.meaning host.old) (texts words.now) → SameCounts (H.meaning host.old) (H.meaning host.new) }
-    ensures no_fault { IsReadyFor (H.meaning host.old) (texts words.now) → IfOk result (λ ended. (ended.status ≢ 4) × (ended.status ≢ 5)) }
-    ensures complete { NamesProgram (map name solvers.old.items) (H.meaning host.old) (texts words.now) → MeetsNoFault (H.meaning host.old) (H.meaning host.new) → IfOk result (λ ended. (ended.status ≡ 0) ⊎ (ended.status ≡ 3)) }
+    ensures complete { NamesProgram (map name solvers.old.items) (H.meaning host.old).outside (texts words.now) → MeetsNoFault (H.meaning host.old).counts (H.meaning host.new).counts → IfOk result (λ ended. (ended.status ≡ 0) ⊎ (ended.status ≡ 3)) }
 {
     let mut answers = Vec::new(alloc);
     let status = run_words(alloc, words, host, solvers, &mut answers)?;

@@ -1,8 +1,7 @@
 //! Whole transfers over a host: a source read to its end, a line said.
-ghost use Rattle.std.specs.Prelude.{◌≡◌, ◌≤◌, ℕ, true, take, length, IfOk, OnOk, OnErr, IsErrOf};
-ghost use Rattle.gms_host.specs.Meaning.{Rose};
-ghost use Rattle.gms_host.specs.Rules.{Says, Steady, Precise};
-ghost use Rattle.gms_run.specs.Transfers.{TakesSource, KeepsOutside};
+ghost use Rattle.std.specs.Prelude.{◌≡◌, true};
+ghost use Rattle.gms_host.specs.Rules.{CountsReading, CountsWriting};
+ghost use Rattle.gms_run.specs.InnerReports.{TakesFirst, SaysAll};
 
 use gms_host::{Failed, Host};
 use gms_lex::MOST_BYTES;
@@ -13,11 +12,9 @@ const BUFFER_BYTES: usize = 4096;
 
 /// Reads the opened input to its end, or until one byte more than a source may have was taken.
 pub(crate) fn read_source<H: Host>(alloc: Global, host: &mut H) -> Result<Vec<u8>, Failed>
-    requires { (H.meaning host.old).reading ≡ true }
-    ensures taken { IfOk result (λ source. TakesSource (H.meaning host.old) (H.meaning host.new) source.items) }
-    ensures failed { OnErr result (KeepsOutside (H.meaning host.old) (H.meaning host.new)) }
-    ensures fault { IsErrOf result Failed.Fault → Rose (H.meaning host.old).read_faults (H.meaning host.new).read_faults }
-    ensures steady { Steady (H.meaning host.old) (H.meaning host.new) result }
+    requires { (H.meaning host.old).outside.reading ≡ true }
+    ensures outside { TakesFirst result (H.meaning host.old).outside (H.meaning host.new).outside }
+    ensures counts { CountsReading result (Unit {0}) (H.meaning host.old).counts (H.meaning host.new).counts }
 {
     let mut source = Vec::new(alloc);
     let mut buffer = [0u8; BUFFER_BYTES];
@@ -34,11 +31,8 @@ pub(crate) fn read_source<H: Host>(alloc: Global, host: &mut H) -> Result<Vec<u8
 
 /// Says the whole line.
 pub(crate) fn say_line<H: Host>(host: &mut H, line: &[u8]) -> Result<(), Failed>
-    ensures whole { OnOk result (Says (H.meaning host.old) (H.meaning host.new) line.now) }
-    ensures part { OnErr result ((count : ℕ) × Says (H.meaning host.old) (H.meaning host.new) (take count line.now)) }
-    ensures fault { IsErrOf result Failed.Fault → Rose (H.meaning host.old).write_faults (H.meaning host.new).write_faults }
-    ensures steady { Steady (H.meaning host.old) (H.meaning host.new) result }
-    ensures precise { OnOk result (Precise (H.meaning host.old) (H.meaning host.new)) }
+    ensures outside { SaysAll result (H.meaning host.old).outside (H.meaning host.new).outside line.now }
+    ensures counts { CountsWriting result (H.meaning host.old).counts (H.meaning host.new).counts }
 {
     let mut rest = line;
     while !rest.is_empty() {

@@ -1,14 +1,15 @@
 //! A solver of another rule than Bland's: the improving variable with the greatest number enters.
-ghost use Rattle.std.specs.Prelude.{◌≡◌, ◌∷◌, ◌++◌, [], codes};
+ghost use Rattle.std.specs.Prelude.{⊤, ◌≡◌, ◌∷◌, ◌++◌, [], codes};
 ghost use Rattle.lp_core.specs.declared.answer.Rule.TheVariants as by;
+ghost use Rattle.lp_core.specs.Dictionary.{Improves};
 ghost use Rattle.lp_bland.specs.Name.{greatest_is_name};
 
 use gq_field::ExactField;
 use gq_frac::Frac;
-use lp_bland::{Entering, solve_by};
 use lp_core::{Answer, Lp, Pivot, Rule, Sequence};
 use lp_dict::Dict;
 use lp_slot::LpSolver;
+use lp_walk::{Choosing, solve_by};
 use std::alloc::{AllocError, Global};
 use std::marker::Model;
 
@@ -16,12 +17,15 @@ use std::marker::Model;
 const VARIABLES: u32 = 1_000;
 
 /// The way by which the variable with the greatest number of those that improve enters.
+#[derive(Drop)]
 pub(crate) struct Greatest;
 
-impl<F: ExactField> Entering<F> for Greatest {
-    ghost rule = { by.Legal };
+impl<F: ExactField> Choosing<F> for Greatest {
+    ghost chooses = { λ _ _ d q. Improves d q };
 
-    fn entering(dict: &Dict<F>) -> Option<u32> {
+    ghost remembers = { λ _ _ _ _. ⊤ };
+
+    fn entering(&self, dict: &Dict<F>) -> Option<u32> {
         for variable in (0..VARIABLES).rev() {
             if dict.improves(variable) {
                 return Some(variable);
@@ -29,6 +33,10 @@ impl<F: ExactField> Entering<F> for Greatest {
         }
         dict.entering()
     }
+
+    fn note(&mut self, _dict: &Dict<F>, _pivot: Pivot) {}
+
+    ghost improving = { λ _ _ _ _ improves. improves };
 }
 
 /// The solver of that way.
@@ -82,7 +90,7 @@ impl LpSolver for GreatestFirst {
         lp: &Lp<Frac>,
         iterlim: u64,
     ) -> Result<Answer<Frac>, AllocError> {
-        let answer = solve_by::<Greatest, Frac>(alloc, lp, iterlim)?;
+        let answer = solve_by(alloc, lp, iterlim, &mut Greatest)?;
         let path = Vec::from_slice(alloc, answer.pivots.as_slice())?;
         self.taken.push(Sequence::new(path))?;
         Ok(answer)

@@ -108,28 +108,78 @@ fn a_failed_call_ends_a_generated_run(rt: HostRuntime) {
     }
 }
 
-/// Runs of a source whose echo alone is more than is pending at most, so that it has two writes, calls 5 and 6; and what its solver tells.
-const WRITES: [(Row<'static>, &str); 2] = [
-    ((0, &[5], 5, 0, "", 6), "bland\n"),
-    ((0, &[6], 5, 4096, "", 7), "bland | 3>5\n1/1 0/1 1/1 \n"),
+/// Runs of a source whose echo alone is more than is pending at most, so that it has two writes, calls 5 and 6; what stands in front of its
+/// solve, and what its solver tells.
+const WRITES: [(&str, Row<'static>, &str); 3] = [
+    ("", (0, &[5], 5, 0, "", 6), "bland\n"),
+    ("display a; ", (0, &[5], 5, 0, "", 6), "bland\n"),
+    ("", (0, &[6], 5, 4096, "", 7), "bland | 3>5\n1/1 0/1 1/1 \n"),
 ];
 
-/// That source.
-fn long_source(rt: &impl Abort, alloc: Global) -> String {
+/// That source, with a statement in front of its solve.
+fn long_source(rt: &impl Abort, alloc: Global, before: &str) -> String {
     let blanks = " ".repeat(alloc, 5_000).expect(rt, "memory");
     format!(in alloc;
-        "positive variables x, y; variable z; equation obj; obj.. z =e= x + y; model m /all/;{blanks}solve m using lp maximizing z;"
+        "scalar a /1/; positive variables x, y; variable z; equation obj; obj.. z =e= x + y; model m /all/;{blanks}{before}solve m using lp maximizing z;"
     ).expect(rt, "memory")
 }
 
 #[test]
 fn nothing_is_executed_after_a_failed_write(rt: HostRuntime) {
     let alloc = rt.alloc();
-    let source = long_source(&rt, alloc);
-    let echo = format!(in alloc; "     1  {source}\n").expect(&rt, "memory");
-    for (row, tells) in &WRITES {
+    for (before, row, tells) in &WRITES {
+        let source = long_source(&rt, alloc, before);
+        let echo = format!(in alloc; "     1  {source}\n").expect(&rt, "memory");
         let told = check(&rt, alloc, source.as_str(), &["a.gms"], echo.as_str(), row);
         assert_eq!(rt; told.as_str(), *tells);
+    }
+}
+
+/// Compares the run of that first source, one call of which fails, with what is due.
+fn check_fault(rt: &impl Abort, alloc: Global, most: u32, fail: u64) {
+    let (source, due) = LOOPED;
+    let left = run_words(rt, alloc, (source, most, &[fail]), &["a.gms"], &["bland"]);
+    assert!(rt; due.starts_with(left.output.as_str()), "{most} {fail}");
+    if left.status == 4 {
+        assert_eq!(rt; left.output.len(), 0, "{most} {fail}");
+        assert_eq!(rt; left.said.as_str(), UNREAD, "{most} {fail}");
+    } else {
+        let whole = left.output.len() == due.len();
+        assert_eq!(rt; left.status, 5, "{most} {fail}");
+        assert_eq!(rt; left.calls, fail.saturating_add(1), "{most} {fail}");
+        assert!(rt; DONE.starts_with(left.said.as_str()), "{most} {fail}");
+        assert!(rt; whole || left.said.is_empty(), "{most} {fail}");
+    }
+}
+
+#[test]
+fn each_call_fails_in_turn(rt: HostRuntime) {
+    let alloc = rt.alloc();
+    let (source, _) = LOOPED;
+    for most in [0, 1] {
+        let whole = run_words(&rt, alloc, (source, most, &[]), &["a.gms"], &["bland"]);
+        assert_eq!(rt; whole.status, 0);
+        for fail in 0..whole.calls {
+            check_fault(&rt, alloc, most, fail);
+        }
+    }
+}
+
+/// The call that fails, and the outputs that are kept then: a name and how many bytes, a line.
+const KEPT: [(u64, &str); 3] = [(7, "a.lst 135\n"), (6, "a.lst 135\n"), (5, "")];
+
+#[test]
+fn an_output_is_kept_where_it_was_closed(rt: HostRuntime) {
+    let (source, _) = LOOPED;
+    for (fail, kept) in &KEPT {
+        let left = run_words(
+            &rt,
+            rt.alloc(),
+            (source, 0, &[*fail]),
+            &["a.gms"],
+            &["bland"],
+        );
+        assert_eq!(rt; left.kept.as_str(), *kept, "{fail}");
     }
 }
 

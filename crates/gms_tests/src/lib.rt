@@ -8,6 +8,8 @@ mod greatest;
 #[cfg(test)]
 mod hosts;
 #[cfg(test)]
+mod prefixes;
+#[cfg(test)]
 mod runs;
 #[cfg(test)]
 mod solvers;

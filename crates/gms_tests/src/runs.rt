@@ -21,6 +21,8 @@ pub(crate) struct Left {
     pub(crate) said: String,
     /// How many calls of its host it made.
     pub(crate) calls: u64,
+    /// The outputs that were closed, each by its name and how many bytes it has, a line.
+    pub(crate) kept: String,
     /// What its solvers tell, and then the rays of its answers.
     pub(crate) told: String,
 }
@@ -124,6 +126,17 @@ fn text_of(rt: &impl Abort, alloc: Global, bytes: &[u8]) -> String {
     String::from_str(alloc, text).expect(rt, "memory")
 }
 
+/// The outputs that a host keeps, each by its name and how many bytes it has, a line: `a.lst 135`.
+fn kept_by(rt: &impl Abort, alloc: Global, host: &MemHost) -> String {
+    let mut text = String::new(alloc);
+    for (name, bytes) in host.closed() {
+        let count = bytes.len();
+        let line = format!(in alloc; "{name} {count}\n").expect(rt, "memory");
+        text.push_str(line.as_str()).expect(rt, "memory");
+    }
+    text
+}
+
 /// Runs these words over a host with the source in `a.gms`, and over the solvers of these names.
 pub(crate) fn run_words(
     rt: &impl Abort,
@@ -139,6 +152,7 @@ pub(crate) fn run_words(
         output: text_of(rt, alloc, host.output()),
         said: text_of(rt, alloc, host.said()),
         calls: host.calls(),
+        kept: kept_by(rt, alloc, &host),
         told,
     }
 }

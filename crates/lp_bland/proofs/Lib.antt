@@ -1,15 +1,6 @@
-pub mod Stops
-pub mod Walking
-pub mod Steps
-pub mod Ending
-pub mod Answering
-pub mod Formless
 pub mod Naturality
 pub mod SameSteps
 pub mod Eased
-pub mod Standing
 pub mod Programs
 pub mod Widened
-pub mod Unique
-pub mod Narrowed
 pub mod Few

@@ -11,7 +11,7 @@ use Rattle.lp_core.specs.Feasible.{bound_value}
 use Rattle.lp_core.specs.Proofs.{row_sums}
 use Rattle.lp_core.specs.StandardForm.{Shift, Standard, point_of, dual_by_sense, changed_back, variables_of, width, columns_of, count_by_bounds, count_by_sense, reduced_by_bounds, duals_from, reduced_from, multiplier, directed, Last, levels_back, duals_back, reduced_back, farkas_back, ray_back}
 use Rattle.lp_core.specs.Numbers.{column_numbers, row_numbers, lp_numbers}
-use Rattle.lp_nocycle.proofs.SameForm.{itself, bound_same, sum_by_map, count_bounds_same, columns_same, variables_same, form_same}
+use Rattle.lp_nocycle.proofs.SameForm.{itself, sum_by_map, count_bounds_same, columns_same, variables_same, form_same}
 
 module _ {F : Type 0} (value : F → Number) where
   -- ---- the way back

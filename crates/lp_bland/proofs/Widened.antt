@@ -22,8 +22,8 @@ use Rattle.lp_nocycle.proofs.SameForm.{itself, form_same}
 use Rattle.lp_bland.proofs.Naturality.{levels_same, row_sums_same, duals_same, farkas_same, reduced_same, ray_same}
 use Rattle.lp_bland.proofs.SameSteps.{standard_steps_same, optimal_steps_same, infeasible_steps_same, unbounded_steps_same, interrupted_steps_same}
 use Rattle.lp_bland.proofs.Eased.{ratio_eased, exchange_eased, standard_eased, optimal_eased, infeasible_eased, unbounded_eased, interrupted_eased}
-use Rattle.lp_bland.proofs.Ending.{unlimited_legal}
-use Rattle.lp_bland.proofs.Standing.{first_stands, stands_last}
+use Rattle.lp_walk.proofs.Rules.{improves_of}
+use Rattle.lp_walk.proofs.Standing.{first_stands, stands_last}
 use Rattle.lp_bland.proofs.Programs.{none_cross, crossed_same}
 
 module _ (low high : ℕ) (less : low ≤ high) (rule : Rule) where
@@ -122,7 +122,7 @@ module _ {F G : Type 0} (value : F → Number) (other : G → Number) (lp : Lp F
           let levels = xs_is ∙ x_is ∙ levels_are (last_of d) in
           let row_levels = sums_is ∙ s_is ∙ row_sums_are (levels_back value lp (last_of d)) ∙ ap (row_sums other wide) (levels_are (last_of d)) in
           let ray = rs_is ∙ r_is ∙ rays_are (last_along d q) in
-          let proof = unbounded_proved other wide formed none d of_form along.0 free q (unlimited_legal rule d q along) in (
+          let proof = unbounded_proved other wide formed none d of_form along.0 free q (along.0, improves_of rule d q along.1, along.2) in (
             free,
             (
               q,

@@ -1,4 +1,3 @@
-pub mod Walks
 pub mod Ends
-pub mod Narrowing
+pub mod Least
 pub mod Name

@@ -1,181 +1,33 @@
-//! From a linear program to its answer.
-ghost use Rattle.std.specs.Prelude.{◌≡◌, ◌≢◌, ℕ, pos, map, replicate, Some, IfOk};
-ghost use Rattle.gq_number.specs.Number.{whole};
-ghost use Rattle.lp_core.specs.declared.answer.Rule.TheVariants.{Bland};
-ghost use Rattle.lp_core.specs.declared.answer.StepName.{StepName};
-ghost use Rattle.lp_core.specs.declared.answer.End.TheVariants.{Refused};
-ghost use Rattle.lp_core.specs.Answers.{IsAnswer};
-ghost use Rattle.lp_core.specs.Steps.{AllFit, standard_steps};
+//! Bland's choice, and the answer of a program by it.
+ghost use Rattle.std.specs.Prelude.{⊤, IfOk};
+ghost use Rattle.lp_core.specs.declared.answer.Rule.TheVariants as by;
+ghost use Rattle.lp_core.specs.Answers.{IsChosen, IsAnswer};
 ghost use Rattle.lp_core.specs.WellFormed.{IsWellFormed};
-ghost use Rattle.lp_std.specs.declared.stop.Stop.TheVariants as stops;
-ghost use Rattle.lp_std.specs.Meaning.{standard_value, FirstCrossed, HasNoForm};
-ghost use Rattle.lp_std.specs.Back.{IsFormOf};
-ghost use Rattle.lp_std.specs.Last.{IsDictionaryOf};
-ghost use Rattle.lp_dict.specs.Tableau.{dictionary};
-ghost use Rattle.lp_dict.specs.Reading.{IsDone};
 ghost use Rattle.lp_nocycle.specs.PivotCount.{HasFewPivots, ComesToEnd};
-ghost use Rattle.lp_bland.specs.Ends.{MayGoOn, CanEnd, IsLedBack, IsBrokenOff, EndsHalted, EndsCrossed, EndsFormless};
+ghost use Rattle.lp_bland.specs.Least.{least_improves};
 
-use crate::entering::{Entering, Least};
-use crate::walk::{Halt, walked};
 use gq_field::ExactField;
-use lp_core::{Answer, End, Lp, Sequence, StepName};
+use lp_core::{Answer, Lp, Pivot};
 use lp_dict::Dict;
-use lp_std::{Standard, Stop, recover, standard};
+use lp_walk::{Choosing, solve_by};
 use std::alloc::{AllocError, Global};
 
-/// The end where this step does not fit; want of memory is handed on.
-fn refused<F>(stop: Stop) -> Result<End<F>, AllocError>
-    requires { (j : ℕ) → stop ≢ stops.Crossed j }
-    ensures { IfOk result (λ end. (step : StepName) × (stop ≡ stops.Limit step) × (end ≡ Refused step)) }
-{
-    match stop {
-        Stop::Limit(step) => Ok(End::Refused { step }),
-        Stop::Memory => Err(AllocError),
-        Stop::Crossed(_) => unreachable!(),
+/// Bland's way: the least variable that improves enters. It remembers nothing.
+#[derive(Drop)]
+pub struct Least;
+
+impl<F: ExactField> Choosing<F> for Least {
+    ghost chooses = { λ _ _ d q. IsChosen by.Bland d q };
+
+    ghost remembers = { λ _ _ _ _. ⊤ };
+
+    fn entering(&self, dict: &Dict<F>) -> Option<u32> {
+        dict.entering()
     }
-}
 
-/// The end that a last dictionary leads back to, or the first step on that way that does not fit.
-fn led_back<F: ExactField>(
-    alloc: Global,
-    lp: &Lp<F>,
-    s: &Standard<F>,
-    dict: &Dict<F>,
-    enter: Option<u32>,
-) -> Result<End<F>, AllocError>
-    requires well_formed { IsWellFormed F.value lp.now }
-    requires form { IsFormOf F.value lp.now s.now }
-    requires of_form { IsDictionaryOf (standard_value F.value s.now) (dictionary F.value dict.now) }
-    requires done { IsDone (dictionary F.value dict.now) enter }
-    ensures { IfOk result (IsLedBack F.value F.limit lp.now (dictionary F.value dict.now) enter) }
-{
-    let last = dict.done(alloc, enter)?;
-    match recover(alloc, lp, s, &last) {
-        Ok(end) => Ok(end),
-        Err(stop) => refused(stop),
-    }
-}
+    fn note(&mut self, _dict: &Dict<F>, _pivot: Pivot) {}
 
-/// The end where the limit of pivots is met: in phase 1 nothing is told, in phase 2 the point that the walk stands at.
-fn interrupted<F: ExactField>(
-    alloc: Global,
-    lp: &Lp<F>,
-    s: &Standard<F>,
-    dict: &Dict<F>,
-) -> Result<End<F>, AllocError>
-    requires well_formed { IsWellFormed F.value lp.now }
-    requires form { IsFormOf F.value lp.now s.now }
-    requires of_form { IsDictionaryOf (standard_value F.value s.now) (dictionary F.value dict.now) }
-    requires goes_on { MayGoOn (dictionary F.value dict.now) }
-    ensures { IfOk result (IsBrokenOff F.value F.limit lp.now (dictionary F.value dict.now)) }
-{
-    if dict.phase() == 2 {
-        return led_back(alloc, lp, s, dict, None);
-    }
-    Ok(End::Interrupted {
-        phase: 1,
-        levels: Sequence::new(Vec::new(alloc)),
-        row_levels: Sequence::new(Vec::new(alloc)),
-    })
-}
-
-/// The end of a walk that halted so.
-fn end_of<F: ExactField>(
-    alloc: Global,
-    lp: &Lp<F>,
-    s: &Standard<F>,
-    halt: Halt<F>,
-) -> Result<End<F>, AllocError>
-    requires well_formed { IsWellFormed F.value lp.now }
-    requires form { IsFormOf F.value lp.now s.now }
-    requires halted { CanEnd F.value (standard_value F.value s.now) halt }
-    ensures { IfOk result (EndsHalted F.value F.limit lp.now halt) }
-{
-    match halt {
-        Halt::Ended(dict, enter) => led_back(alloc, lp, s, &dict, enter),
-        Halt::Interrupted(dict) => interrupted(alloc, lp, s, &dict),
-        Halt::Refused(step) => Ok(End::Refused { step }),
-    }
-}
-
-/// The answer of a program with this standard form.
-fn searched<E: Entering<F>, F: ExactField>(
-    alloc: Global,
-    lp: &Lp<F>,
-    s: &Standard<F>,
-    iterlim: u64,
-) -> Result<Answer<F>, AllocError>
-    requires well_formed { IsWellFormed F.value lp.now }
-    requires form { IsFormOf F.value lp.now s.now }
-    requires all_fit { AllFit (standard_steps F.value F.limit lp.now) }
-    ensures { IfOk result (IsAnswer F.value F.limit lp.now iterlim E.rule) }
-{
-    let first = Dict::of(alloc, s)?;
-    let walk = walked::<E, F>(alloc, first, iterlim)?;
-    let end = end_of(alloc, lp, s, walk.halt)?;
-    Ok(Answer {
-        pivots: Sequence::new(walk.pivots),
-        end,
-    })
-}
-
-/// So many zeros.
-fn zeros<F: ExactField>(alloc: Global, count: usize) -> Result<Vec<F>, AllocError>
-    ensures { IfOk result (λ list. map F.value list.items ≡ replicate count (whole (pos 0))) }
-{
-    let mut list = Vec::new(alloc);
-    for _place in 0..count {
-        list.push(F::zero())?;
-    }
-    Ok(list)
-}
-
-/// The end of a program in which the bounds of this column cross, and those of no earlier one: all factors of rows are 0.
-fn crossed<F: ExactField>(alloc: Global, lp: &Lp<F>, column: u32) -> Result<End<F>, AllocError>
-    requires { FirstCrossed F.value lp.now.columns (Some column) }
-    ensures { IfOk result (EndsCrossed F.value F.limit lp.now) }
-{
-    let duals = zeros(alloc, lp.rows.len())?;
-    Ok(End::Infeasible {
-        duals: Sequence::new(duals),
-        crossed: Some(column),
-    })
-}
-
-/// The end of a program that has no standard form.
-fn formless<F: ExactField>(alloc: Global, lp: &Lp<F>, stop: Stop) -> Result<End<F>, AllocError>
-    requires { HasNoForm F.value F.limit lp.now stop }
-    ensures { IfOk result (EndsFormless F.value F.limit lp.now) }
-{
-    match stop {
-        Stop::Crossed(column) => crossed(alloc, lp, column),
-        Stop::Limit(step) => Ok(End::Refused { step }),
-        Stop::Memory => Err(AllocError),
-    }
-}
-
-/// An answer of a program, found by at most `iterlim` pivots; the variable that enters is chosen as `E` says, and of the tied
-/// ones the least leaves: Chvatal, Linear Programming, chapters 2, 3 and 8.
-///
-/// Where the bounds of a column cross the answer is Infeasible with the first such column, and no step is taken. Where a step of
-/// the standard form does not fit it is Refused with the first such step. Then pivots are taken until none is due, the limit
-/// is met, or a step does not fit; the end is read off the last dictionary. The error is want of memory.
-pub fn solve_by<E: Entering<F>, F: ExactField>(
-    alloc: Global,
-    lp: &Lp<F>,
-    iterlim: u64,
-) -> Result<Answer<F>, AllocError>
-    requires { IsWellFormed F.value lp.now }
-    ensures { IfOk result (IsAnswer F.value F.limit lp.now iterlim E.rule) }
-{
-    match standard(alloc, lp) {
-        Ok(s) => searched::<E, F>(alloc, lp, &s, iterlim),
-        Err(stop) => Ok(Answer {
-            pivots: Sequence::new(Vec::new(alloc)),
-            end: formless(alloc, lp, stop)?,
-        }),
-    }
+    ghost improving = { λ _ _ d q chosen. least_improves d q chosen };
 }
 
 /// The answer of a program under Bland's rule, found by at most `iterlim` pivots: Bland, "New finite pivoting rules for the
@@ -191,9 +43,9 @@ pub fn solve_in<F: ExactField>(
     iterlim: u64,
 ) -> Result<Answer<F>, AllocError>
     requires { IsWellFormed F.value lp.now }
-    ensures answers { IfOk result (IsAnswer F.value F.limit lp.now iterlim Bland) }
+    ensures answers { IfOk result (IsAnswer F.value F.limit lp.now iterlim by.Bland) }
     ensures few { IfOk result (HasFewPivots F.value lp.now) }
     ensures to_the_end { IfOk result (ComesToEnd F.value lp.now iterlim) }
 {
-    solve_by::<Least, F>(alloc, lp, iterlim)
+    solve_by(alloc, lp, iterlim, &mut Least)
 }

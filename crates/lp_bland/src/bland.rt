@@ -9,11 +9,10 @@ ghost use Rattle.lp_bland.specs.Ends.{IsRefused};
 ghost use Rattle.lp_core.specs.WellFormed.{IsWellFormed};
 
 use crate::answer::solve_in;
-use crate::narrow::narrow_lp;
-use crate::widen::widen_answer;
 use gq_frac::Frac;
 use lp_core::{Answer, End, Lp, Pivot, Rule, Sequence};
 use lp_slot::LpSolver;
+use lp_walk::{narrow_lp, widen_answer};
 use std::alloc::{AllocError, Global};
 use std::marker::Model;
 

@@ -1,5 +1,5 @@
 -- The bound as it is computed is the bound of the definition.
-use Rattle.std.proofs.Common.{◌≡◌, ◌≢◌, ℕ, ◌<◌, Bool, true, false, pos, List, ◌++◌, length, map, Option, Some, None, Ok, Err, refl, sym, ap, ◌∙◌, subst, arith, inl, inr}
+use Rattle.std.proofs.Common.{◌≡◌, ◌≢◌, ℕ, ◌+◌, ◌<◌, Bool, true, false, pos, List, ◌++◌, length, map, Option, Some, None, IfSome, Ok, Err, refl, sym, ap, ◌∙◌, subst, arith, inl, inr}
 use Rattle.std.specs.Prelude.{if◌then◌else◌}
 use Rattle.std.specs.Bool.{then_some}
 use Rattle.std.specs.List.{All, AllPairs, zip, enumerate_from}
@@ -28,6 +28,15 @@ use Rattle.lp_check.proofs.Lengths.{few_reduced, few_by_rows, few_by_columns}
 -- rows whose entries are in order
 pub ordered : {F : Type 0} (value : F → Number) (lp : Lp F) → IsWellFormed value lp → All (λ (row : Row F). AllPairs (λ (a b : ℕ × F). a.0 < b.0) row.entries) lp.rows
 ordered {F} value lp formed = All-weaker (λ (row : Row F). AreEntries value (length lp.columns) row.entries) (λ (row : Row F). AllPairs (λ (a b : ℕ × F). a.0 < b.0) row.entries) (λ row entries. entries.ascending) lp.rows formed.entries
+
+-- rows whose entries name columns that are there
+pub places : {F : Type 0} (value : F → Number) (lp : Lp F) → IsWellFormed value lp → All (λ (row : Row F). All (λ (e : ℕ × F). e.0 < length lp.columns) row.entries) lp.rows
+places {F} value lp formed = All-weaker (λ (row : Row F). AreEntries value (length lp.columns) row.entries) (λ (row : Row F). All (λ (e : ℕ × F). e.0 < length lp.columns) row.entries) (λ row entries. entries.there) lp.rows formed.entries
+
+-- an objective that is asked for is a column
+pub objective_there : {F : Type 0} (value : F → Number) (lp : Lp F) (w : Bool) → IsWellFormed value lp → IfSome (then_some w lp.objective) (λ column. column < length lp.columns)
+objective_there value lp true formed = formed.objective
+objective_there value lp false formed = tt
 
 is_there : {A : Type 0} (o : Option A) → o ≢ None → (x : A) × (o ≡ Some x)
 is_there None h = absurd (h refl)
@@ -114,6 +123,16 @@ module _ {F : Type 0} (value : F → Number) (limit : ℕ) (lp : Lp F) (ys : Lis
 
       pub value_is : (p : Partial F) → Reaches value 0 (steps_over value from_above (costs_of objective) rows columns ys limit) (sum_over value from_above (costs_of objective) rows columns ys) (Ok p) → bound_of value w lp ys ≡ Some (value p.sum)
       value_is p h = sum_is ∙ ap Some (sym (h.1 ∙ same_sum))
+
+      abbrev whole_of : F → Partial F
+      whole_of x = record { sum = x; taken = 0 + length (steps_over value from_above (costs_of objective) rows columns ys limit) }
+
+      -- the same of a bound whose steps were not counted
+      pub bounds_at_once : (x : F) → first_unfit (steps_over value from_above (costs_of objective) rows columns ys limit) ≡ None → value x ≡ sum_over value from_above (costs_of objective) rows columns ys → Bounds value (bound_steps value limit w lp ys) (bound_of value w lp ys) (Ok x)
+      bounds_at_once x fit is = bounds (whole_of x) ((fit, refl), is)
+
+      pub value_at_once : (x : F) → first_unfit (steps_over value from_above (costs_of objective) rows columns ys limit) ≡ None → value x ≡ sum_over value from_above (costs_of objective) rows columns ys → bound_of value w lp ys ≡ Some (value x)
+      value_at_once x fit is = value_is (whole_of x) ((fit, refl), is)
 
   pub at_most_zero : (t : Number) (x : List Number) (w : Bool) → IsWellFormed value lp → bound_of value w lp ys ≡ Some t → Feasible value lp x → w ≡ false → t ≤ℚ whole (pos 0)
   at_most_zero t x true formed e feasible is = absurd (cc)

@@ -3,6 +3,7 @@ pub mod Fits
 pub mod Found
 pub mod Lengths
 pub mod Numbered
+pub mod Reduced
 pub mod There
 pub mod Totals
 pub mod Walks

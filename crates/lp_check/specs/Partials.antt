@@ -6,7 +6,7 @@ use Rattle.lp_core.specs.declared.answer.StepName.TheVariants.{Check, Standard a
 use Rattle.lp_core.specs.declared.program.Row.{Row}
 use Rattle.lp_core.specs.declared.program.Column.{Column}
 use Rattle.lp_core.specs.declared.program.Lp.{Lp}
-use Rattle.lp_check.specs.BoundSteps.{less_product, entry_in, all_reduced_steps, rows_steps, rows_sum, columns_steps, columns_sum}
+use Rattle.lp_check.specs.BoundSteps.{less_steps, less_product, entry_in, all_reduced_steps, rows_steps, rows_sum, columns_steps, columns_sum}
 use Rattle.lp_check.specs.declared.partial.Partial.{Partial}
 
 -- how many steps fit before the first that does not, if there is one
@@ -46,6 +46,11 @@ reduced_sum value j s (row ∷ rows) (y ∷ duals) = reduced_sum value j (less_p
 -- the reduced costs of columns by their places, so taken
 abbrev pub reduced_costs : {F : Type 0} → (F → Number) → (ℕ → Number) → List (Row F) → List Number → ℕ → Number
 reduced_costs value costs rows duals j = reduced_sum value j (costs j) rows duals
+
+-- by the entries of their columns a factor times each was taken away from these numbers, and the steps of it fit
+abbrev pub Lessened : ℕ → Number → (ℕ → Option Number) → (ℕ → Number) → (ℕ → Number) → Type 0
+Lessened limit factor entry before after =
+    (j : ℕ) → (first_unfit (less_steps limit (before j) factor (entry j)) ≡ None) × (after j ≡ less_product (before j) factor (entry j))
 
 -- 1 at the objective, where there is one, and 0 elsewhere
 abbrev pub costs_of : Option ℕ → ℕ → Number

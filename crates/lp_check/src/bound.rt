@@ -1,5 +1,5 @@
 //! The dual bound.
-ghost use Rattle.std.specs.Prelude.{◌≡◌, ◌≢◌, ◌<◌, ◌≤◌, ◌^◌, ℕ, List, length, map, pos, None, IfOk, true, false};
+ghost use Rattle.std.specs.Prelude.{◌≡◌, ◌≢◌, ◌<◌, ◌≤◌, ◌^◌, ℕ, List, length, map, pos, None, IfOk, IfSome, true, false};
 ghost use Rattle.std.specs.List.{All, AllPairs};
 ghost use Rattle.gq_number.specs.Number.{Number, whole};
 ghost use Rattle.gq_number.specs.Order.{◌≤ℚ◌};
@@ -7,19 +7,52 @@ ghost use Rattle.lp_core.specs.WellFormed.{IsWellFormed};
 ghost use Rattle.lp_core.specs.Feasible.{Feasible};
 ghost use Rattle.lp_core.specs.Sums.{number_of};
 ghost use Rattle.lp_check.specs.BoundSteps.{bound_steps, bound_of, Bounds};
-ghost use Rattle.lp_check.specs.Partials.{Reaches, costs_of, is_above, steps_over, sum_over};
+ghost use Rattle.lp_check.specs.Partials.{Reaches, costs_of, is_above, first_unfit, steps_over, sum_over};
 
-use crate::columns::{columns_part, reduced_costs_fit};
+use crate::columns::{columns_part, columns_part_by, reduced_costs_fit};
+use crate::costs::all_reduced_costs;
 use crate::partial::Partial;
 use crate::rows::rows_part;
 use gq_field::ExactField;
 use lp_core::{Column, Lp, Row, StepName};
+use std::alloc::Global;
 
 /// Whether the bound is one from above.
 fn is_above<F: ExactField>(lp: &Lp<F>, with_objective: bool) -> bool
     ensures { result ≡ is_above with_objective lp.now }
 {
     with_objective && lp.maximize
+}
+
+/// The bound over rows and columns, where each of its steps fits and there is memory for the reduced costs.
+///
+/// It takes each entry once, and does not say which step does not fit.
+fn bound_at_once<F: ExactField>(
+    alloc: Global,
+    rows: &[Row<F>],
+    columns: &[Column<F>],
+    objective: Option<u32>,
+    above: bool,
+    duals: &[F],
+) -> Option<F>
+    requires sized { length duals.now ≡ length rows.now }
+    requires ordered { All (λ row. AllPairs (λ a b. a.0 < b.0) row.entries) rows.now }
+    requires there { All (λ row. All (λ e. e.0 < length columns.now) row.entries) rows.now }
+    requires objective { IfSome objective (λ column. column < length columns.now) }
+    requires room { length (steps_over F.value above (costs_of objective) rows.now columns.now (map F.value duals.now) F.limit) < 2 ^ 64 }
+    ensures fit { IfSome result (λ bound. first_unfit (steps_over F.value above (costs_of objective) rows.now columns.now (map F.value duals.now) F.limit) ≡ None) }
+    ensures value { IfSome result (λ bound. F.value bound ≡ sum_over F.value above (costs_of objective) rows.now columns.now (map F.value duals.now)) }
+{
+    let costs = all_reduced_costs(alloc, columns.len(), rows, objective, duals)?;
+    let sum = F::zero();
+    let start = Partial { sum, taken: 0 };
+    let Ok(part) = rows_part(rows, duals, above, start) else {
+        return None;
+    };
+    let Ok(bound) = columns_part_by(columns, costs.as_slice(), above, part) else {
+        return None;
+    };
+    Some(bound.sum)
 }
 
 /// The bound over rows and columns, with its steps.
@@ -50,8 +83,11 @@ fn bound_over<F: ExactField>(
 /// Where the objective is to be least it is at most its value at each feasible point, and where it is to be greatest at least that; the
 /// bound of 0 is at most 0 where there is a feasible point. `Check` is the first step that does not fit under the limit: column by column
 /// its reduced cost over the rows that ask something and have an entry there, then row by row, then column by column the parts of the sum,
-/// each a product and a sum. It takes no memory. Chvatal, Linear Programming, chapters 5 and 9.
+/// each a product and a sum. Chvatal, Linear Programming, chapters 5 and 9.
+///
+/// Each entry is taken once where all steps fit and there is memory for the reduced costs; else each column is looked for in each row.
 pub fn dual_bound<F: ExactField>(
+    alloc: Global,
     lp: &Lp<F>,
     with_objective: bool,
     duals: &[F],
@@ -70,12 +106,11 @@ pub fn dual_bound<F: ExactField>(
 {
     let objective = with_objective.then_some(lp.objective);
     let above = is_above(lp, with_objective);
-    let bound = bound_over(
-        lp.rows.as_slice(),
-        lp.columns.as_slice(),
-        objective,
-        above,
-        duals,
-    )?;
+    let rows = lp.rows.as_slice();
+    let columns = lp.columns.as_slice();
+    if let Some(bound) = bound_at_once(alloc, rows, columns, objective, above, duals) {
+        return Ok(bound);
+    }
+    let bound = bound_over(rows, columns, objective, above, duals)?;
     Ok(bound.sum)
 }

@@ -2,6 +2,7 @@
 ghost use Rattle.std.specs.Prelude.{◌≡◌, ◌+◌, ◌<◌, ◌≤◌, ◌^◌, length, map, None};
 ghost use Rattle.std.specs.List.{All, AllPairs};
 ghost use Rattle.lp_core.specs.Feasible.{bound_value};
+ghost use Rattle.lp_core.specs.Sums.{number_of};
 ghost use Rattle.lp_check.specs.BoundSteps.{column_bound, all_reduced_steps, columns_steps, columns_sum};
 ghost use Rattle.lp_check.specs.Partials.{Reaches, Takes, costs_of, reduced_costs, first_unfit};
 
@@ -84,6 +85,29 @@ pub(crate) fn columns_part<F: ExactField>(
         let reduced = reduced_cost(rows, duals, j as u32, cost)?;
         let bound = column_bound(above, column, reduced.sum);
         partial = partial.plus(reduced.sum, bound)?;
+    }
+    Ok(partial)
+}
+
+/// The columns' part of the bound where their reduced costs are at hand: each times the bound of its column that it uses, added to what
+/// is there.
+pub(crate) fn columns_part_by<F: ExactField>(
+    columns: &[Column<F>],
+    costs: &[F],
+    above: bool,
+    start: Partial<F>,
+) -> Result<Partial<F>, StepName>
+    requires sized { length costs.now ≡ length columns.now }
+    requires room { start.taken + length (columns_steps F.value F.limit above (number_of (map F.value costs.now)) (F.value start.sum) 0 columns.now) < 2 ^ 64 }
+    ensures { Reaches F.value start.taken
+        (columns_steps F.value F.limit above (number_of (map F.value costs.now)) (F.value start.sum) 0 columns.now)
+        (columns_sum F.value above (number_of (map F.value costs.now)) (F.value start.sum) 0 columns.now) result }
+{
+    let mut partial = start;
+    for (j, column) in columns.iter().enumerate() {
+        let reduced = costs[j];
+        let bound = column_bound(above, column, reduced);
+        partial = partial.plus(reduced, bound)?;
     }
     Ok(partial)
 }

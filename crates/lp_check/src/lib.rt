@@ -3,6 +3,7 @@
 
 mod bound;
 mod columns;
+mod costs;
 mod partial;
 mod rows;
 

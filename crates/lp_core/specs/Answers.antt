@@ -85,62 +85,86 @@ Leads rule limit n d [] last = last ≡ d
 Leads rule limit n d (p ∷ pivots) last =
     (k : ℕ) × IsAllowed rule d p k × TestFits limit n d p × AllFit (exchange_steps limit n d p.enter k) × Leads rule limit (n + 1) (exchanged d p.enter k) pivots last
 
--- ---- the ends
+-- ---- the ends, by which pivots are allowed and which variables chosen at the last dictionary
 
 -- a variable is chosen that no row limits
-abbrev pub IsUnlimited : Rule → Dictionary → ℕ → Type 0
-IsUnlimited rule d q = ¬ (OpeningIsDue d) × IsChosen rule d q × ((k : ℕ) → ¬ (Limits d q k))
+abbrev pub IsUnlimitedBy : (ℕ → Type 0) → Dictionary → ℕ → Type 0
+IsUnlimitedBy Chosen d q = ¬ (OpeningIsDue d) × Chosen q × ((k : ℕ) → ¬ (Limits d q k))
 
 -- a further pivot is due: the opening one, or a variable is chosen that some row limits
-abbrev pub IsGoingOn : Rule → Dictionary → Type 0
-IsGoingOn rule d = OpeningIsDue d ⊎ (¬ (OpeningIsDue d) × ((q k : ℕ) × IsChosen rule d q × Limits d q k))
+abbrev pub IsGoingOnBy : (ℕ → Type 0) → Dictionary → Type 0
+IsGoingOnBy Chosen d = OpeningIsDue d ⊎ (¬ (OpeningIsDue d) × ((q k : ℕ) × Chosen q × Limits d q k))
 
 -- the phase of a dictionary: 1 while variable 0 is basic or is still to enter
 abbrev pub IsPhase : Dictionary → ℕ → Type 0
 IsPhase d phase = ((phase ≡ 1) × (OpeningIsDue d ⊎ InPhaseOne d)) ⊎ ((phase ≡ 2) × ¬ (OpeningIsDue d) × ¬ (InPhaseOne d))
 
 -- a step of a further pivot, the n-th, that does not fit: one of the ratio test, or of the exchange where that test fits
-abbrev pub PivotStops : Rule → ℕ → ℕ → Dictionary → StepName → Type 0
-PivotStops rule limit n d step =
-    (¬ (OpeningIsDue d) × ((q k : ℕ) × IsChosen rule d q × Limits d q k × FirstStop (ratio_steps limit n d q) step))
-    ⊎ ((p : Pivot) × (k : ℕ) × IsAllowed rule d p k × TestFits limit n d p × FirstStop (exchange_steps limit n d p.enter k) step)
+abbrev pub PivotStopsBy : (Pivot → ℕ → Type 0) → (ℕ → Type 0) → ℕ → ℕ → Dictionary → StepName → Type 0
+PivotStopsBy Allowed Chosen limit n d step =
+    (¬ (OpeningIsDue d) × ((q k : ℕ) × Chosen q × Limits d q k × FirstStop (ratio_steps limit n d q) step))
+    ⊎ ((p : Pivot) × (k : ℕ) × Allowed p k × TestFits limit n d p × FirstStop (exchange_steps limit n d p.enter k) step)
 
-module _ {F : Type 0} (value : F → Number) (limit : ℕ) (lp : Lp F) (iterlim : ℕ) (rule : Rule) where
-  -- a step of the way back from a last dictionary that does not fit
-  abbrev pub WayBackStops : ℕ → Dictionary → StepName → Type 0
-  WayBackStops pivots d step =
-      (¬ (InPhaseOne d) × NothingImproves d × FirstStop (optimal_steps value limit lp (last_of d)) step)
-      ⊎ (InPhaseOne d × NothingImproves d × FirstStop (infeasible_steps value limit lp (last_of d)) step)
-      ⊎ (¬ (InPhaseOne d) × ((q : ℕ) × IsUnlimited rule d q × FirstStop (unbounded_steps value limit lp (last_along d q)) step))
-      ⊎ ((pivots ≡ iterlim) × IsPhase d 2 × IsGoingOn rule d × FirstStop (interrupted_steps value limit lp (last_of d)) step)
-
+module _ {F : Type 0} (value : F → Number) (limit : ℕ) (lp : Lp F) where
   -- what an interrupted search gives: nothing in phase 1, in phase 2 the feasible point that it stood at
-  abbrev pub InterruptedAt : ℕ → Dictionary → List F → List F → Type 0
-  InterruptedAt phase d levels row_levels =
+  abbrev pub InterruptedWith : ℕ → Dictionary → List F → List F → Type 0
+  InterruptedWith phase d levels row_levels =
       ((phase ≡ 1) × (levels ≡ []) × (row_levels ≡ []))
       ⊎ ((phase ≡ 2) × AllFit (interrupted_steps value limit lp (last_of d))
       × (map value levels ≡ levels_back value lp (last_of d)) × (map value row_levels ≡ row_sums value lp (levels_back value lp (last_of d)))
       × Feasible value lp (map value levels))
 
+module _ {F : Type 0} (value : F → Number) (limit : ℕ) (lp : Lp F) (iterlim : ℕ) (Allowed : Pivot → ℕ → Type 0) (Chosen : ℕ → Type 0) where
+  -- a step of the way back from a last dictionary that does not fit
+  abbrev pub WayBackStopsBy : ℕ → Dictionary → StepName → Type 0
+  WayBackStopsBy pivots d step =
+      (¬ (InPhaseOne d) × NothingImproves d × FirstStop (optimal_steps value limit lp (last_of d)) step)
+      ⊎ (InPhaseOne d × NothingImproves d × FirstStop (infeasible_steps value limit lp (last_of d)) step)
+      ⊎ (¬ (InPhaseOne d) × ((q : ℕ) × IsUnlimitedBy Chosen d q × FirstStop (unbounded_steps value limit lp (last_along d q)) step))
+      ⊎ ((pivots ≡ iterlim) × IsPhase d 2 × IsGoingOnBy Chosen d × FirstStop (interrupted_steps value limit lp (last_of d)) step)
+
   -- the end of a search whose last dictionary is d after so many pivots
-  abbrev pub EndsSo : ℕ → Dictionary → End F → Type 0
-  EndsSo pivots d (Optimal levels row_levels duals reduced) =
+  abbrev pub EndsSoBy : ℕ → Dictionary → End F → Type 0
+  EndsSoBy pivots d (Optimal levels row_levels duals reduced) =
       ¬ (InPhaseOne d) × NothingImproves d × AllFit (optimal_steps value limit lp (last_of d))
       × (map value levels ≡ levels_back value lp (last_of d)) × (map value row_levels ≡ row_sums value lp (levels_back value lp (last_of d)))
       × (map value duals ≡ duals_back value lp (last_of d)) × (map value reduced ≡ reduced_back value lp (last_of d))
       × ProvesOptimal value lp (map value levels) (map value row_levels) (map value duals) (map value reduced)
-  EndsSo pivots d (Infeasible duals None) =
+  EndsSoBy pivots d (Infeasible duals None) =
       InPhaseOne d × NothingImproves d × AllFit (infeasible_steps value limit lp (last_of d))
       × (map value duals ≡ farkas_back value lp (last_of d)) × ProvesInfeasible value lp (map value duals)
-  EndsSo pivots d (Infeasible duals (Some j)) = ⊥
-  EndsSo pivots d (Unbounded levels row_levels ray) =
-      ¬ (InPhaseOne d) × ((q : ℕ) × IsUnlimited rule d q × AllFit (unbounded_steps value limit lp (last_along d q))
+  EndsSoBy pivots d (Infeasible duals (Some j)) = ⊥
+  EndsSoBy pivots d (Unbounded levels row_levels ray) =
+      ¬ (InPhaseOne d) × ((q : ℕ) × IsUnlimitedBy Chosen d q × AllFit (unbounded_steps value limit lp (last_along d q))
       × (map value levels ≡ levels_back value lp (last_of d)) × (map value row_levels ≡ row_sums value lp (levels_back value lp (last_of d)))
       × (map value ray ≡ ray_back value lp (last_along d q))
       × ProvesUnbounded value lp (map value levels) (map value row_levels) (map value ray))
-  EndsSo pivots d (Interrupted phase levels row_levels) =
-      (pivots ≡ iterlim) × IsPhase d phase × IsGoingOn rule d × InterruptedAt phase d levels row_levels
-  EndsSo pivots d (Refused step) = ((pivots < iterlim) × PivotStops rule limit (pivots + 1) d step) ⊎ WayBackStops pivots d step
+  EndsSoBy pivots d (Interrupted phase levels row_levels) =
+      (pivots ≡ iterlim) × IsPhase d phase × IsGoingOnBy Chosen d × InterruptedWith value limit lp phase d levels row_levels
+  EndsSoBy pivots d (Refused step) = ((pivots < iterlim) × PivotStopsBy Allowed Chosen limit (pivots + 1) d step) ⊎ WayBackStopsBy pivots d step
+
+-- ---- the ends under a rule
+
+-- a variable is chosen by the rule that no row limits
+abbrev pub IsUnlimited : Rule → Dictionary → ℕ → Type 0
+IsUnlimited rule d q = IsUnlimitedBy (IsChosen rule d) d q
+
+-- a further pivot is due by the rule
+abbrev pub IsGoingOn : Rule → Dictionary → Type 0
+IsGoingOn rule d = IsGoingOnBy (IsChosen rule d) d
+
+-- a step of a further pivot by the rule, the n-th, that does not fit
+abbrev pub PivotStops : Rule → ℕ → ℕ → Dictionary → StepName → Type 0
+PivotStops rule limit n d step = PivotStopsBy (IsAllowed rule d) (IsChosen rule d) limit n d step
+
+module _ {F : Type 0} (value : F → Number) (limit : ℕ) (lp : Lp F) (iterlim : ℕ) (rule : Rule) where
+  -- what an interrupted search gives
+  abbrev pub InterruptedAt : ℕ → Dictionary → List F → List F → Type 0
+  InterruptedAt phase d levels row_levels = InterruptedWith value limit lp phase d levels row_levels
+
+  -- the end of a search by the rule whose last dictionary is d after so many pivots
+  abbrev pub EndsSo : ℕ → Dictionary → End F → Type 0
+  EndsSo pivots d end = EndsSoBy value limit lp iterlim (IsAllowed rule d) (IsChosen rule d) pivots d end
 
   -- no column's bounds cross
   abbrev pub NoneCrosses : Type 0

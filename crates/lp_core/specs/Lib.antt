@@ -9,3 +9,5 @@ pub mod Dictionary
 pub mod Steps
 pub mod Answers
 pub mod Numbers
+pub mod Choices
+pub mod LargestCoefficient

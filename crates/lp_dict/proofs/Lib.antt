@@ -7,6 +7,7 @@ pub mod Equations
 pub mod Steps
 pub mod Choices
 pub mod Pricing
+pub mod Greatest
 pub mod Proper
 pub mod Exchanging
 pub mod OfForm

@@ -23,7 +23,7 @@ module _ {F : Type 0} (value : F → Number) (row : List (Entry F)) where
   pub none_begins : NoneAbove value row 0
   none_begins = record { none = λ v some above. <ℚ_irrefl (whole (pos 0)) above }
 
-  module _ (n : ℕ) (e : Entry F) (low high : ℕ) (ordered : IsRow value low high row) (less : n < length row) (is : e ≡ get_or row n e) (h : NoneAbove value row n) where
+  module _ (n : ℕ) (e : Entry F) (low high : ℕ) (ordered : IsRow value low high row) (less : n < length row) (is : e ≡ get_or row n e) where
     more : take (n + 1) row ≡ take n row ++ e ∷ []
     more = take_more row n e less ∙ ap (λ x. take n row ++ x ∷ []) (sym is)
 
@@ -33,23 +33,14 @@ module _ {F : Type 0} (value : F → Number) (row : List (Entry F)) where
     in_parts : IsRow value low high (take n row ++ e ∷ drop (n + 1) row)
     in_parts = subst (IsRow value low high) parts ordered
 
-    front : IsRow value low e.column (take n row)
+    pub front : IsRow value low e.column (take n row)
     front = (row_front value (take n row) e (drop (n + 1) row) low high in_parts).0
 
-    number_here : number_in value (take (n + 1) row) e.column ≡ value e.number
+    pub number_here : number_in value (take (n + 1) row) e.column ≡ value e.number
     number_here = ap (λ r. number_in value r e.column) more ∙ number_behind value (take n row) (e ∷ []) low e.column e.column front (omega arith) ∙ number_first value e [] e.column refl
 
-    number_other : (c : ℕ) → e.column ≢ c → number_in value (take (n + 1) row) c ≡ number_in value (take n row) c
+    pub number_other : (c : ℕ) → e.column ≢ c → number_in value (take (n + 1) row) c ≡ number_in value (take n row) c
     number_other c other = ap (λ r. number_in value r c) more ∙ number_before value (take n row) (e ∷ []) c (number_later value e [] c other)
-
-    pub none_goes : ((2 ≤ e.column) → ¬ (whole (pos 0) <ℚ value e.number)) → NoneAbove value row (n + 1)
-    none_goes not_here =
-        record {
-          none = λ v some above. elim (cases_eq e.column (v + 1)) [
-            | inl same ↦ not_here (omega arith) (subst (λ x. whole (pos 0) <ℚ x) (ap (number_in value (take (n + 1) row)) (sym same) ∙ number_here) above)
-            | inr other ↦ h.none v some (subst (λ x. whole (pos 0) <ℚ x) (number_other (v + 1) other) above)
-          ];
-        }
 
     -- the number at the entry's column in the whole row
     number_there : number_in value row e.column ≡ value e.number
@@ -61,15 +52,25 @@ module _ {F : Type 0} (value : F → Number) (row : List (Entry F)) where
         ap (λ r. number_in value r c) parts
         ∙ number_before value (take n row) (e ∷ drop (n + 1) row) c (number_later value e (drop (n + 1) row) c (λ same. absurd (omega arith)) ∙ number_below value (drop (n + 1) row) (e.column + 1) high c (row_back value (take n row) e (drop (n + 1) row) low high in_parts) (omega arith))
 
-    pub found_above : (q : ℕ) → 2 ≤ e.column → q + 1 ≡ e.column → whole (pos 0) <ℚ value e.number → (1 ≤ q) × (whole (pos 0) <ℚ number_in value row (q + 1)) × ((v : ℕ) → 1 ≤ v → whole (pos 0) <ℚ number_in value row (v + 1) → q ≤ v)
-    found_above q two column above = (
-      omega arith,
-      subst (λ x. whole (pos 0) <ℚ x) (sym (ap (number_in value row) column ∙ number_there)) above,
-      λ v some over. elim (cases_lt v q) [
-        | inl early ↦ absurd (h.none v some (subst (λ x. whole (pos 0) <ℚ x) (number_early (v + 1) (omega arith)) over))
-        | inr late ↦ late
-      ],
-    )
+    module _ (h : NoneAbove value row n) where
+      pub none_goes : ((2 ≤ e.column) → ¬ (whole (pos 0) <ℚ value e.number)) → NoneAbove value row (n + 1)
+      none_goes not_here =
+          record {
+            none = λ v some above. elim (cases_eq e.column (v + 1)) [
+              | inl same ↦ not_here (omega arith) (subst (λ x. whole (pos 0) <ℚ x) (ap (number_in value (take (n + 1) row)) (sym same) ∙ number_here) above)
+              | inr other ↦ h.none v some (subst (λ x. whole (pos 0) <ℚ x) (number_other (v + 1) other) above)
+            ];
+          }
+
+      pub found_above : (q : ℕ) → 2 ≤ e.column → q + 1 ≡ e.column → whole (pos 0) <ℚ value e.number → (1 ≤ q) × (whole (pos 0) <ℚ number_in value row (q + 1)) × ((v : ℕ) → 1 ≤ v → whole (pos 0) <ℚ number_in value row (v + 1) → q ≤ v)
+      found_above q two column above = (
+        omega arith,
+        subst (λ x. whole (pos 0) <ℚ x) (sym (ap (number_in value row) column ∙ number_there)) above,
+        λ v some over. elim (cases_lt v q) [
+          | inl early ↦ absurd (h.none v some (subst (λ x. whole (pos 0) <ℚ x) (number_early (v + 1) (omega arith)) over))
+          | inr late ↦ late
+        ],
+      )
 
   pub none_ends : (n : ℕ) → length row ≤ n → NoneAbove value row n → (v : ℕ) → 1 ≤ v → ¬ (whole (pos 0) <ℚ number_in value row (v + 1))
   none_ends n all h v some above = h.none v some (subst (λ r. whole (pos 0) <ℚ number_in value r (v + 1)) (sym (take_all n row all)) above)
@@ -77,10 +78,10 @@ module _ {F : Type 0} (value : F → Number) (row : List (Entry F)) where
 -- ---- the row by which pivots are chosen
 
 module _ {F : Type 0} (value : F → Number) (t : Tableau F) (inv : IsTableau value t) (k : ℕ) (priced : IsPriced (dictionary value t) k) (row : List (Entry F)) (row_is : row ≡ line t.rows t.objective k) where
-  entry_is : (v : ℕ) → number_in value row (v + 1) ≡ entry_at (dictionary value t) k v
+  pub entry_is : (v : ℕ) → number_in value row (v + 1) ≡ entry_at (dictionary value t) k v
   entry_is v = ap (λ r. number_in value r (v + 1)) row_is
 
-  same_priced : (j : ℕ) → IsPriced (dictionary value t) j → k ≡ j
+  pub same_priced : (j : ℕ) → IsPriced (dictionary value t) j → k ≡ j
   same_priced j (inl there) = elim priced [ inl at ↦ inv.proper.distinct k j 0 at there | inr past ↦ absurd (past.0 (contains_get t.basic j 0 there)) ]
   same_priced j (inr none) = elim priced [ inl at ↦ absurd (none.0 (contains_get t.basic k 0 at)) | inr past ↦ past.1 ∙ sym none.1 ]
 
@@ -97,7 +98,7 @@ module _ {F : Type 0} (value : F → Number) (t : Tableau F) (inv : IsTableau va
   not_zero_and_above : (x : Number) → x ≡ whole (pos 0) → ¬ (whole (pos 0) <ℚ x)
   not_zero_and_above x none above = <ℚ_irrefl (whole (pos 0)) (subst (λ y. whole (pos 0) <ℚ y) none above)
 
-  improves_from : (v : ℕ) → 1 ≤ v → whole (pos 0) <ℚ number_in value row (v + 1) → Improves (dictionary value t) v
+  pub improves_from : (v : ℕ) → 1 ≤ v → whole (pos 0) <ℚ number_in value row (v + 1) → Improves (dictionary value t) v
   improves_from v some above =
       let over : whole (pos 0) <ℚ entry_at (dictionary value t) k v = subst (λ x. whole (pos 0) <ℚ x) (entry_is v) above in
       record {
@@ -107,7 +108,7 @@ module _ {F : Type 0} (value : F → Number) (t : Tableau F) (inv : IsTableau va
         above = λ j other. subst (λ i. whole (pos 0) <ℚ entry_at (dictionary value t) i v) (same_priced j other) over;
       }
 
-  some_number : (v : ℕ) → v ≢ 0 → 1 ≤ v
+  pub some_number : (v : ℕ) → v ≢ 0 → 1 ≤ v
   some_number zero other = absurd (other refl)
   some_number (suc v) other = omega arith
 

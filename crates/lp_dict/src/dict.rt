@@ -5,6 +5,7 @@ ghost use Rattle.lp_core.specs.Sums.{number_of};
 ghost use Rattle.lp_core.specs.Dictionary.{constant_at, entry_at, OpeningIsDue, IsPriced, Improves, IsOpening, IsBland, IsLegal, Meets, first_dictionary, exchanged};
 ghost use Rattle.lp_core.specs.Steps.{AllFit, ratio_steps, exchange_steps};
 ghost use Rattle.lp_core.specs.Answers.{IsPhase, last_of};
+ghost use Rattle.lp_core.specs.LargestCoefficient.{HasGreatest};
 ghost use Rattle.lp_core.specs.declared.program.Lp.{Lp};
 ghost use Rattle.lp_core.specs.WellFormed.{IsWellFormed};
 ghost use Rattle.lp_core.specs.StandardForm.{Standard as StandardNumbers, standard_form};
@@ -17,6 +18,7 @@ ghost use Rattle.lp_dict.specs.Reading.{IsDone, EndsBy, RayIs};
 ghost use Rattle.lp_dict.specs.Pivots.{IsLeaving, IsLimit, StopsAt};
 
 use crate::choice::{is_above_zero, least_constant, least_ratio};
+use crate::coefficients::greatest_above;
 use crate::exchange::{forget_leaving, turn};
 use crate::first::{is_some_below, numbers_from, objective_row, rows_with_slacks};
 use crate::last::{by_column, by_variable, changes};
@@ -95,6 +97,13 @@ impl<F: ExactField> Dict<F> {
             objective: objective_row(alloc, s)?,
             upcoming: 1,
         })
+    }
+
+    /// The greatest number of a variable: there are as many and variable 0.
+    pub fn variables(&self) -> u32
+        ensures { result ≡ self.now.variables }
+    {
+        self.variables
     }
 
     /// Whether a variable is basic.
@@ -207,6 +216,18 @@ impl<F: ExactField> Dict<F> {
         match place_of(self.basic.as_slice(), 0) {
             Some(place) => first_above(self.rows[place].as_slice()),
             None => first_above(self.objective.as_slice()),
+        }
+    }
+
+    /// The variable that improves with the greatest coefficient in the row by which pivots are chosen, and of several such the
+    /// least; none exactly where nothing improves. It walks that row once.
+    pub fn greatest(&self) -> Option<u32>
+        requires { ¬ (OpeningIsDue (dictionary F.value self.now)) }
+        ensures { MatchOption result ((v : ℕ) → ¬ (Improves (dictionary F.value self.now) v)) (HasGreatest (dictionary F.value self.now)) }
+    {
+        match place_of(self.basic.as_slice(), 0) {
+            Some(place) => greatest_above(self.rows[place].as_slice()),
+            None => greatest_above(self.objective.as_slice()),
         }
     }
 

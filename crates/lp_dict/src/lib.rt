@@ -2,6 +2,7 @@
 #![tactic(auto)]
 
 mod choice;
+mod coefficients;
 mod dict;
 mod exchange;
 mod fault;

@@ -3,7 +3,7 @@ use Rattle.gq_frac.specs.Frac.{frac_value}
 use Rattle.lp_core.specs.Numbers.{answer_numbers}
 use Rattle.gms_event.specs.EventView.{events_in}
 use Rattle.gms_list.specs.ListingText.{events_text}
-use Rattle.gms_run.specs.Answers.{number_limit}
+use Rattle.gms_run.specs.Solving.{number_limit}
 use Rattle.gms_run.proofs.execution.list_events.Given as goal
 
 -- the events so far are listed

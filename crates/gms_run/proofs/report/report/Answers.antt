@@ -1,61 +1,52 @@
 -- The listing so far, and the last line behind it.
-use Rattle.std.proofs.Common.{◌++◌, ap₂, map, rules, ◌∙◌}
-use Rattle.std.specs.Prelude.{IsErrOf}
-use Rattle.gms_host.specs.declared.host.Failed.TheVariants.{Fault}
-use Rattle.gms_host.specs.Meaning.{Rose}
-use Rattle.gms_host.specs.Rules.{Steady}
-use Rattle.gms_host.specs.Spooling.{WritesFront}
-use Rattle.gms_host.proofs.Calmness.{same_more}
-use Rattle.gms_list.specs.ListingText.{end_text}
-use Rattle.gms_run.specs.Answers.{Solving, status_code}
-use Rattle.gms_run.proofs.Reports.{counted, lists_ended, front_ended, rose_later, steady_done, steady_more}
+use Rattle.std.proofs.Common.{◌++◌, ap, ap₂, ◌∙◌}
+use Rattle.std.proofs.lemmas.Result.{err_from_is_err_and}
+use Rattle.gms_host.specs.Meaning.{Outside}
+use Rattle.gms_host.proofs.Counting.{writing_done, writing_more}
+use Rattle.gms_run.specs.Solving.{solving}
+use Rattle.gms_run.proofs.Comings.{comes_err, writing_err, writing_failed, writing_memory}
+use Rattle.gms_run.proofs.Reports.{counted, lists_ended, front_ended}
 use Rattle.gms_run.proofs.report.report.Goals as goal
 
 pub listed-requires-clause-empty : goal.listed-requires-clause-empty
 listed-requires-clause-empty g c = ap₂ (λ a b. a ++ b) c.in_ok-outlet.ensures.spool c.in_ok-outlet.ensures.listing
 
 pub end-requires : goal.end-requires
-end-requires g c = c.in_ok-outcome.ensures.body.2.written.writing ∙ c.requires.open
+end-requires g c = ap (λ (o : Outside). o.writing) c.in_ok-outcome.ensures.outside.passes.written ∙ c.requires.open
 
-pub returns-in_err-end-clause-front : goal.returns-in_err-end-clause-front
-returns-in_err-end-clause-front g c =
-    let solving : Solving = record {
-      solvers = map (λ b. (goal.LpSolver-dyn g (b.vtable, b.value)).name b.value) c.args.solvers.now.items;
-      rules = map (λ b. (goal.LpSolver-dyn g (b.vtable, b.value)).rule b.value) c.args.solvers.now.items;
-      answers = c.listed.new.answers.items;
-      paths_before = map (λ b. (goal.LpSolver-dyn g (b.vtable, b.value)).paths b.value) c.args.solvers.now.items;
-      paths_after = map (λ b. (goal.LpSolver-dyn g (b.vtable, b.value)).paths b.value) c.listed.new.solvers.items;
-    } in
-    let pending = c.listed.new.outlet.spool ++ c.listed.new.outlet.listing in
-    let front : IsErrOf c.from_residual-in_err-end.result Fault → WritesFront (g.H.Host.meaning c.listed.new.host) (g.H.Host.meaning c.end.new.host) (pending ++ end_text (status_code c.in_ok-outcome.outcome.status) c.len.result) = search rules in
-    λ e. front_ended c.in_ok-outcome.outcome.status solving (g.H.Host.meaning c.args.host.now) (g.H.Host.meaning c.listed.new.host) (g.H.Host.meaning c.end.new.host) c.args.source.now pending c.len.result (counted c.listed.new.answers c.len.result c.len.ensures) c.in_ok-outcome.ensures.body (front e)
+pub returns-in_err-outlet-clause-outside : goal.returns-in_err-outlet-clause-outside
+returns-in_err-outlet-clause-outside g c =
+    let p = err_from_is_err_and c.from_residual.result c.from_residual.ensures.1 in
+    rw (p.1, p.2) tt
 
-pub returns-in_err-end-clause-fault : goal.returns-in_err-end-clause-fault
-returns-in_err-end-clause-fault g c =
-    let rose : IsErrOf c.from_residual-in_err-end.result Fault → Rose (g.H.Host.meaning c.listed.new.host).write_faults (g.H.Host.meaning c.end.new.host).write_faults = search rules in
-    λ e. rose_later (g.H.Host.meaning c.args.host.now) (g.H.Host.meaning c.listed.new.host) (g.H.Host.meaning c.end.new.host) c.in_ok-outcome.ensures.body.2.written.counts (rose e)
+pub returns-in_err-outlet-clause-counts : goal.returns-in_err-outlet-clause-counts
+returns-in_err-outlet-clause-counts g c =
+    let p = err_from_is_err_and c.from_residual.result c.from_residual.ensures.1 in
+    rw (p.1, p.2) (writing_memory _ _)
 
-pub returns-in_err-end-clause-steady : goal.returns-in_err-end-clause-steady
-returns-in_err-end-clause-steady g c =
-    let steady : Steady (g.H.Host.meaning c.listed.new.host) (g.H.Host.meaning c.end.new.host) c.from_residual-in_err-end.result = search rules in
-    steady_more _ _ c.in_ok-outcome.ensures.body.2.written.counts c.in_ok-outcome.ensures.steady steady
+pub returns-in_err-outcome-clause-outside : goal.returns-in_err-outcome-clause-outside
+returns-in_err-outcome-clause-outside g c =
+    let p = err_from_is_err_and c.from_residual-in_err-outcome.result c.from_residual-in_err-outcome.ensures.1 in
+    rw (p.1, p.2) (comes_err _ _ c.in_err-outcome.field-0.0 (λ u. u) c.in_err-outcome.ensures.outside)
 
-pub returns-clause-listed : goal.returns-clause-listed
-returns-clause-listed g c =
-    let solving : Solving = record {
-      solvers = map (λ b. (goal.LpSolver-dyn g (b.vtable, b.value)).name b.value) c.args.solvers.now.items;
-      rules = map (λ b. (goal.LpSolver-dyn g (b.vtable, b.value)).rule b.value) c.args.solvers.now.items;
-      answers = c.listed.new.answers.items;
-      paths_before = map (λ b. (goal.LpSolver-dyn g (b.vtable, b.value)).paths b.value) c.args.solvers.now.items;
-      paths_after = map (λ b. (goal.LpSolver-dyn g (b.vtable, b.value)).paths b.value) c.listed.new.solvers.items;
-    } in
-    lists_ended c.in_ok-outcome.outcome.status solving (g.H.Host.meaning c.args.host.now) (g.H.Host.meaning c.listed.new.host) (g.H.Host.meaning c.end.new.host) c.args.source.now (c.listed.new.outlet.spool ++ c.listed.new.outlet.listing) c.len.result (counted c.listed.new.answers c.len.result c.len.ensures) c.in_ok-outcome.ensures.body c.in_ok-end.ensures.ended
+pub returns-in_err-outcome-clause-counts : goal.returns-in_err-outcome-clause-counts
+returns-in_err-outcome-clause-counts g c =
+    let p = err_from_is_err_and c.from_residual-in_err-outcome.result c.from_residual-in_err-outcome.ensures.1 in
+    rw (p.1, p.2) (writing_err c.in_err-outcome.field-0.0 c.in_err-outcome.ensures.counts)
 
-pub returns-clause-steady : goal.returns-clause-steady
-returns-clause-steady g c = steady_done _ _ c.in_ok-outcome.ensures.body.2.written.counts c.in_ok-outcome.ensures.steady c.in_ok-end.ensures.steady
+pub returns-in_err-end-clause-outside : goal.returns-in_err-end-clause-outside
+returns-in_err-end-clause-outside g c =
+    let p = err_from_is_err_and c.from_residual-in_err-end.result c.from_residual-in_err-end.ensures.1 in
+    rw (p.1, p.2) (comes_err _ _ c.in_err-end.field-0.0 (front_ended c.in_ok-outcome.outcome.status (solving (λ b. (goal.LpSolver-dyn g (b.vtable, b.value)).name b.value) (λ b. (goal.LpSolver-dyn g (b.vtable, b.value)).rule b.value) (λ b. (goal.LpSolver-dyn g (b.vtable, b.value)).paths b.value) c.args.solvers.now.items c.listed.new.solvers.items c.listed.new.answers.items) (g.H.Host.meaning c.args.host.now).outside (g.H.Host.meaning c.listed.new.host).outside (g.H.Host.meaning c.end.new.host).outside c.args.source.now (c.listed.new.outlet.spool ++ c.listed.new.outlet.listing) c.len.result (counted c.listed.new.answers c.len.result c.len.ensures) c.in_ok-outcome.ensures.outside) c.in_err-end.ensures.outside)
 
-pub returns-clause-precise : goal.returns-clause-precise
-returns-clause-precise g c = λ t. same_more (c.in_ok-outcome.ensures.precise t) (c.in_ok-end.ensures.precise (c.in_ok-outcome.ensures.body.2.written.counts.precise ∙ t))
+pub returns-in_err-end-clause-counts : goal.returns-in_err-end-clause-counts
+returns-in_err-end-clause-counts g c =
+    let p = err_from_is_err_and c.from_residual-in_err-end.result c.from_residual-in_err-end.ensures.1 in
+    rw (p.1, p.2) (writing_failed _ _ c.in_err-end.field-0.0 c.in_ok-outcome.ensures.counts c.in_err-end.ensures.counts)
 
-pub returns-in_err-end-clause-kept_failed : goal.returns-in_err-end-clause-kept_failed
-returns-in_err-end-clause-kept_failed g c = λ e. c.in_ok-outcome.ensures.kept
+pub returns-clause-outside : goal.returns-clause-outside
+returns-clause-outside g c =
+    lists_ended c.in_ok-outcome.outcome.status (solving (λ b. (goal.LpSolver-dyn g (b.vtable, b.value)).name b.value) (λ b. (goal.LpSolver-dyn g (b.vtable, b.value)).rule b.value) (λ b. (goal.LpSolver-dyn g (b.vtable, b.value)).paths b.value) c.args.solvers.now.items c.listed.new.solvers.items c.listed.new.answers.items) (g.H.Host.meaning c.args.host.now).outside (g.H.Host.meaning c.listed.new.host).outside (g.H.Host.meaning c.end.new.host).outside c.args.source.now (c.listed.new.outlet.spool ++ c.listed.new.outlet.listing) c.len.result (counted c.listed.new.answers c.len.result c.len.ensures) c.in_ok-outcome.ensures.outside c.in_ok-end.ensures.outside
+
+pub returns-clause-counts : goal.returns-clause-counts
+returns-clause-counts g c = writing_more _ c.in_ok-outcome.ensures.counts (writing_done _ _ c.in_ok-end.ensures.counts)

@@ -1,11 +1,23 @@
-use Rattle.gms_run.proofs.Completeness.{completes, none_given, paths_kept}
+use Rattle.gms_run.proofs.Completeness.{completes, refused_so}
 use Rattle.gms_run.proofs.top_call.run.Goals as goal
 
+pub returns-in_err-status-clause-steady : goal.returns-in_err-status-clause-steady
+returns-in_err-status-clause-steady g c = λ ready. c.in_err-status.ensures.counts.stay ready
+
+pub returns-clause-run : goal.returns-clause-run
+returns-clause-run g c = (c.in_ok-status.status, (c.code.ensures, c.in_ok-status.ensures.ran))
+
+pub returns-clause-counts : goal.returns-clause-counts
+returns-clause-counts g c = (c.in_ok-status.status, (c.code.ensures, c.in_ok-status.ensures.counts.said))
+
+pub returns-clause-steady : goal.returns-clause-steady
+returns-clause-steady g c = λ ready. c.in_ok-status.ensures.counts.stay ready
+
+pub returns-clause-no_fault : goal.returns-clause-no_fault
+returns-clause-no_fault g c = λ ready. (c.in_ok-status.status, (c.code.ensures, c.in_ok-status.ensures.counts.unmet ready))
+
+pub returns-clause-usage : goal.returns-clause-usage
+returns-clause-usage g c = rw c.code.ensures (refused_so c.in_ok-status.status _ _ _ _ c.in_ok-status.ensures.ran)
+
 pub returns-clause-complete : goal.returns-clause-complete
-returns-clause-complete g c = rw c.code.ensures (completes c.in_ok-status.status _ _ _ _ c.in_ok-status.ensures.answers c.in_ok-status.ensures.no_fault)
-
-pub returns-clause-none : goal.returns-clause-none
-returns-clause-none g c = rw c.code.ensures (none_given c.in_ok-status.status _ _ _ _ c.in_ok-status.ensures.answers)
-
-pub returns-clause-unsolved : goal.returns-clause-unsolved
-returns-clause-unsolved g c = rw c.code.ensures (paths_kept c.in_ok-status.status _ _ _ _ c.in_ok-status.ensures.answers)
+returns-clause-complete g c = rw c.code.ensures (completes c.in_ok-status.status _ _ _ _ c.in_ok-status.ensures.ran c.in_ok-status.ensures.counts.said c.in_ok-status.ensures.counts.unmet)

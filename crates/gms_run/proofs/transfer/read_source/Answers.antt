@@ -1,18 +1,34 @@
-use Rattle.std.proofs.Common.{◌+◌, ◌<◌, ◌≤◌, length, length-take, arith}
+use Rattle.std.proofs.Common.{◌+◌, ◌<◌, ◌≤◌, length, length-take, arith, subst, sym}
 use Rattle.gms_lex.specs.Tokens.{most_bytes}
-use Rattle.gms_run.proofs.Transfers.{read_more, read_end, read_full}
+use Rattle.gms_host.proofs.Counting.{reading_more, reading_none}
+use Rattle.gms_run.proofs.Transfers.{ReadSoFar, read_more, read_end, read_full, read_start, reads_on}
 use Rattle.gms_run.proofs.transfer.read_source.Goals as goal
+
+pub loop-buffer-init : goal.loop-buffer-init
+loop-buffer-init g c =
+    let old = g.H.Host.meaning c.args.host.now in
+    subst (λ xs. ReadSoFar old old xs) (sym c.new-source.ensures.items) (read_start old)
+
+pub read-requires-clause-open : goal.read-requires-clause-open
+read-requires-clause-open g c = reads_on _ _ _ c.loop-buffer.invariant c.requires
 
 pub loop-buffer-preserved : goal.loop-buffer-preserved
 loop-buffer-preserved g c =
     let few : length c.read.new.into + length c.loop-buffer.source.items ≤ most_bytes + 1 = omega (arith, c.read.auto.into, length-take c.min-room.result c.loop-buffer.buffer) in
-    read_more _ _ _ c.loop-buffer.source.items c.extend_from_slice.new.self.items c.read.new.into _ c.in_ok-count.count c.loop-buffer.invariant c.in_ok-count.ensures.given c.in_ok-count.ensures.steady c.in_ok-count.ensures.precise c.in_ok-extend_from_slice.ensures.items few
+    read_more _ _ _ c.loop-buffer.source.items c.extend_from_slice.new.self.items c.read.new.into _ c.in_ok-count.count c.loop-buffer.invariant c.in_ok-count.ensures.count c.in_ok-count.ensures.outside c.in_ok-count.ensures.counts c.in_ok-extend_from_slice.ensures.items few
 
-pub returns-then-count-eq0-clause-taken : goal.returns-then-count-eq0-clause-taken
-returns-then-count-eq0-clause-taken g c =
-    read_end _ _ _ c.loop-buffer.source.items c.read.new.into c.in_ok-count.count c.loop-buffer.invariant c.in_ok-count.ensures.given c.in_ok-count.ensures.precise c.if-count-eq0.true
+pub returns-then-count-eq0-clause-outside : goal.returns-then-count-eq0-clause-outside
+returns-then-count-eq0-clause-outside g c =
+    read_end (g.H.Host.meaning c.args.host.now) (g.H.Host.meaning c.loop-buffer.host) (g.H.Host.meaning c.read.new.self) c.loop-buffer.source c.read.new.into c.in_ok-count.count c.loop-buffer.invariant c.in_ok-count.ensures.outside c.if-count-eq0.true
 
-pub returns-clause-taken : goal.returns-clause-taken
-returns-clause-taken g c =
+pub returns-then-count-eq0-clause-counts : goal.returns-then-count-eq0-clause-counts
+returns-then-count-eq0-clause-counts g c =
+    reading_more tt (λ t. t) c.loop-buffer.invariant.counts (reading_more c.in_ok-count.count (λ t. t) c.in_ok-count.ensures.counts (reading_none c.loop-buffer.source (Unit {0}) _))
+
+pub returns-clause-outside : goal.returns-clause-outside
+returns-clause-outside g c =
     let full : most_bytes < length c.loop-buffer.source.items = omega arith in
-    read_full _ _ c.loop-buffer.source.items c.loop-buffer.invariant full
+    read_full _ _ c.loop-buffer.source c.loop-buffer.invariant full
+
+pub returns-clause-counts : goal.returns-clause-counts
+returns-clause-counts g c = reading_more tt (λ t. t) c.loop-buffer.invariant.counts (reading_none c.loop-buffer.source (Unit {0}) _)

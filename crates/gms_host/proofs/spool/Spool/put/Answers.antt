@@ -1,14 +1,17 @@
-use Rattle.std.proofs.Common.{rules}
-use Rattle.gms_host.proofs.Calmness.{calm_call}
+use Rattle.std.proofs.lemmas.Result.{err_from_is_err_and}
+use Rattle.gms_host.proofs.Counting.{writing_more}
 use Rattle.gms_host.proofs.Spools.{put_more, put_short}
 use Rattle.gms_host.proofs.spool.Spool.put.Goals as goal
 
 pub loop-rest-preserved : goal.loop-rest-preserved
 loop-rest-preserved g c =
     let made = c.in_ok-make_room.ensures in
-    put_more c.min-count.result c.loop-rest.invariant made.passed (calm_call made.passed.written.counts made.steady made.precise) c.append.ensures
+    record {
+      put = put_more _ _ _ _ _ _ c.loop-rest.rest.now _ c.min-count.result c.loop-rest.invariant.put made.outside c.append.ensures;
+      counts = writing_more tt c.loop-rest.invariant.counts made.counts;
+    }
 
-pub returns-in_err-make_room-clause-failed : goal.returns-in_err-make_room-clause-failed
-returns-in_err-make_room-clause-failed g c =
-    let short = put_short c.loop-rest.invariant c.in_err-make_room.ensures.failed in
-    search (rules, short)
+pub returns-in_err-make_room-clause-outside : goal.returns-in_err-make_room-clause-outside
+returns-in_err-make_room-clause-outside g c =
+    let p = err_from_is_err_and c.from_residual.result c.from_residual.ensures.1 in
+    put_short _ _ _ _ _ _ c.loop-rest.rest.now c.from_residual.result p.0 p.1 c.loop-rest.invariant.put c.in_err-make_room.ensures.outside

@@ -1,0 +1,107 @@
+-- What the pieces that execute a job promise each other.
+use Rattle.std.specs.Prelude.{◌≡◌, ℕ, ◌+◌, ◌≤◌, Bool, true, false, List, [], ◌++◌, length, Option, Some, None, option_map, Result, Ok, Err}
+use Rattle.std.specs.List.{All}
+use Rattle.gq_frac.specs.declared.frac.Frac.{Frac}
+use Rattle.gq_frac.specs.Frac.{frac_value}
+use Rattle.gq_number.specs.Number.{Number}
+use Rattle.gms_host.specs.declared.host.Failed.{Failed}
+use Rattle.gms_host.specs.declared.host.Failed.TheVariants.{Fault as FailedSo, Memory}
+use Rattle.gms_host.specs.Meaning.{Outside}
+use Rattle.gms_host.specs.Spooling.{Passes, WritesFront}
+use Rattle.gms_ast.specs.declared.program.Program.{Program}
+use Rattle.gms_ast.specs.declared.program.Stmt.{Stmt}
+use Rattle.gms_store.specs.State.{State}
+use Rattle.gms_eval.specs.Faults.{Fault}
+use Rattle.gms_event.specs.declared.event.Event.{Event as OwnEvent}
+use Rattle.gms_event.specs.Events.{Event}
+use Rattle.gms_event.specs.EventView.{events_in}
+use Rattle.lp_core.specs.declared.answer.Answer.{Answer}
+use Rattle.lp_core.specs.declared.answer.Pivot.{Pivot}
+use Rattle.lp_core.specs.declared.answer.Rule.{Rule}
+use Rattle.gms_exec.specs.Run.{Course, stopped, last_event}
+use Rattle.gms_exec.specs.Standing.{IsStanding}
+use Rattle.gms_list.specs.ListingText.{events_text}
+use Rattle.gms_run.specs.declared.status.Status.{Status}
+use Rattle.gms_run.specs.Solving.{Solvers, Solving, HaveGrown, number_limit, numbers_of, seen}
+use Rattle.gms_run.specs.Jobs.{Job, IsCutOff, IsSolved, HaltsSo, body_of, course_of, first_of, shown_by}
+
+-- what work over a host comes to, by its answer: this where it is done, and that where a fault of the host ends it; want of memory says nothing
+abbrev pub ComesTo : {A : Type 0} → Result A Failed → (A → Type 0) → Type 0 → Type 0
+ComesTo (Ok x) Done Broken = Done x
+ComesTo (Err FailedSo) Done Broken = Broken
+ComesTo (Err Memory) Done Broken = Unit {0}
+
+-- ---- between statements
+
+-- What is seen of a run between statements: its state, its answers, and its solvers.
+pub record Between : Type 0 where
+  pub state : State
+  pub answers : List (Answer Frac)
+  pub solvers : Solvers
+
+-- the same, by what each solver tells
+abbrev pub between : {S : Type 0} → (S → List ℕ) → (S → Rule) → (S → List (List Pivot)) → State → List (Answer Frac) → List S → Between
+between name rule paths state answers solvers = record { state = state; answers = answers; solvers = seen name rule paths solvers }
+
+-- where a run stands that shows these events, and has these answers left
+abbrev pub course_at : Between → List Event → List (Answer Number) → Option Fault → Course
+course_at at events left fault =
+    record { state = at.state; events = events; left = left; taken = length at.answers; halted = option_map stopped fault }
+
+-- a run goes on where no fault stopped it
+abbrev pub GoesOn : Bool → Option Fault → Type 0
+GoesOn true fault = fault ≡ None
+GoesOn false fault = (stop : Fault) × (fault ≡ Some stop)
+
+-- Statements were executed: they showed events and took answers behind those that were there, and the run came to the state and the end that
+-- they come to with these answers. The text of what they showed, and of the fault that stopped them, stands behind the text before. Each solve is
+-- answered, and the pivots of its answer stand behind the paths of its solver.
+pub record IsListed (goes_on : Bool) (does : Course → Course) (program : Program Frac) (rules : List Rule) (old new : Between) (before after : List ℕ) : Type 0 where
+  pub shown : List (OwnEvent Frac)
+  pub fault : Option Fault
+  pub end : GoesOn goes_on fault
+  pub fresh : List (Answer Frac)
+  pub answers : new.answers ≡ old.answers ++ fresh
+  pub standing : All (IsStanding frac_value number_limit rules new.answers) shown
+  pub grown : HaveGrown old.solvers new.solvers new.answers (events_in frac_value shown)
+  pub comes : (events : List Event) (more : List (Answer Number)) →
+      does (course_at old events (numbers_of fresh ++ more) None) ≡ course_at new (events ++ events_in frac_value shown) more fault
+  pub text : after ≡ before ++ events_text program.names program.labels number_limit (numbers_of new.answers) (events_in frac_value shown ++ last_event (option_map stopped fault))
+
+-- ---- jobs
+
+-- a job that is not echoed
+abbrev pub work : Program Frac → State → List (Stmt Frac) → Job
+work program state statements = record { program = program; state = state; statements = statements; source = []; line = 0 }
+
+-- A job came to its end, so that the run ends with this status, in this state.
+pub record Ends (status : Status) (job : Job) (solving : Solving) (last : State) : Type 0 where
+  pub solved : IsSolved job solving
+  pub halts : HaltsSo status (course_of job solving).halted
+  pub comes : (course_of job solving).state ≡ last
+
+-- The statements of a job came to their end, and what they show is on its way out behind a text that is due.
+pub record EndsBehind (status : Status) (job : Job) (solving : Solving) (last : State) (old new : Outside) (due pending : List ℕ) : Type 0 where
+  pub ends : Ends status job solving last
+  pub passes : Passes old new (due ++ shown_by job solving) pending
+  pub room : length pending ≤ 4096
+
+-- Behind a text that is due the statements of a job were executed up to one whose listing was not written.
+pub record BreaksBehind (job : Job) (solving : Solving) (old new : Outside) (due : List ℕ) : Type 0 where
+  pub solved : IsSolved job solving
+  pub front : WritesFront old new (due ++ shown_by job solving)
+  pub last : ℕ
+  pub taken : (course_of (first_of (last + 1) job) solving).left ≡ []
+  pub pending : length (due ++ shown_by (first_of last job) solving) ≤ length front.1.bytes + 4096
+
+-- A job came to its end, and its listing as far as the last line is on its way out.
+pub record EndsJob (status : Status) (job : Job) (solving : Solving) (last : State) (old new : Outside) (pending : List ℕ) : Type 0 where
+  pub ends : Ends status job solving last
+  pub passes : Passes old new (body_of job solving) pending
+  pub room : length pending ≤ 4096
+
+-- A job was cut off.
+pub record BreaksJob (job : Job) (solving : Solving) (old new : Outside) : Type 0 where
+  pub solved : IsSolved job solving
+  pub front : WritesFront old new (body_of job solving)
+  pub cut : IsCutOff job solving (length front.1.bytes)

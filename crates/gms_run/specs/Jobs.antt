@@ -1,0 +1,93 @@
+-- A job, and what running it comes to: how far it goes with the answers of its solvers, and the text of that.
+use Rattle.std.specs.Prelude.{◌≡◌, ℕ, ◌+◌, ◌≤◌, ◌⊎◌, List, [], ◌++◌, length, take, Option, Some, None}
+use Rattle.gq_frac.specs.declared.frac.Frac.{Frac}
+use Rattle.gq_frac.specs.Frac.{frac_value}
+use Rattle.gms_ast.specs.declared.program.Program.{Program}
+use Rattle.gms_ast.specs.declared.program.Stmt.{Stmt}
+use Rattle.gms_check.specs.Loaded.{loaded}
+use Rattle.gms_store.specs.State.{State}
+use Rattle.gms_eval.specs.Faults.{Fault}
+use Rattle.gms_exec.specs.Answering.{AreAnswered}
+use Rattle.gms_exec.specs.Run.{Course, Halt, stopped, waiting, run_from, all_events}
+use Rattle.gms_list.specs.ListingText.{echo_text, events_text, end_text}
+use Rattle.gms_run.specs.declared.status.Status.{Status}
+use Rattle.gms_run.specs.declared.status.Status.TheVariants.{Done, Usage, Compile, Execution, ReadFault, WriteFault}
+use Rattle.gms_run.specs.Searches.{SearchesEnd}
+use Rattle.gms_run.specs.Solving.{Solving, HaveGrown, SolvesNothing, number_limit, numbers_of}
+
+-- What is run: statements of a program from a state on, and the source that is echoed for it, whose first line has this number.
+pub record Job : Type 0 where
+  pub program : Program Frac
+  pub state : State
+  pub statements : List (Stmt Frac)
+  pub source : List ℕ
+  pub line : ℕ
+
+-- the job that a source means whose program this is: all statements, from the loaded state on
+abbrev pub job_of : List ℕ → Program Frac → Job
+job_of source program =
+    record { program = program; state = loaded frac_value program; statements = program.statements.items; source = source; line = 1 }
+
+-- the job of the first statements alone
+abbrev pub first_of : ℕ → Job → Job
+first_of n job = record job { statements = take n job.statements }
+
+-- ---- how far it goes
+
+-- the run of a job with these answers
+abbrev pub course_of : Job → Solving → Course
+course_of job solving =
+    run_from frac_value number_limit (record { program = job.program; solvers = solving.before.names }) job.state (numbers_of solving.answers) job.statements
+
+-- The run of a job takes all answers; each solve has an answer of the linear program that its model means at that point, by the rule of the solver
+-- that is chosen there; under Bland's rule no search breaks off that has pivots enough; and the pivots of each answer stand behind the paths of the
+-- solver that gave it.
+pub record IsSolved (job : Job) (solving : Solving) : Type 0 where
+  pub all_taken : (course_of job solving).left ≡ []
+  pub answered : AreAnswered frac_value number_limit solving.before.rules solving.answers (course_of job solving).events
+  pub ended : SearchesEnd solving.before.rules solving.answers (course_of job solving).events
+  pub grown : HaveGrown solving.before solving.after solving.answers (course_of job solving).events
+
+-- the number of a status
+abbrev pub status_code : Status → ℕ
+status_code Done = 0
+status_code Usage = 1
+status_code Compile = 2
+status_code Execution = 3
+status_code ReadFault = 4
+status_code WriteFault = 5
+
+-- how a job halts that ends with a status: it is done, or a fault stops it
+abbrev pub HaltsSo : Status → Option Halt → Type 0
+HaltsSo Done halted = halted ≡ None
+HaltsSo Execution halted = (fault : Fault) × (halted ≡ Some (stopped fault))
+HaltsSo _ halted = ⊥
+
+-- ---- its text
+
+-- the last line, by how a job halts: one that waits for an answer has none
+abbrev pub last_line : Option Halt → ℕ → List ℕ
+last_line None solves = end_text 0 solves
+last_line (Some (stopped fault)) solves = end_text 3 solves
+last_line (Some waiting) solves = []
+
+-- what the statements show, and the fault that stops them, as far as the answers go
+abbrev pub shown_by : Job → Solving → List ℕ
+shown_by job solving =
+    events_text job.program.names job.program.labels number_limit (numbers_of solving.answers) (all_events (course_of job solving))
+
+-- the echo of the source, and what the statements show
+abbrev pub body_of : Job → Solving → List ℕ
+body_of job solving = echo_text job.line job.source ++ shown_by job solving
+
+-- the listing of a job as far as the answers go: the echo, what the statements show, and the last line
+abbrev pub job_text : Job → Solving → List ℕ
+job_text job solving = body_of job solving ++ last_line (course_of job solving).halted (length solving.answers)
+
+-- ---- where it is cut off
+
+-- A job is cut off where so many bytes of its listing were written and no more. Either nothing was solved; or, for some n, all answers are taken by
+-- the first n + 1 statements, and the listing as far as the first n is at most 4,096 bytes longer than what was written.
+abbrev pub IsCutOff : Job → Solving → ℕ → Type 0
+IsCutOff job solving written =
+    SolvesNothing solving ⊎ ((n : ℕ) × ((course_of (first_of (n + 1) job) solving).left ≡ []) × (length (body_of (first_of n job) solving) ≤ written + 4096))

@@ -1,0 +1,65 @@
+//! That each prefix of a model is a program or is refused, and that its listing is whole.
+use crate::runs::run_words;
+use std::alloc::Global;
+use std::process::Abort;
+
+/// The transport model: two plants, three markets, and the cheapest plan.
+const TRANSPORT: &str = "\
+sets
+     i   canning plants   / seattle, san-diego /
+     j   markets          / new-york, chicago, topeka / ;
+parameters
+     a(i)  capacity of plant i in cases
+       / seattle 350
+         san-diego 600 /
+     b(j)  demand at market j in cases
+       / new-york 325
+         chicago 300
+         topeka 275 / ;
+table d(i,j)  distance in thousands of miles
+               new-york   chicago   topeka
+  seattle         2.5       1.7      1.8
+  san-diego       2.5       1.8      1.4 ;
+scalar f  freight in dollars per case per thousand miles /90/ ;
+parameter c(i,j)  transport cost in thousands of dollars per case ;
+c(i,j) = f * d(i,j) / 1000 ;
+variables
+     x(i,j)  shipment quantities in cases
+     z       total transportation costs in thousands of dollars ;
+positive variable x ;
+equations
+     cost       define objective function
+     supply(i)  observe supply limit at plant i
+     demand(j)  satisfy demand at market j ;
+cost ..      z =e= sum((i,j), c(i,j)*x(i,j)) ;
+supply(i) .. sum(j, x(i,j)) =l= a(i) ;
+demand(j) .. sum(i, x(i,j)) =g= b(j) ;
+model transport /all/ ;
+solve transport using lp minimizing z ;
+display x.l, x.m ;
+";
+
+/// Compares the run of a source with what is due of any.
+fn check(rt: &impl Abort, alloc: Global, source: &str) {
+    let left = run_words(rt, alloc, (source, 0, &[]), &["a.gms"], &["bland"]);
+    let length = source.len();
+    let status = left.status;
+    assert!(rt; status == 0 || status == 2, "{length}");
+    let end = format!(in alloc; "END status {status} solves ").expect(rt, "memory");
+    assert!(rt; left.output.contains(end.as_str()), "{length}");
+    assert!(rt; left.output.ends_with("\n"), "{length}");
+    assert!(rt; left.said.ends_with("output a.lst\n"), "{length}");
+    assert!(rt; left.kept.starts_with("a.lst "), "{length}");
+}
+
+#[test]
+fn each_prefix_of_a_model_is_listed_whole(rt: HostRuntime) {
+    for length in 0..TRANSPORT.len() {
+        if let Some(source) = TRANSPORT.get(..length) {
+            check(&rt, rt.alloc(), source);
+        }
+    }
+    let whole = run_words(&rt, rt.alloc(), (TRANSPORT, 0, &[]), &["a.gms"], &["bland"]);
+    assert_eq!(rt; whole.status, 0);
+    assert!(rt; whole.output.contains("END status 0 solves 1\n"));
+}

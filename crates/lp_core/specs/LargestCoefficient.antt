@@ -1,0 +1,47 @@
+-- The rule of the largest coefficient, with a turn to Bland's rule where pivots gain nothing (Chvatal, Linear Programming,
+-- chapters 2 and 3).
+use Rattle.std.specs.Prelude.{◌≡◌, ℕ, ◌+◌, ◌≤◌, ◌⊎◌, pos, List, ◌++◌, length}
+use Rattle.gq_number.specs.Number.{Number, whole}
+use Rattle.gq_number.specs.Order.{◌≤ℚ◌}
+use Rattle.lp_core.specs.declared.answer.Pivot.{Pivot}
+use Rattle.lp_core.specs.declared.answer.Rule.TheVariants.{Bland}
+use Rattle.lp_core.specs.declared.answer.Answer.{Answer}
+use Rattle.lp_core.specs.declared.program.Lp.{Lp}
+use Rattle.lp_core.specs.Dictionary.{Dictionary, constant_at, entry_at, IsPriced, Improves}
+use Rattle.lp_core.specs.Answers.{IsChosen, IsPhase}
+use Rattle.lp_core.specs.Choices.{leaving_row, reached, AllAlong, IsAnswerBy}
+
+-- A variable improves with the greatest coefficient, and is the least of those that do so with the same.
+pub record HasGreatest (d : Dictionary) (q : ℕ) : Type 0 where
+  pub improves : Improves d q
+  pub greatest : (v k : ℕ) → Improves d v → IsPriced d k → entry_at d k v ≤ℚ entry_at d k q
+  pub least : (v k : ℕ) → Improves d v → IsPriced d k → entry_at d k v ≡ entry_at d k q → q ≤ v
+
+-- a pivot of a phase
+abbrev pub IsOfPhase : ℕ → Dictionary → Pivot → Type 0
+IsOfPhase phase d p = IsPhase d phase
+
+-- a pivot of a phase that gains nothing: the constant of the variable that leaves is 0
+abbrev pub StandsStill : ℕ → Dictionary → Pivot → Type 0
+StandsStill phase d p = IsPhase d phase × (constant_at d (leaving_row d p) ≡ whole (pos 0))
+
+-- The turn to Bland's rule has come in the phase of this dictionary, to which these pivots led: somewhere in it as many pivots
+-- on end as there are variables, variable 0 included, gained nothing.
+pub record HasTurned (first : Dictionary) (pivots : List Pivot) (d : Dictionary) : Type 0 where
+  pub phase : ℕ
+  pub before : List Pivot
+  pub still : List Pivot
+  pub behind : List Pivot
+  pub split : pivots ≡ before ++ still ++ behind
+  pub many : length still ≡ d.variables + 1
+  pub gains_nothing : AllAlong (StandsStill phase) (reached first before) still
+  pub same_phase : AllAlong (IsOfPhase phase) (reached first (before ++ still)) behind
+  pub now : IsPhase d phase
+
+-- the variable that enters next: the one with the greatest coefficient until the turn has come, and Bland's from then on
+abbrev pub IsNext : Dictionary → List Pivot → Dictionary → ℕ → Type 0
+IsNext first pivots d q = (¬ (HasTurned first pivots d) × HasGreatest d q) ⊎ (HasTurned first pivots d × IsChosen Bland d q)
+
+-- an answer of a program under a limit of pivots by the rule of the largest coefficient
+abbrev pub IsLargestAnswer : {F : Type 0} → (F → Number) → ℕ → Lp F → ℕ → Answer F → Type 0
+IsLargestAnswer value limit lp iterlim answer = IsAnswerBy IsNext value limit lp iterlim answer

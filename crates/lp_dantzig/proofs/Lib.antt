@@ -1,0 +1,5 @@
+pub mod Along
+pub mod Phases
+pub mod Counted
+pub mod Nexts
+pub mod Compared

@@ -1,0 +1,84 @@
+//! The solver by the rule of the largest coefficient.
+ghost use Rattle.std.specs.Prelude.{◌≡◌, ◌-◌, ◌^◌, ◌∷◌, ◌++◌, [], codes, IfOk, OnErr};
+ghost use Rattle.gq_frac.specs.Frac.{frac_value};
+ghost use Rattle.lp_core.specs.declared.answer.Rule.TheVariants as by;
+ghost use Rattle.lp_core.specs.Answers.{IsAnswer};
+ghost use Rattle.lp_core.specs.LargestCoefficient.{IsLargestAnswer};
+ghost use Rattle.lp_core.specs.WellFormed.{IsWellFormed};
+ghost use Rattle.lp_dantzig.specs.Name.{dantzig_is_name};
+
+use crate::answer::solve_in;
+use gq_frac::Frac;
+use lp_core::{Answer, Lp, Pivot, Rule, Sequence};
+use lp_slot::LpSolver;
+use std::alloc::{AllocError, Global};
+use std::marker::Model;
+
+/// Dantzig's solver: the variable that improves with the greatest coefficient enters, and of the tied ones the least leaves; where
+/// pivots gain nothing for long it turns to Bland's rule, so that it does not cycle.
+#[derive(Drop)]
+pub struct Dantzig {
+    taken: Vec<Sequence<Pivot>>,
+}
+
+impl Model for Dantzig {
+    ghost use Rattle.std.specs.Prelude.{List};
+    ghost use Rattle.lp_core.specs.declared.answer.Pivot.{Pivot};
+
+    ghost Value = { List (List Pivot) };
+
+    ghost view = { λ d. d.taken.items };
+}
+
+impl Dantzig {
+    /// A solver that has given no answer. It keeps the allocator and takes no memory.
+    pub fn new(alloc: Global) -> Dantzig
+        ensures { result ≡ [] }
+    {
+        Dantzig {
+            taken: Vec::new(alloc),
+        }
+    }
+}
+
+impl LpSolver for Dantzig {
+    ghost name = { λ _. codes "dantzig" };
+
+    ghost rule = { λ _. by.Legal };
+
+    ghost paths = { λ d. d };
+
+    fn name(&self) -> &str {
+        "dantzig"
+    }
+
+    fn rule(&self) -> Rule {
+        Rule::Legal
+    }
+
+    fn paths(&self) -> &[Sequence<Pivot>] {
+        self.taken.as_slice()
+    }
+
+    /// The answer of a program by the rule of the largest coefficient with the turn to Bland's rule, of which there is one: its
+    /// pivots are legal, and pivots, end and refused step are those of that rule.
+    fn solve(
+        &mut self,
+        alloc: Global,
+        lp: &Lp<Frac>,
+        iterlim: u64,
+    ) -> Result<Answer<Frac>, AllocError>
+        requires { IsWellFormed frac_value lp.now }
+        ensures answers { IfOk result (IsAnswer frac_value (2 ^ 127 - 1) lp.now iterlim by.Legal) }
+        ensures largest { IfOk result (IsLargestAnswer frac_value (2 ^ 127 - 1) lp.now iterlim) }
+        ensures paths { IfOk result (λ answer. self.new ≡ self.old ++ answer.pivots ∷ []) }
+        ensures unchanged { OnErr result (self.new ≡ self.old) }
+    {
+        let answer = solve_in(alloc, lp, iterlim)?;
+        let path = Vec::from_slice(alloc, answer.pivots.as_slice())?;
+        self.taken.push(Sequence::new(path))?;
+        Ok(answer)
+    }
+
+    ghost named = { λ _. dantzig_is_name };
+}

@@ -1,0 +1,11 @@
+//! Floor 4, linear programs. The rule of the largest coefficient, with a turn to Bland's rule where pivots gain nothing.
+#![tactic(auto)]
+
+mod answer;
+mod dantzig;
+mod largest;
+mod laws;
+
+pub use answer::solve_in;
+pub use dantzig::Dantzig;
+pub use laws::{answer_is_legal, one_answer};

@@ -1,0 +1,11 @@
+pub mod Lists
+pub mod Stops
+pub mod Walking
+pub mod Rules
+pub mod Standing
+pub mod Steps
+pub mod Ending
+pub mod Answering
+pub mod Formless
+pub mod Unique
+pub mod Narrowed

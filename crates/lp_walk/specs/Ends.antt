@@ -1,0 +1,65 @@
+-- What the pieces of the way from a last dictionary to an answer promise each other (Chvatal, Linear Programming, chapters 2 and 8).
+use Rattle.std.specs.Prelude.{◌≡◌, ◌⊎◌, ℕ, [], Option, None}
+use Rattle.gq_number.specs.Number.{Number}
+use Rattle.lp_core.specs.declared.answer.End.{End}
+use Rattle.lp_core.specs.declared.answer.End.TheVariants.{Interrupted, Refused}
+use Rattle.lp_core.specs.declared.answer.StepName.{StepName}
+use Rattle.lp_core.specs.declared.answer.Rule.{Rule}
+use Rattle.lp_core.specs.declared.program.Lp.{Lp}
+use Rattle.lp_core.specs.StandardForm.{Standard, Last}
+use Rattle.lp_core.specs.Dictionary.{Dictionary, OpeningIsDue, Improves}
+use Rattle.lp_core.specs.Steps.{AllFit, FirstStop}
+use Rattle.lp_core.specs.Answers.{IsPhase, NoneCrosses, AnswersCrossed, AnswersStopped}
+use Rattle.lp_std.specs.declared.types.FinalKind.{FinalKind}
+use Rattle.lp_std.specs.Last.{IsDictionaryOf, EndsAt}
+use Rattle.lp_std.specs.Back.{LeadsTo, IsProved, steps_back}
+use Rattle.lp_dict.specs.Tableau.{dictionary}
+use Rattle.lp_dict.specs.Reading.{IsDone, EndsBy, RayIs}
+use Rattle.lp_walk.specs.declared.walk.Halt.{Halt}
+use Rattle.lp_walk.specs.declared.walk.Halt.TheVariants as halt
+
+-- a further pivot may be due: the opening one, or a variable improves
+abbrev pub MayGoOn : Dictionary → Type 0
+MayGoOn d = OpeningIsDue d ⊎ ((q : ℕ) × Improves d q)
+
+module _ {F : Type 0} (value : F → Number) where
+  -- where a walk over dictionaries of this standard form may be at its end
+  abbrev pub CanEnd : Standard → Halt F → Type 0
+  CanEnd s (halt.Ended d enter) = IsDictionaryOf s (dictionary value d) × IsDone (dictionary value d) enter
+  CanEnd s (halt.Interrupted d) = IsDictionaryOf s (dictionary value d) × MayGoOn (dictionary value d)
+  CanEnd s (halt.Refused step) = Unit {0}
+
+module _ {F : Type 0} (value : F → Number) (limit : ℕ) (lp : Lp F) where
+  -- an end to which what was read from a last dictionary leads back, or the first step on that way that does not fit
+  abbrev pub EndsWith : FinalKind → Last → End F → Type 0
+  EndsWith kind last end =
+      (LeadsTo value lp kind last end × AllFit (steps_back value limit lp kind last) × IsProved value lp end)
+      ⊎ ((step : StepName) × (end ≡ Refused step) × FirstStop (steps_back value limit lp kind last) step)
+
+  -- An end is led back from a dictionary, along the ray of this variable, if there is one.
+  pub record IsLedBack (d : Dictionary) (enter : Option ℕ) (end : End F) : Type 0 where
+    pub kind : FinalKind
+    pub last : Last
+    pub ends_by : EndsBy d enter kind
+    pub read : EndsAt d kind last
+    pub ray : RayIs d enter last.changes
+    pub gives : EndsWith kind last end
+
+  -- the end of a walk that is broken off: in phase 1 nothing is told, in phase 2 the point
+  abbrev pub IsBrokenOff : Dictionary → End F → Type 0
+  IsBrokenOff d end = (IsPhase d 1 × (end ≡ Interrupted 1 [] [])) ⊎ (IsPhase d 2 × IsLedBack d None end)
+
+  -- the end of a walk that halted so
+  abbrev pub EndsHalted : Halt F → End F → Type 0
+  EndsHalted (halt.Ended d enter) end = IsLedBack (dictionary value d) enter end
+  EndsHalted (halt.Interrupted d) end = IsBrokenOff (dictionary value d) end
+  EndsHalted (halt.Refused step) end = end ≡ Refused step
+
+  -- the end of a program where the bounds of a column cross
+  abbrev pub EndsCrossed : End F → Type 0
+  EndsCrossed end = (iterlim : ℕ) (rule : Rule) → AnswersCrossed value limit lp iterlim rule end
+
+  -- the end of a program that has no standard form
+  abbrev pub EndsFormless : End F → Type 0
+  EndsFormless end =
+      (iterlim : ℕ) (rule : Rule) → AnswersCrossed value limit lp iterlim rule end ⊎ (NoneCrosses value limit lp iterlim rule × AnswersStopped value limit lp iterlim rule end)

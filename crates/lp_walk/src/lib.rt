@@ -1,0 +1,13 @@
+//! Floor 4, linear programs. From a linear program to its answer, whichever of the improving variables is chosen to enter.
+#![tactic(auto)]
+
+mod answer;
+mod choosing;
+mod narrow;
+mod walk;
+mod widen;
+
+pub use answer::solve_by;
+pub use choosing::Choosing;
+pub use narrow::narrow_lp;
+pub use widen::widen_answer;

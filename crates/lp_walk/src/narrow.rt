@@ -1,0 +1,152 @@
+//! A program over numbers of 127 bits as one over numbers of 63.
+ghost use Rattle.std.specs.Prelude.{◌≡◌, ◌↔◌, ◌-◌, ◌^◌, true, map, IfOk, IfSome, IsSome};
+ghost use Rattle.std.specs.List.{All};
+ghost use Rattle.gq_field.specs.Values.{half_value};
+ghost use Rattle.gq_frac.specs.Frac.{frac_value};
+ghost use Rattle.gq_field.specs.Fits.{fits};
+ghost use Rattle.lp_core.specs.Feasible.{bound_value};
+ghost use Rattle.lp_walk.specs.declared.narrow.Wide.TheVariants as kinds;
+ghost use Rattle.lp_core.specs.Numbers.{entries_numbers, column_numbers, row_numbers, lp_numbers, ColumnIsWithin, RowIsWithin, IsWithin};
+ghost use Rattle.lp_walk.specs.Narrowing.{Narrows};
+
+use gq_field::Half;
+use gq_frac::{Frac, narrow};
+use lp_core::{Column, Lp, Row, Sequence};
+use std::alloc::{AllocError, AllocFailed, Global};
+
+/// Why something is not made narrow.
+#[derive(Clone, Copy, Debug, PartialEq, Eq)]
+enum Wide {
+    /// A part of a number is too great.
+    Number,
+    /// A growth found no memory.
+    Memory,
+}
+
+impl From<AllocError> for Wide {
+    ghost from_gives = { λ _ wide. wide ≡ kinds.Memory };
+
+    fn from(_error: AllocError) -> Wide {
+        Wide::Memory
+    }
+}
+
+impl<T: Drop> From<AllocFailed<T>> for Wide {
+    ghost from_gives = { λ _ wide. wide ≡ kinds.Memory };
+
+    fn from(_error: AllocFailed<T>) -> Wide {
+        Wide::Memory
+    }
+}
+
+/// The number, made narrow.
+fn narrow_number(number: Frac) -> Result<Half, Wide>
+    ensures { Narrows (λ made. half_value made ≡ frac_value number) (fits (2 ^ 63 - 1) (frac_value number) ≡ true) result }
+{
+    match narrow(number) {
+        Some(number) => Ok(number),
+        None => Err(Wide::Number),
+    }
+}
+
+/// The bound, made narrow.
+fn narrow_bound(bound: Option<Frac>) -> Result<Option<Half>, Wide>
+    ensures { Narrows (λ made. bound_value half_value made ≡ bound_value frac_value bound)
+        (IfSome (bound_value frac_value bound) (λ b. fits (2 ^ 63 - 1) b ≡ true)) result }
+{
+    match bound {
+        Some(bound) => Ok(Some(narrow_number(bound)?)),
+        None => Ok(None),
+    }
+}
+
+/// The column, made narrow.
+fn narrow_column(alloc: Global, column: &Column<Frac>) -> Result<Column<Half>, Wide>
+    ensures { Narrows (λ made. column_numbers half_value made ≡ column_numbers frac_value column.now)
+        (ColumnIsWithin (2 ^ 63 - 1) (column_numbers frac_value column.now)) result }
+{
+    Ok(Column {
+        lower: narrow_bound(column.lower)?,
+        upper: narrow_bound(column.upper)?,
+        key: column.key.copy(alloc)?,
+    })
+}
+
+/// The columns, made narrow.
+fn narrow_columns(alloc: Global, columns: &[Column<Frac>]) -> Result<Vec<Column<Half>>, Wide>
+    ensures { Narrows (λ made. map (column_numbers half_value) made.items ≡ map (column_numbers frac_value) columns.now)
+        (All (ColumnIsWithin (2 ^ 63 - 1)) (map (column_numbers frac_value) columns.now)) result }
+{
+    let mut made = Vec::new(alloc);
+    for column in columns {
+        made.push(narrow_column(alloc, column)?)?;
+    }
+    Ok(made)
+}
+
+/// The entries, made narrow.
+fn narrow_entries(alloc: Global, entries: &[(u32, Frac)]) -> Result<Vec<(u32, Half)>, Wide>
+    ensures { Narrows (λ made. entries_numbers half_value made.items ≡ entries_numbers frac_value entries.now)
+        (All (λ e. fits (2 ^ 63 - 1) e.1 ≡ true) (entries_numbers frac_value entries.now)) result }
+{
+    let mut made = Vec::new(alloc);
+    for (column, coefficient) in entries {
+        made.push((*column, narrow_number(*coefficient)?))?;
+    }
+    Ok(made)
+}
+
+/// The row, made narrow.
+fn narrow_row(alloc: Global, row: &Row<Frac>) -> Result<Row<Half>, Wide>
+    ensures { Narrows (λ made. row_numbers half_value made ≡ row_numbers frac_value row.now)
+        (RowIsWithin (2 ^ 63 - 1) (row_numbers frac_value row.now)) result }
+{
+    let right = narrow_number(row.right)?;
+    let entries = narrow_entries(alloc, row.entries.as_slice())?;
+    Ok(Row {
+        key: row.key.copy(alloc)?,
+        sense: row.sense,
+        right,
+        entries: Sequence::new(entries),
+    })
+}
+
+/// The rows, made narrow.
+fn narrow_rows(alloc: Global, rows: &[Row<Frac>]) -> Result<Vec<Row<Half>>, Wide>
+    ensures { Narrows (λ made. map (row_numbers half_value) made.items ≡ map (row_numbers frac_value) rows.now)
+        (All (RowIsWithin (2 ^ 63 - 1)) (map (row_numbers frac_value) rows.now)) result }
+{
+    let mut made = Vec::new(alloc);
+    for row in rows {
+        made.push(narrow_row(alloc, row)?)?;
+    }
+    Ok(made)
+}
+
+/// The program, made narrow.
+fn narrowed(alloc: Global, lp: &Lp<Frac>) -> Result<Lp<Half>, Wide>
+    ensures { Narrows (λ made. lp_numbers half_value made ≡ lp_numbers frac_value lp.now)
+        (IsWithin (2 ^ 63 - 1) (lp_numbers frac_value lp.now)) result }
+{
+    let columns = narrow_columns(alloc, lp.columns.as_slice())?;
+    let rows = narrow_rows(alloc, lp.rows.as_slice())?;
+    Ok(Lp {
+        columns: Sequence::new(columns),
+        rows: Sequence::new(rows),
+        objective: lp.objective,
+        maximize: lp.maximize,
+    })
+}
+
+/// The same program over numbers of 63 bits; `None` exactly where a part of one of its numbers is over 2^63 - 1 in magnitude.
+/// The error is want of memory.
+pub fn narrow_lp(alloc: Global, lp: &Lp<Frac>) -> Result<Option<Lp<Half>>, AllocError>
+    ensures same { IfOk result (λ found. IfSome found (λ narrow. lp_numbers half_value narrow ≡ lp_numbers frac_value lp.now)) }
+    ensures within { IfOk result (λ found. IsSome found ↔ IsWithin (2 ^ 63 - 1) (lp_numbers frac_value lp.now)) }
+{
+    match narrowed(alloc, lp) {
+        Ok(narrow) => Ok(Some(narrow)),
+        Err(Wide::Number) => Ok(None),
+        Err(Wide::Memory) => Err(AllocError),
+    }
+}
