@@ -5,3 +5,4 @@ mod Belows
 mod Listed
 mod Ascents
 mod Assigned
+mod BodyDepths

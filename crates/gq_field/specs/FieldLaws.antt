@@ -1,5 +1,5 @@
 -- That fields whose parts have so many bits keep the laws of a field with a limit: each law once, and then for each field.
-use Rattle.std.proofs.Common.{◌≡◌, ℕ, ◌-◌, ◌^◌, ◌<◌, ◌≤◌, true, ℤ, ap, subst, arith}
+use Rattle.std.proofs.Common.{◌≡◌, ℕ, ◌-◌, ◌^◌, ◌<◌, ◌≤◌, true, ℤ, nat_abs, refl, ap, subst, arith}
 use Rattle.std.proofs.Math.Nat.{pow-le-pow_right}
 use Rattle.std.proofs.Props.{props}
 use Rattle.std.proofs.lemmas.Bool.Decides.{nat_tests}
@@ -33,6 +33,14 @@ same_parts {F} bits make n m c d p q e =
     subst (λ (k : ℤ). (q : IsFraction bits k c) → make n c p ≡ make k c q) (ap (λ (v : Number). v.numerator) e) (λ q. ap (make n c) (IsFraction-prop bits n c p q)) in
     subst (λ (k : ℕ). (q : IsFraction bits m k) → make n c p ≡ make m k q) (ap (λ (v : Number). v.denominator) e) at_numerator q
 
+-- the parts of a number that fits are below the power of two
+pub parts_below : (bits : ℕ) (x : Number) → 0 < 2 ^ bits → fits (2 ^ bits - 1) x ≡ true → (nat_abs x.numerator < 2 ^ bits) × (x.denominator < 2 ^ bits)
+parts_below bits x above within =
+    let both : (nat_abs x.numerator ≤ 2 ^ bits - 1) × (x.denominator ≤ 2 ^ bits - 1) = grind (arith, nat_tests) in
+    let first = both.0 in
+    let second = both.1 in
+    (omega arith, omega arith)
+
 -- ---- the field with 63 bits
 
 pub half_range : (127 ≤ 2 ^ 63 - 1) × (2 ^ 63 - 1 < 2 ^ 127)
@@ -47,6 +55,12 @@ unfolding half_value
 half_same_value x y e =
     same_parts 63 (λ n d p. record { numerator = n; denominator = d; parts = p }) x.numerator y.numerator x.denominator y.denominator x.parts y.parts e
 
+pub half_each_number : (x : Number) → fits (2 ^ 63 - 1) x ≡ true → (y : Half) × (half_value y ≡ x)
+unfolding half_value number_of
+half_each_number x within =
+    let below = parts_below 63 x (omega arith) within in
+    (record { numerator = x.numerator; denominator = x.denominator; parts = record { reduced = x.reduced; numerator_small = below.0; denominator_small = below.1 } }, refl)
+
 -- ---- the field with 7 bits
 
 pub tiny_range : (127 ≤ 2 ^ 7 - 1) × (2 ^ 7 - 1 < 2 ^ 127)
@@ -60,3 +74,9 @@ pub tiny_same_value : (x y : Tiny) → tiny_value x ≡ tiny_value y → x ≡ y
 unfolding tiny_value
 tiny_same_value x y e =
     same_parts 7 (λ n d p. record { numerator = n; denominator = d; parts = p }) x.numerator y.numerator x.denominator y.denominator x.parts y.parts e
+
+pub tiny_each_number : (x : Number) → fits (2 ^ 7 - 1) x ≡ true → (y : Tiny) × (tiny_value y ≡ x)
+unfolding tiny_value number_of
+tiny_each_number x within =
+    let below = parts_below 7 x (omega arith) within in
+    (record { numerator = x.numerator; denominator = x.denominator; parts = record { reduced = x.reduced; numerator_small = below.0; denominator_small = below.1 } }, refl)

@@ -190,4 +190,7 @@ pub trait ExactField: Copy {
 
     /// Values that mean the same number are the same.
     ghost same_value: { (x y : Self) → value x ≡ value y → x ≡ y };
+
+    /// Each number that fits is meant by a value.
+    ghost each_number: { (x : Number) → fits limit x ≡ true → (y : Self) × (value y ≡ x) };
 }

@@ -15,7 +15,7 @@ pub struct Half {
 impl ExactField for Half {
     ghost use Rattle.std.specs.Prelude.{◌-◌, ◌^◌};
     ghost use Rattle.gq_field.specs.Values.{half_value};
-    ghost use Rattle.gq_field.specs.FieldLaws.{half_range, half_within, half_same_value};
+    ghost use Rattle.gq_field.specs.FieldLaws.{half_range, half_within, half_same_value, half_each_number};
 
     ghost limit = { 2 ^ 63 - 1 };
 
@@ -41,4 +41,6 @@ impl ExactField for Half {
     ghost within = { half_within };
 
     ghost same_value = { half_same_value };
+
+    ghost each_number = { half_each_number };
 }

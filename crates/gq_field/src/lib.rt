@@ -11,6 +11,7 @@ mod rounding;
 mod sum;
 mod tiny;
 
+pub use divisor::gcd_of_words;
 pub use field::{ExactField, Limit};
 pub use fraction::Fraction;
 pub use half::Half;

@@ -15,7 +15,7 @@ pub struct Tiny {
 impl ExactField for Tiny {
     ghost use Rattle.std.specs.Prelude.{◌-◌, ◌^◌};
     ghost use Rattle.gq_field.specs.Values.{tiny_value};
-    ghost use Rattle.gq_field.specs.FieldLaws.{tiny_range, tiny_within, tiny_same_value};
+    ghost use Rattle.gq_field.specs.FieldLaws.{tiny_range, tiny_within, tiny_same_value, tiny_each_number};
 
     ghost limit = { 127 };
 
@@ -41,4 +41,6 @@ impl ExactField for Tiny {
     ghost within = { tiny_within };
 
     ghost same_value = { tiny_same_value };
+
+    ghost each_number = { tiny_each_number };
 }

@@ -1,9 +1,9 @@
 -- The number that a value of 127 bits means, and that these values keep the laws of a field with a limit.
-use Rattle.std.proofs.Common.{◌≡◌, ◌-◌, ◌^◌, ◌<◌, ◌≤◌, true, arith}
+use Rattle.std.proofs.Common.{◌≡◌, ◌-◌, ◌^◌, ◌<◌, ◌≤◌, true, refl, arith}
 use Rattle.gq_number.specs.Number.{Number}
 use Rattle.gq_field.specs.Fits.{fits}
 use Rattle.gq_field.specs.Parts.{number_of}
-use Rattle.gq_field.specs.FieldLaws.{range_of_bits, parts_within, same_parts}
+use Rattle.gq_field.specs.FieldLaws.{range_of_bits, parts_within, parts_below, same_parts}
 use Rattle.gq_frac.specs.declared.frac.Frac.{Frac}
 
 -- the number that a value of the field with the limit 2^127 - 1 means
@@ -21,3 +21,9 @@ pub frac_same_value : (x y : Frac) → frac_value x ≡ frac_value y → x ≡ y
 unfolding frac_value
 frac_same_value x y e =
     same_parts 127 (λ n d p. record { numerator = n; denominator = d; parts = p }) x.numerator y.numerator x.denominator y.denominator x.parts y.parts e
+
+pub frac_each_number : (x : Number) → fits (2 ^ 127 - 1) x ≡ true → (y : Frac) × (frac_value y ≡ x)
+unfolding frac_value number_of
+frac_each_number x within =
+    let below = parts_below 127 x (omega arith) within in
+    (record { numerator = x.numerator; denominator = x.denominator; parts = record { reduced = x.reduced; numerator_small = below.0; denominator_small = below.1 } }, refl)

@@ -13,7 +13,7 @@ pub struct Frac {
 
 impl ExactField for Frac {
     ghost use Rattle.std.specs.Prelude.{◌-◌, ◌^◌};
-    ghost use Rattle.gq_frac.specs.Frac.{frac_value, frac_range, frac_within, frac_same_value};
+    ghost use Rattle.gq_frac.specs.Frac.{frac_value, frac_range, frac_within, frac_same_value, frac_each_number};
 
     ghost limit = { 2 ^ 127 - 1 };
 
@@ -39,4 +39,6 @@ impl ExactField for Frac {
     ghost within = { frac_within };
 
     ghost same_value = { frac_same_value };
+
+    ghost each_number = { frac_each_number };
 }

@@ -1,24 +1,20 @@
 //! The solver by Bland's rule.
-ghost use Rattle.std.specs.Prelude.{◌≡◌, ◌-◌, ◌^◌, ◌∷◌, ◌++◌, [], ◌↔◌, codes, IsTrue, IfOk, IfSome, OnErr};
+ghost use Rattle.std.specs.Prelude.{◌≡◌, ◌-◌, ◌^◌, ◌∷◌, ◌++◌, [], codes, IfOk, OnErr};
 ghost use Rattle.gq_frac.specs.Frac.{frac_value};
 ghost use Rattle.lp_core.specs.declared.answer.Rule.TheVariants as by;
 ghost use Rattle.lp_core.specs.Answers.{IsAnswer};
 ghost use Rattle.lp_nocycle.specs.PivotCount.{HasFewPivots, ComesToEnd};
 ghost use Rattle.lp_bland.specs.Name.{bland_is_name};
-ghost use Rattle.lp_bland.specs.Ends.{IsRefused};
 ghost use Rattle.lp_core.specs.WellFormed.{IsWellFormed};
 
 use crate::answer::solve_in;
 use gq_frac::Frac;
-use lp_core::{Answer, End, Lp, Pivot, Rule, Sequence};
+use lp_core::{Answer, Lp, Pivot, Rule, Sequence};
 use lp_slot::LpSolver;
-use lp_walk::{narrow_lp, widen_answer};
 use std::alloc::{AllocError, Global};
 use std::marker::Model;
 
 /// Bland's solver: the least variable that improves enters, and of the tied ones the least leaves.
-///
-/// It counts with numbers of 63 bits where they do, and with 127 where they do not; the answer is the same.
 #[derive(Drop)]
 pub struct Bland {
     taken: Vec<Sequence<Pivot>>,
@@ -44,46 +40,6 @@ impl Bland {
     }
 }
 
-/// Whether an end is a step that does not fit.
-fn is_refused<F>(end: &End<F>) -> bool
-    ensures { IsTrue result ↔ IsRefused end.now }
-{
-    match end {
-        End::Refused { .. } => true,
-        _ => false,
-    }
-}
-
-/// The answer that numbers of 63 bits give; none where a number of the program or of a step needs more.
-fn answer_over_half(
-    alloc: Global,
-    lp: &Lp<Frac>,
-    iterlim: u64,
-) -> Result<Option<Answer<Frac>>, AllocError>
-    requires { IsWellFormed frac_value lp.now }
-    ensures { IfOk result (λ found. IfSome found (IsAnswer frac_value (2 ^ 127 - 1) lp.now iterlim by.Bland)) }
-{
-    let Some(narrow) = narrow_lp(alloc, lp)? else {
-        return Ok(None);
-    };
-    let answer = solve_in(alloc, &narrow, iterlim)?;
-    if is_refused(&answer.end) {
-        return Ok(None);
-    }
-    Ok(Some(widen_answer(alloc, &answer)?))
-}
-
-/// The answer of a program, with numbers of 63 bits where they do.
-fn answer_of(alloc: Global, lp: &Lp<Frac>, iterlim: u64) -> Result<Answer<Frac>, AllocError>
-    requires { IsWellFormed frac_value lp.now }
-    ensures { IfOk result (IsAnswer frac_value (2 ^ 127 - 1) lp.now iterlim by.Bland) }
-{
-    match answer_over_half(alloc, lp, iterlim)? {
-        Some(answer) => Ok(answer),
-        None => solve_in(alloc, lp, iterlim),
-    }
-}
-
 impl LpSolver for Bland {
     ghost name = { λ _. codes "bland" };
 
@@ -103,9 +59,8 @@ impl LpSolver for Bland {
         self.taken.as_slice()
     }
 
-    /// The answer of a program under Bland's rule, of which there is one. Where the numbers of the program and of each step fit
-    /// in 63 bits they are counted so, and else in 127. No basis comes back, so the pivots are fewer than twice the sets of the
-    /// program's variables, and with a limit of at least that many the end is not Interrupted.
+    /// The answer of a program under Bland's rule, of which there is one. No basis comes back, so the pivots are fewer than twice
+    /// the sets of the program's variables, and with a limit of at least that many the end is not Interrupted.
     fn solve(
         &mut self,
         alloc: Global,
@@ -119,7 +74,7 @@ impl LpSolver for Bland {
         ensures paths { IfOk result (λ answer. self.new ≡ self.old ++ answer.pivots ∷ []) }
         ensures unchanged { OnErr result (self.new ≡ self.old) }
     {
-        let answer = answer_of(alloc, lp, iterlim)?;
+        let answer = solve_in(alloc, lp, iterlim)?;
         let path = Vec::from_slice(alloc, answer.pivots.as_slice())?;
         self.taken.push(Sequence::new(path))?;
         Ok(answer)

@@ -1,10 +1,16 @@
-//! That Bland's rule leaves nothing open: a law on a function with an empty body.
-ghost use Rattle.std.specs.Prelude.{◌≡◌, ℕ};
+//! That Bland's rule leaves nothing open, and that wider numbers change no answer: laws on functions with empty bodies.
+ghost use Rattle.std.specs.Prelude.{◌≡◌, ◌-◌, ◌^◌, ℕ};
+ghost use Rattle.gq_field.specs.declared.half.Half.{Half};
+ghost use Rattle.gq_field.specs.Values.{half_value};
+ghost use Rattle.gq_frac.specs.declared.frac.Frac.{Frac};
+ghost use Rattle.gq_frac.specs.Frac.{frac_value};
 ghost use Rattle.lp_core.specs.declared.answer.Answer.{Answer};
 ghost use Rattle.lp_core.specs.declared.answer.Rule.TheVariants.{Bland};
 ghost use Rattle.lp_core.specs.declared.program.Lp.{Lp};
 ghost use Rattle.lp_core.specs.Answers.{IsAnswer};
+ghost use Rattle.lp_core.specs.Numbers.{lp_numbers, answer_numbers};
 ghost use Rattle.lp_core.specs.WellFormed.{IsWellFormed};
+ghost use Rattle.lp_bland.specs.Ends.{IsRefused};
 
 use gq_field::ExactField;
 
@@ -13,4 +19,11 @@ use gq_field::ExactField;
 pub fn one_answer<F: ExactField>()
     ensures { (lp : Lp F) (iterlim : ℕ) (a b : Answer F) → IsWellFormed F.value lp →
         IsAnswer F.value F.limit lp iterlim Bland a → IsAnswer F.value F.limit lp iterlim Bland b → a ≡ b }
+{}
+
+/// An answer over numbers of 63 bits is the answer over those of 127, made wide, unless a step of it did not fit.
+pub fn wide_answers()
+    ensures { (narrow : Lp Half) (wide : Lp Frac) (iterlim : ℕ) (a : Answer Half) (b : Answer Frac) → lp_numbers half_value narrow ≡ lp_numbers frac_value wide →
+        IsWellFormed frac_value wide → answer_numbers frac_value b ≡ answer_numbers half_value a → ¬ (IsRefused a.end) →
+        IsAnswer half_value (2 ^ 63 - 1) narrow iterlim Bland a → IsAnswer frac_value (2 ^ 127 - 1) wide iterlim Bland b }
 {}

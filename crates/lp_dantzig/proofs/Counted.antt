@@ -9,8 +9,8 @@ use Rattle.lp_core.specs.Dictionary.{Dictionary, constant_at, IsLegal, exchanged
 use Rattle.lp_core.specs.Answers.{IsPhase}
 use Rattle.lp_core.specs.Choices.{leaving_row, after_pivot, reached, AllAlong}
 use Rattle.lp_core.specs.LargestCoefficient.{IsOfPhase, StandsStill, HasTurned}
-use Rattle.lp_dict.specs.Pivots.{IsProper}
-use Rattle.lp_dict.proofs.Improving.{same_or_not}
+use Rattle.lp_exact.specs.Pivots.{IsProper}
+use Rattle.lp_exact.proofs.Improving.{same_or_not}
 use Rattle.lp_walk.proofs.Lists.{split_more}
 use Rattle.lp_walk.proofs.Walking.{leaves_row, row_is_leaving, after_is, reached_append}
 use Rattle.lp_dantzig.specs.declared.largest.Largest.{Largest}

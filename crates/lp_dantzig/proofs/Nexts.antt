@@ -7,7 +7,7 @@ use Rattle.lp_core.specs.declared.answer.Rule.TheVariants.{Bland}
 use Rattle.lp_core.specs.Dictionary.{Dictionary, entry_at, Improves}
 use Rattle.lp_core.specs.Answers.{IsChosen}
 use Rattle.lp_core.specs.LargestCoefficient.{HasGreatest, HasTurned, IsNext}
-use Rattle.lp_dict.proofs.Improving.{priced_there}
+use Rattle.lp_exact.proofs.Improving.{priced_there}
 
 both_least : (a b : ℕ) → a ≤ b → b ≤ a → a ≡ b
 both_least a b less more = omega arith

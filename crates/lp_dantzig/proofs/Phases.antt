@@ -6,10 +6,10 @@ use Rattle.gq_number.proofs.Order.{<ℚ_irrefl, <ℚ-≤ℚ_trans, <ℚ_trans}
 use Rattle.lp_core.specs.declared.answer.Pivot.{Pivot}
 use Rattle.lp_core.specs.Dictionary.{Dictionary, constant_at, InPhaseOne, OpeningIsDue, IsOpening, IsLegal, exchanged}
 use Rattle.lp_core.specs.Answers.{IsPhase}
-use Rattle.lp_dict.specs.Pivots.{IsProper}
-use Rattle.lp_dict.proofs.Kept.{contains_get, index_get}
-use Rattle.lp_dict.proofs.Improving.{found_or_not}
-use Rattle.lp_dict.proofs.Proper.{set_same, set_other, place_within, basic_after, none_due}
+use Rattle.lp_exact.specs.Pivots.{IsProper}
+use Rattle.lp_exact.proofs.Kept.{contains_get, index_get}
+use Rattle.lp_exact.proofs.Improving.{found_or_not}
+use Rattle.lp_exact.proofs.Proper.{set_same, set_other, place_within, basic_after, none_due}
 use Rattle.lp_walk.proofs.Walking.{leaves_row}
 
 phase_of_pivot : (d : Dictionary) (p : Pivot) (k : ℕ) → IsLegal d p k → (n : ℕ) × IsPhase d n

@@ -1,52 +1,17 @@
--- Lists with a number for each variable, as they are read off rows; what the pieces of the code promise.
-use Rattle.std.specs.Prelude.{◌≡◌, ◌≢◌, ◌⊎◌, ℕ, ◌+◌, ◌<◌, pos, List, [], map, length, take, slice_get, slice_index_or, Option, Some, None}
-use Rattle.gq_number.specs.Number.{Number, whole, neg_ℚ}
-use Rattle.lp_core.specs.declared.answer.Rule.TheVariants.{Legal}
+-- Lists with a number for each variable, as they are read off a dictionary; what the pieces of the code promise.
+use Rattle.std.specs.Prelude.{◌≡◌, ◌≢◌, ℕ, ◌<◌, pos, List, map, length, slice_get, Some}
+use Rattle.gq_number.specs.Number.{Number, whole}
 use Rattle.lp_core.specs.Sums.{number_of}
-use Rattle.lp_core.specs.Dictionary.{Dictionary, InPhaseOne, OpeningIsDue, Improves}
-use Rattle.lp_core.specs.Answers.{NothingImproves, IsUnlimited, last_along}
-use Rattle.lp_std.specs.declared.types.FinalKind.{FinalKind}
-use Rattle.lp_std.specs.declared.types.FinalKind.TheVariants as kind
-use Rattle.lp_dict.specs.declared.row.Entry.{Entry}
-use Rattle.lp_dict.specs.Rows.{number_in}
+use Rattle.lp_core.specs.Dictionary.{Dictionary, entry_at}
 
--- The walk is done: nothing improves; or this variable improves and no row limits it; or it is broken off in phase 2 though a
--- variable improves.
-abbrev pub IsDone : Dictionary → Option ℕ → Type 0
-IsDone d None = NothingImproves d ⊎ (¬ (InPhaseOne d) × ¬ (OpeningIsDue d) × ((q : ℕ) × Improves d q))
-IsDone d (Some q) = ¬ (InPhaseOne d) × IsUnlimited Legal d q
-
--- how the walk ends
-abbrev pub EndsBy : Dictionary → Option ℕ → FinalKind → Type 0
-EndsBy d enter kind.Optimal = ¬ (InPhaseOne d) × NothingImproves d × (enter ≡ None)
-EndsBy d enter kind.Infeasible = InPhaseOne d × NothingImproves d × (enter ≡ None)
-EndsBy d enter kind.Unbounded = ¬ (InPhaseOne d) × ((q : ℕ) × IsUnlimited Legal d q × (enter ≡ Some q))
-EndsBy d enter kind.Interrupted = ¬ (InPhaseOne d) × ¬ (OpeningIsDue d) × ((q : ℕ) × Improves d q) × (enter ≡ None)
-
--- the ray of this variable; without one an empty list
-abbrev pub RayIs : Dictionary → Option ℕ → List Number → Type 0
-RayIs d None changes = changes ≡ []
-RayIs d (Some q) changes = changes ≡ (last_along d q).changes
-
-module _ {F : Type 0} (value : F → Number) where
-  -- so many zeros
-  pub record AreNumbers (count : ℕ) (list : List F) : Type 0 where
-    pub sized : length list ≡ count
-    pub zeros : (v : ℕ) → number_of (map value list) v ≡ whole (pos 0)
-
+module _ {F : Type 0} (value : F → Number) (d : Dictionary) where
   -- at each variable of the first n rows the number of its row at a column, elsewhere 0
-  pub record AreByVariable (rows : List (List (Entry F))) (basic : List ℕ) (count column n : ℕ) (list : List F) : Type 0 where
+  pub record AreByVariable (count column n : ℕ) (list : List F) : Type 0 where
     pub sized : length list ≡ count
-    pub here : (k v : ℕ) → k < n → slice_get basic k ≡ Some v → number_of (map value list) v ≡ number_in value (slice_index_or rows k []) column
-    pub elsewhere : (v : ℕ) → ((k : ℕ) → k < n → slice_get basic k ≢ Some v) → number_of (map value list) v ≡ whole (pos 0)
+    pub here : (k v : ℕ) → k < n → slice_get d.basic k ≡ Some v → number_of (map value list) v ≡ d.numbers k column
+    pub elsewhere : (v : ℕ) → ((k : ℕ) → k < n → slice_get d.basic k ≢ Some v) → number_of (map value list) v ≡ whole (pos 0)
 
-  -- at each variable its number in the first n entries of a row
-  pub record AreByColumn (row : List (Entry F)) (count n : ℕ) (list : List F) : Type 0 where
+  -- the numbers of the first variables in a row
+  pub record AreOfRow (row count : ℕ) (list : List F) : Type 0 where
     pub sized : length list ≡ count
-    pub each : (v : ℕ) → v < count → number_of (map value list) v ≡ number_in value (take n row) (v + 1)
-
-  -- the numbers of a variable in the rows of all, negated, and 1 for the variable itself
-  pub record AreChanges (numbers : List F) (enter : ℕ) (list : List F) : Type 0 where
-    pub sized : length list ≡ length numbers
-    pub enters : number_of (map value list) enter ≡ whole (pos 1)
-    pub others : (v : ℕ) → v ≢ enter → number_of (map value list) v ≡ neg_ℚ (number_of (map value numbers) v)
+    pub each : (v : ℕ) → v < count → number_of (map value list) v ≡ entry_at d row v

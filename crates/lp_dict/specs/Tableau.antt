@@ -1,42 +1,47 @@
--- A dictionary as it is kept: each row and the objective have only what is not 0 (Chvatal, Linear Programming, chapter 2).
-use Rattle.std.specs.Prelude.{◌≡◌, ℕ, ◌+◌, ◌^◌, ◌<◌, ◌≤◌, List, [], length, slice_get, slice_index_or, Option, Some, None, Contains}
+-- A dictionary as its callers see it, and the two ways in which it is kept (Chvatal, Linear Programming, chapter 2).
+use Rattle.std.specs.Prelude.{ℕ, ◌*◌, ◌≤◌, List, length}
 use Rattle.gq_number.specs.Number.{Number}
 use Rattle.lp_core.specs.Dictionary.{Dictionary}
-use Rattle.lp_dict.specs.declared.row.Entry.{Entry}
-use Rattle.lp_dict.specs.Rows.{IsRow, number_in}
-use Rattle.lp_dict.specs.Lines.{line}
-use Rattle.lp_dict.specs.Pivots.{IsProper}
+use Rattle.lp_exact.specs.Pivots.{IsProper}
+use Rattle.lp_exact.specs.Tableau as exact
+use Rattle.lp_whole.specs.Whole.{dictionary as dictionary_of}
+use Rattle.lp_dict.specs.declared.body.Body.{Body}
+use Rattle.lp_dict.specs.declared.body.Body.TheVariants as body
 
--- The basic variables, a row for each, and the objective, by entries that are not 0; and the number that the next pivot has in
--- the names of its steps.
+-- The basic variables; how the numbers are kept; and the number that the next pivot has in the names of its steps.
 pub record Tableau (F : Type 0) : Type 0 where
   -- the greatest number of a variable
   pub variables : ℕ
   pub basic : List ℕ
-  pub rows : List (List (Entry F))
-  pub objective : List (Entry F)
+  pub body : Body F
   pub upcoming : ℕ
 
--- the dictionary that is kept; what is no row is the objective
+-- the number of the next pivot
+abbrev pub upcoming_of : {F : Type 0} → Body F → ℕ
+upcoming_of (body.Whole w upcoming) = upcoming
+upcoming_of (body.Exact t) = t.upcoming
+
+-- the dictionary that is kept so
+abbrev pub kept : {F : Type 0} → (F → Number) → Body F → Dictionary
+kept value (body.Whole w upcoming) = dictionary_of w
+kept value (body.Exact t) = exact.dictionary value t
+
+-- what callers see of it
+abbrev pub tableau : {F : Type 0} → (F → Number) → Body F → Tableau F
+tableau value b =
+    record { variables = (kept value b).variables; basic = (kept value b).basic; body = b; upcoming = upcoming_of b }
+
+-- the dictionary; what is no row is the objective
 abbrev pub dictionary : {F : Type 0} → (F → Number) → Tableau F → Dictionary
-dictionary value t =
-    record {
-      variables = t.variables;
-      basic = t.basic;
-      numbers = λ k c. number_in value (line t.rows t.objective k) c;
-    }
+dictionary value t = record { variables = t.variables; basic = t.basic; numbers = (kept value t.body).numbers }
 
--- There is a row for each basic variable, all entries are in order and at columns that there are, and the dictionary is one of
--- a program.
-pub record IsTableau {F : Type 0} (value : F → Number) (t : Tableau F) : Type 0 where
-  pub sized : t.variables + 2 < 2 ^ 32
-  pub few : length t.basic ≤ t.variables
-  pub paired : length t.rows ≡ length t.basic
-  pub rows : (k : ℕ) → IsRow value 0 (t.variables + 2) (slice_index_or t.rows k [])
-  pub objective : IsRow value 0 (t.variables + 2) t.objective
-  pub proper : IsProper (dictionary value t)
+-- whole numbers are so small that no step on them passes the limit of the field
+abbrev pub IsBounded : {F : Type 0} → ℕ → Body F → Type 0
+IsBounded limit (body.Whole w upcoming) = 2 * (w.bound * w.bound) ≤ limit
+IsBounded limit (body.Exact t) = Unit {0}
 
--- the place of a variable among the basic ones; none where it is not basic
-abbrev pub IsPlace : List ℕ → ℕ → Option ℕ → Type 0
-IsPlace basic v (Some k) = slice_get basic k ≡ Some v
-IsPlace basic v None = ¬ (Contains basic v)
+-- What each dictionary keeps: it is one of a program, and no step on whole numbers is refused.
+pub record IsKept {F : Type 0} (value : F → Number) (limit : ℕ) (b : Body F) : Type 0 where
+  pub proper : IsProper (kept value b)
+  pub few : length (kept value b).basic ≤ (kept value b).variables
+  pub bounded : IsBounded limit b

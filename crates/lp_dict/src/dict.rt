@@ -11,71 +11,37 @@ ghost use Rattle.lp_core.specs.WellFormed.{IsWellFormed};
 ghost use Rattle.lp_core.specs.StandardForm.{Standard as StandardNumbers, standard_form};
 ghost use Rattle.lp_std.specs.Meaning.{standard_value};
 ghost use Rattle.lp_std.specs.Last.{IsDictionaryOf, IsReadFrom};
-ghost use Rattle.lp_dict.specs.Rows.{IsRow};
-ghost use Rattle.lp_dict.specs.Tableau.{dictionary, IsPlace};
-ghost use Rattle.lp_dict.specs.Pricing.{IsFirstAbove};
-ghost use Rattle.lp_dict.specs.Reading.{IsDone, EndsBy, RayIs};
-ghost use Rattle.lp_dict.specs.Pivots.{IsLeaving, IsLimit, StopsAt};
+ghost use Rattle.lp_exact.specs.Reading.{IsDone, EndsBy, RayIs};
+ghost use Rattle.lp_exact.specs.Pivots.{IsLeaving, IsLimit, StopsAt};
+ghost use Rattle.lp_dict.specs.Tableau.{dictionary};
 
-use crate::choice::{is_above_zero, least_constant, least_ratio};
-use crate::coefficients::greatest_above;
-use crate::exchange::{forget_leaving, turn};
-use crate::first::{is_some_below, numbers_from, objective_row, rows_with_slacks};
-use crate::last::{by_column, by_variable, changes};
-use crate::row::{Entry, number_at, number_of_row};
+use crate::body::Body;
+use crate::turning::{begun, pivoted};
+use crate::{last, reading};
 use gq_field::ExactField;
-use lp_core::{Pivot, Sequence, StepName};
+use lp_core::{Pivot, Sequence};
+use lp_exact::{ExactDict, is_above_zero};
 use lp_std::{Final, FinalKind, Standard, Stop};
 use std::alloc::{AllocError, Global};
 use std::marker::Model;
 
 /// A dictionary: an equation for each basic variable, and the objective (Chvatal, Linear Programming, chapters 2 and 3).
 ///
-/// Each row keeps only what is not 0. Variable 0 is the one of phase 1.
+/// Its rows are whole numbers over one denominator each while they are small, and reduced fractions from the first pivot on at
+/// which they are not; no answer tells which. Variable 0 is the one of phase 1.
 #[derive(Drop)]
 pub struct Dict<F: ExactField> {
-    variables: u32,
-    basic: Vec<u32>,
-    rows: Vec<Vec<Entry<F>>>,
-    objective: Vec<Entry<F>>,
-    upcoming: u64,
+    body: Body<F>,
 }
 
 impl<F: ExactField> Model for Dict<F> {
-    ghost use Rattle.std.specs.Prelude.{map};
-    ghost use Rattle.lp_dict.specs.Lines.{rows_of};
-    ghost use Rattle.lp_dict.specs.Tableau.{Tableau, IsTableau};
+    ghost use Rattle.lp_dict.specs.Tableau.{Tableau, tableau, IsKept};
 
     ghost Value = { Tableau F };
 
-    ghost view = { λ d. record { variables = d.variables; basic = d.basic.items; rows = rows_of d.rows.items; objective = d.objective.items; upcoming = d.upcoming } };
+    ghost view = { λ d. tableau F.value d.body };
 
-    ghost invariant = { λ d. IsTableau F.value (record { variables = d.variables; basic = d.basic.items; rows = rows_of d.rows.items; objective = d.objective.items; upcoming = d.upcoming }) };
-}
-
-/// The place of a variable among the basic ones.
-fn place_of(basic: &[u32], variable: u32) -> Option<usize>
-    ensures { IsPlace basic.now variable result }
-{
-    for (i, other) in basic.iter().enumerate() {
-        if *other == variable {
-            return Some(i);
-        }
-    }
-    None
-}
-
-/// The variable of the first entry from variable 1 on whose number is above 0.
-fn first_above<F: ExactField>(row: &[Entry<F>]) -> Option<u32>
-    requires { (high : ℕ) × IsRow F.value 0 high row.now }
-    ensures { IsFirstAbove F.value row.now result }
-{
-    for entry in row {
-        if entry.column >= 2 && is_above_zero(entry.number) {
-            return Some(entry.column - 1);
-        }
-    }
-    None
+    ghost invariant = { λ d. IsKept F.value F.limit d.body };
 }
 
 impl<F: ExactField> Dict<F> {
@@ -87,30 +53,29 @@ impl<F: ExactField> Dict<F> {
         ensures of_form { IfOk result (λ d. IsDictionaryOf (standard_value F.value s.now) (dictionary F.value d)) }
         ensures upcoming { IfOk result (λ d. d.upcoming ≡ 1) }
     {
-        let rows = s.rows.as_slice();
-        let slack = s.objective.len() as u32 + 1;
-        let needed = is_some_below(rows);
-        Ok(Dict {
-            variables: slack - 1 + rows.len() as u32,
-            basic: numbers_from(alloc, slack, rows.len())?,
-            rows: rows_with_slacks(alloc, rows, needed, slack)?,
-            objective: objective_row(alloc, s)?,
-            upcoming: 1,
-        })
+        let dict = ExactDict::of(alloc, s)?;
+        let body = begun(alloc, dict)?;
+        Ok(Dict { body })
     }
 
     /// The greatest number of a variable: there are as many and variable 0.
     pub fn variables(&self) -> u32
         ensures { result ≡ self.now.variables }
     {
-        self.variables
+        match &self.body {
+            Body::Whole(rows, _) => rows.variables(),
+            Body::Exact(dict) => dict.variables(),
+        }
     }
 
     /// Whether a variable is basic.
     pub fn is_basic(&self, v: u32) -> bool
         ensures { IsTrue result ↔ Contains self.now.basic v }
     {
-        place_of(self.basic.as_slice(), v).is_some()
+        match &self.body {
+            Body::Whole(rows, _) => reading::is_basic(rows, v),
+            Body::Exact(dict) => dict.is_basic(v),
+        }
     }
 
     /// 1 until variable 0 has left, that is while it is basic or the opening pivot is due; then 2. It is 2 from the start
@@ -130,9 +95,9 @@ impl<F: ExactField> Dict<F> {
         ensures basic { (k : ℕ) → slice_get self.now.basic k ≡ Some v → F.value result ≡ constant_at (dictionary F.value self.now) k }
         ensures other { ¬ (Contains self.now.basic v) → F.value result ≡ whole (pos 0) }
     {
-        match place_of(self.basic.as_slice(), v) {
-            Some(place) => number_of_row(self.rows.as_slice(), place, 0),
-            None => F::zero(),
+        match &self.body {
+            Body::Whole(rows, _) => reading::amount(rows, v),
+            Body::Exact(dict) => dict.amount(v),
         }
     }
 
@@ -144,15 +109,9 @@ impl<F: ExactField> Dict<F> {
         ensures both_basic { Contains self.now.basic other → F.value result ≡ whole (pos 0) }
         ensures no_variable { self.now.variables < other → F.value result ≡ whole (pos 0) }
     {
-        if other > self.variables {
-            return F::zero();
-        }
-        if self.is_basic(other) {
-            return F::zero();
-        }
-        match place_of(self.basic.as_slice(), basic) {
-            Some(place) => number_of_row(self.rows.as_slice(), place, other + 1),
-            None => F::zero(),
+        match &self.body {
+            Body::Whole(rows, _) => reading::entry(rows, basic, other),
+            Body::Exact(dict) => dict.entry(basic, other),
         }
     }
 
@@ -163,15 +122,9 @@ impl<F: ExactField> Dict<F> {
         ensures basic { Contains self.now.basic v → F.value result ≡ whole (pos 0) }
         ensures no_variable { self.now.variables < v → F.value result ≡ whole (pos 0) }
     {
-        if v > self.variables {
-            return F::zero();
-        }
-        if self.is_basic(v) {
-            return F::zero();
-        }
-        match place_of(self.basic.as_slice(), 0) {
-            Some(place) => number_of_row(self.rows.as_slice(), place, v + 1),
-            None => number_at(self.objective.as_slice(), v + 1),
+        match &self.body {
+            Body::Whole(rows, _) => reading::coefficient(rows, v),
+            Body::Exact(dict) => dict.coefficient(v),
         }
     }
 
@@ -183,7 +136,7 @@ impl<F: ExactField> Dict<F> {
         if v == 0 {
             return false;
         }
-        if v > self.variables {
+        if v > self.variables() {
             return false;
         }
         if self.is_basic(v) {
@@ -198,12 +151,9 @@ impl<F: ExactField> Dict<F> {
         ensures { MatchOption result (¬ (OpeningIsDue (dictionary F.value self.now)))
             (λ p. ((k : ℕ) × IsOpening (dictionary F.value self.now) p k) × IsBland (dictionary F.value self.now) p) }
     {
-        match least_constant(self.rows.as_slice(), self.basic.as_slice()) {
-            Some(candidate) => Some(Pivot {
-                enter: 0,
-                leave: candidate.variable,
-            }),
-            None => None,
+        match &self.body {
+            Body::Whole(rows, _) => rows.opening(),
+            Body::Exact(dict) => dict.opening(),
         }
     }
 
@@ -213,9 +163,9 @@ impl<F: ExactField> Dict<F> {
         ensures { MatchOption result ((v : ℕ) → ¬ (Improves (dictionary F.value self.now) v))
             (λ q. Improves (dictionary F.value self.now) q × ((v : ℕ) → Improves (dictionary F.value self.now) v → q ≤ v)) }
     {
-        match place_of(self.basic.as_slice(), 0) {
-            Some(place) => first_above(self.rows[place].as_slice()),
-            None => first_above(self.objective.as_slice()),
+        match &self.body {
+            Body::Whole(rows, _) => rows.entering(),
+            Body::Exact(dict) => dict.entering(),
         }
     }
 
@@ -225,9 +175,9 @@ impl<F: ExactField> Dict<F> {
         requires { ¬ (OpeningIsDue (dictionary F.value self.now)) }
         ensures { MatchOption result ((v : ℕ) → ¬ (Improves (dictionary F.value self.now) v)) (HasGreatest (dictionary F.value self.now)) }
     {
-        match place_of(self.basic.as_slice(), 0) {
-            Some(place) => greatest_above(self.rows[place].as_slice()),
-            None => greatest_above(self.objective.as_slice()),
+        match &self.body {
+            Body::Whole(rows, _) => rows.greatest(),
+            Body::Exact(dict) => dict.greatest(),
         }
     }
 
@@ -240,15 +190,9 @@ impl<F: ExactField> Dict<F> {
         ensures choice { IfOk result (IsLeaving (dictionary F.value self.now) enter) }
         ensures limit { IfErr result (IsLimit (ratio_steps F.limit self.now.upcoming (dictionary F.value self.now) enter)) }
     {
-        match least_ratio(self.rows.as_slice(), self.basic.as_slice(), enter + 1) {
-            Ok(best) => match best {
-                Some(candidate) => Ok(Some(candidate.variable)),
-                None => Ok(None),
-            },
-            Err(place) => Err(Stop::Limit(StepName::Ratio {
-                pivot: self.upcoming,
-                row: place as u32 + 1,
-            })),
+        match &self.body {
+            Body::Whole(rows, _) => Ok(rows.leaving(enter)),
+            Body::Exact(dict) => dict.leaving(enter),
         }
     }
 
@@ -274,49 +218,29 @@ impl<F: ExactField> Dict<F> {
         ensures limit { IfErr result (λ stop. (k : ℕ) → slice_get self.basic k ≡ Some p.leave →
             StopsAt (exchange_steps F.limit self.upcoming (dictionary F.value self) p.enter k) stop) }
     {
-        let Dict {
-            variables,
-            mut basic,
-            mut rows,
-            mut objective,
-            upcoming,
-        } = self;
-        let Some(place) = place_of(basic.as_slice(), p.leave) else {
-            unreachable!();
-        };
-        if let Err(fault) = turn(alloc, &mut rows, &mut objective, place, p.enter + 1) {
-            return Err(fault.stop(upcoming));
-        }
-        forget_leaving(p.leave, &mut rows, &mut objective);
-        basic[place] = p.enter;
-        Ok(Dict {
-            variables,
-            basic,
-            rows,
-            objective,
-            upcoming: upcoming.saturating_add(1),
-        })
+        let Dict { body } = self;
+        let body = pivoted(alloc, body, p)?;
+        Ok(Dict { body })
     }
 
     /// The value of each variable where those that are not basic are 0.
     fn values(&self, alloc: Global) -> Result<Vec<F>, AllocError>
         ensures { IfOk result (λ list. map F.value list.items ≡ (last_of (dictionary F.value self.now)).values) }
     {
-        let count = self.variables as usize + 1;
-        by_variable(alloc, self.rows.as_slice(), self.basic.as_slice(), count, 0)
+        match &self.body {
+            Body::Whole(rows, _) => last::values(alloc, rows),
+            Body::Exact(dict) => dict.values(alloc),
+        }
     }
 
     /// The coefficient of each variable in the row by which pivots are chosen; 0 for a basic one.
     fn costs(&self, alloc: Global) -> Result<Vec<F>, AllocError>
         ensures { IfOk result (λ list. map F.value list.items ≡ (last_of (dictionary F.value self.now)).costs) }
     {
-        let count = self.variables as usize + 1;
-        let Some(place) = place_of(self.basic.as_slice(), 0) else {
-            return by_column(alloc, self.objective.as_slice(), count);
-        };
-        let mut costs = by_column(alloc, self.rows[place].as_slice(), count)?;
-        costs[0] = F::zero();
-        Ok(costs)
+        match &self.body {
+            Body::Whole(rows, _) => last::costs(alloc, rows),
+            Body::Exact(dict) => dict.costs(alloc),
+        }
     }
 
     /// The change of each variable where this one rises by 1; empty where there is none.
@@ -324,13 +248,13 @@ impl<F: ExactField> Dict<F> {
         requires { IsDone (dictionary F.value self.now) enter }
         ensures { IfOk result (λ list. RayIs (dictionary F.value self.now) enter (map F.value list.items)) }
     {
-        let Some(enter) = enter else {
+        let Some(variable) = enter else {
             return Ok(Vec::new(alloc));
         };
-        let count = self.variables as usize + 1;
-        let rows = self.rows.as_slice();
-        let numbers = by_variable(alloc, rows, self.basic.as_slice(), count, enter + 1)?;
-        Ok(changes(numbers, enter))
+        match &self.body {
+            Body::Whole(rows, _) => last::ray(alloc, rows, variable),
+            Body::Exact(dict) => dict.ray(alloc, enter),
+        }
     }
 
     /// How the walk over dictionaries ends here.

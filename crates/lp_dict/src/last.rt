@@ -1,82 +1,83 @@
-//! What is read off a last dictionary.
-ghost use Rattle.std.specs.Prelude.{◌≡◌, ◌+◌, ◌-◌, ◌^◌, ◌<◌, ◌≤◌, ℕ, List, [], map, length, slice_get, slice_index_or, Some, IfOk};
-ghost use Rattle.std.specs.List.{All};
-ghost use Rattle.gq_number.specs.Number.{neg_ℚ};
-ghost use Rattle.lp_dict.specs.Rows.{IsRow};
-ghost use Rattle.lp_dict.specs.Lines.{rows_of};
-ghost use Rattle.lp_dict.specs.Reading.{AreNumbers, AreByVariable, AreByColumn, AreChanges};
+//! What is read off a last dictionary whose rows are whole numbers.
+ghost use Rattle.std.specs.Prelude.{◌≡◌, ◌*◌, ◌+◌, ◌≤◌, ◌<◌, map, length, Some, Contains, IfOk};
+ghost use Rattle.lp_core.specs.Answers.{last_of, last_along};
+ghost use Rattle.lp_whole.specs.Whole.{dictionary as dictionary_of};
+ghost use Rattle.lp_dict.specs.Reading.{AreByVariable, AreOfRow};
 
-use crate::row::{Entry, number_of_row};
+use crate::number::number_at;
+use crate::reading::priced;
 use gq_field::ExactField;
+use lp_exact::{changes, zeros};
+use lp_whole::Whole;
 use std::alloc::{AllocError, Global};
 
-/// So many zeros.
-fn zeros<F: ExactField>(alloc: Global, count: usize) -> Result<Vec<F>, AllocError>
-    ensures { IfOk result (λ list. AreNumbers F.value count list.items) }
-{
-    let mut list = Vec::with_capacity(alloc, count)?;
-    for _place in 0..count {
-        list.push(F::zero())?;
-    }
-    Ok(list)
-}
-
-/// For each of so many variables the number that its row has at a column; 0 where it is not basic.
-pub(crate) fn by_variable<F: ExactField>(
+/// For each variable the number that its row has at a column; 0 where it is not basic.
+fn by_variable<F: ExactField>(
     alloc: Global,
-    rows: &[Vec<Entry<F>>],
-    basic: &[u32],
-    count: usize,
-    column: u32,
+    rows: &Whole,
+    column: usize,
 ) -> Result<Vec<F>, AllocError>
-    requires paired { length rows.now ≡ length basic.now }
-    requires rows { (high : ℕ) × ((k : ℕ) → IsRow F.value 0 high (slice_index_or (rows_of rows.now) k [])) }
-    requires distinct { (i j v : ℕ) → slice_get basic.now i ≡ Some v → slice_get basic.now j ≡ Some v → i ≡ j }
-    requires there { (k v : ℕ) → slice_get basic.now k ≡ Some v → v < count }
-    ensures { IfOk result (λ list. AreByVariable F.value (rows_of rows.now) basic.now count column (length basic.now) list.items) }
+    requires bounded { 2 * (rows.now.bound * rows.now.bound) ≤ F.limit }
+    requires column { column ≤ (dictionary_of rows.now).variables + 1 }
+    ensures { IfOk result (λ list. AreByVariable F.value (dictionary_of rows.now) ((dictionary_of rows.now).variables + 1) column (length (dictionary_of rows.now).basic) list.items) }
 {
-    let mut list = zeros(alloc, count)?;
-    for (place, variable) in basic.iter().enumerate() {
-        list[*variable as usize] = number_of_row(rows, place, column);
+    rows.keeps();
+    let mut list = zeros(alloc, rows.variables() as usize + 1)?;
+    for (place, variable) in rows.basic().iter().enumerate() {
+        list[*variable as usize] = number_at(rows, place, column);
     }
     Ok(list)
 }
 
-/// For each of so many variables its number in a row.
-pub(crate) fn by_column<F: ExactField>(
+/// The number of each variable in a row.
+fn row_of<F: ExactField>(alloc: Global, rows: &Whole, row: usize) -> Result<Vec<F>, AllocError>
+    requires bounded { 2 * (rows.now.bound * rows.now.bound) ≤ F.limit }
+    requires row { row ≤ length (dictionary_of rows.now).basic }
+    ensures { IfOk result (λ list. AreOfRow F.value (dictionary_of rows.now) row ((dictionary_of rows.now).variables + 1) list.items) }
+{
+    rows.keeps();
+    let mut list = Vec::new(alloc);
+    for variable in 0..rows.variables() as usize + 1 {
+        list.push(number_at(rows, row, variable + 1))?;
+    }
+    Ok(list)
+}
+
+/// The value of each variable where those that are not basic are 0.
+pub(crate) fn values<F: ExactField>(alloc: Global, rows: &Whole) -> Result<Vec<F>, AllocError>
+    requires { 2 * (rows.now.bound * rows.now.bound) ≤ F.limit }
+    ensures { IfOk result (λ list. map F.value list.items ≡ (last_of (dictionary_of rows.now)).values) }
+{
+    rows.keeps();
+    by_variable(alloc, rows, 0)
+}
+
+/// The coefficient of each variable in the row by which pivots are chosen; 0 for a basic one.
+pub(crate) fn costs<F: ExactField>(alloc: Global, rows: &Whole) -> Result<Vec<F>, AllocError>
+    requires { 2 * (rows.now.bound * rows.now.bound) ≤ F.limit }
+    ensures { IfOk result (λ list. map F.value list.items ≡ (last_of (dictionary_of rows.now)).costs) }
+{
+    rows.keeps();
+    let row = priced(rows);
+    let mut costs = row_of(alloc, rows, row)?;
+    if row < rows.basic().len() {
+        costs[0] = F::zero();
+    }
+    Ok(costs)
+}
+
+/// The change of each variable where this one, which is not basic, rises by 1.
+pub(crate) fn ray<F: ExactField>(
     alloc: Global,
-    row: &[Entry<F>],
-    count: usize,
+    rows: &Whole,
+    enter: u32,
 ) -> Result<Vec<F>, AllocError>
-    requires { IsRow F.value 0 (count + 1) row.now }
-    ensures { IfOk result (λ list. AreByColumn F.value row.now count (length row.now) list.items) }
+    requires bounded { 2 * (rows.now.bound * rows.now.bound) ≤ F.limit }
+    requires there { enter ≤ (dictionary_of rows.now).variables }
+    requires free { ¬ (Contains (dictionary_of rows.now).basic enter) }
+    ensures { IfOk result (λ list. map F.value list.items ≡ (last_along (dictionary_of rows.now) enter).changes) }
 {
-    let mut list = zeros(alloc, count)?;
-    for entry in row {
-        if entry.column == 0 {
-            continue;
-        }
-        list[entry.column as usize - 1] = entry.number;
-    }
-    Ok(list)
-}
-
-/// Changes the sign of each number.
-fn negate<F: ExactField>(list: &mut [F])
-    ensures { map F.value list.new ≡ map (λ x. neg_ℚ (F.value x)) list.old }
-{
-    for number in list.iter_mut() {
-        *number = number.neg();
-    }
-}
-
-/// How each variable changes where one that is not basic rises by 1 and the others that are not basic stay; it is given the
-/// numbers of that variable in the rows of all.
-pub(crate) fn changes<F: ExactField>(mut numbers: Vec<F>, enter: u32) -> Vec<F>
-    requires { enter < length numbers.items }
-    ensures { AreChanges F.value numbers.items enter result.items }
-{
-    negate(numbers.as_mut_slice());
-    numbers[enter as usize] = F::one();
-    numbers
+    rows.keeps();
+    let numbers = by_variable(alloc, rows, enter as usize + 1)?;
+    Ok(changes(numbers, enter))
 }

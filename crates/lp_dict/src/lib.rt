@@ -1,13 +1,12 @@
-//! Floor 4, linear programs. The dictionary of the simplex method, sparse and exact, over any field.
+//! Floor 4, linear programs. The dictionary of the simplex method, over any field: whole numbers while they are small, else
+//! fractions.
 #![tactic(auto)]
 
-mod choice;
-mod coefficients;
+mod body;
 mod dict;
-mod exchange;
-mod fault;
-mod first;
 mod last;
-mod row;
+mod number;
+mod reading;
+mod turning;
 
 pub use dict::Dict;

@@ -9,10 +9,10 @@ use Rattle.gq_number.proofs.Quotients.{zero-/ℚ}
 use Rattle.gq_number.proofs.Sums.{sums_ℚ, sum_by_ℚ--ℚ, sum_by_ℚ-*ℚ}
 use Rattle.lp_core.specs.declared.answer.Pivot.{Pivot}
 use Rattle.lp_core.specs.Dictionary.{Dictionary, basic_at, entry_at, divided, exchanged, IsLegal}
-use Rattle.lp_dict.specs.Pivots.{IsProper}
-use Rattle.lp_dict.proofs.Improving.{same_or_not}
-use Rattle.lp_dict.proofs.Equations.{less_nothing, no_quotient}
-use Rattle.lp_dict.proofs.Proper
+use Rattle.lp_exact.specs.Pivots.{IsProper}
+use Rattle.lp_exact.proofs.Improving.{same_or_not}
+use Rattle.lp_exact.proofs.Equations.{less_nothing, no_quotient}
+use Rattle.lp_exact.proofs.Proper
 use Rattle.lp_nocycle.proofs.Sparse.{same_sum}
 
 -- what numbers come to at values of so many columns

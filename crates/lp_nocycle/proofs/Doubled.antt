@@ -4,7 +4,7 @@ use Rattle.std.specs.Prelude.{◌^◌}
 use Rattle.std.proofs.Math.Nat.{pow-succ'}
 use Rattle.std.proofs.lemmas.Nat.{mod-mul-add, pow_below}
 use Rattle.std.proofs.lemmas.Bool.{lt-ltb, le-ltb}
-use Rattle.lp_dict.proofs.Improving.{same_or_not}
+use Rattle.lp_exact.proofs.Improving.{same_or_not}
 use Rattle.lp_nocycle.specs.PivotCount.{bound_of}
 
 remainder_same : (b w : ℕ) → b < w → b % w ≡ b

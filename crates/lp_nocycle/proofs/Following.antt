@@ -10,10 +10,10 @@ use Rattle.lp_core.specs.StandardForm.{standard_form}
 use Rattle.lp_core.specs.Dictionary.{Dictionary, IsLegal, IsBland, first_dictionary, exchanged}
 use Rattle.lp_core.specs.Answers.{IsPhase, Leads}
 use Rattle.lp_core.specs.WellFormed.{IsWellFormed}
-use Rattle.lp_dict.specs.Pivots.{IsProper}
-use Rattle.lp_dict.proofs.Proper.{proper_after}
-use Rattle.lp_dict.proofs.Begins.{first_proper}
-use Rattle.lp_dict.proofs.InForm.{form_in_order}
+use Rattle.lp_exact.specs.Pivots.{IsProper}
+use Rattle.lp_exact.proofs.Proper.{proper_after}
+use Rattle.lp_exact.proofs.Begins.{first_proper}
+use Rattle.lp_exact.proofs.InForm.{form_in_order}
 use Rattle.lp_nocycle.specs.Cycling.{Follows, SameBasic, NoneRepeats}
 use Rattle.lp_nocycle.specs.PivotCount.{twice_sets}
 use Rattle.lp_nocycle.proofs.Runs.{IsRun, proper_at}

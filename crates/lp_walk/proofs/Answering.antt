@@ -21,11 +21,11 @@ use Rattle.lp_std.specs.declared.stop.Stop.{Stop}
 use Rattle.lp_std.specs.declared.stop.Stop.TheVariants as stops
 use Rattle.lp_std.specs.Last.{EndsAt}
 use Rattle.lp_std.specs.Back.{HasNoWayBack}
-use Rattle.lp_dict.specs.Reading.{EndsBy, RayIs}
+use Rattle.lp_exact.specs.Reading.{EndsBy, RayIs}
 use Rattle.lp_walk.specs.declared.walk.Walk.{Walk}
 use Rattle.lp_walk.specs.Walks.{IsWalk}
 use Rattle.lp_walk.specs.Ends.{IsLedBack, IsBrokenOff, EndsHalted}
-use Rattle.lp_dict.specs.Pivots.{IsProper}
+use Rattle.lp_exact.specs.Pivots.{IsProper}
 use Rattle.lp_walk.proofs.Ending.{halted_so}
 use Rattle.lp_walk.proofs.Rules.{legal_answer}
 use Rattle.lp_walk.proofs.Standing.{first_stands}

@@ -12,7 +12,7 @@ use Rattle.lp_core.specs.Choices.{IsAllowedBy}
 use Rattle.lp_std.specs.declared.types.FinalKind.{FinalKind}
 use Rattle.lp_std.specs.declared.types.FinalKind.TheVariants as kind
 use Rattle.lp_std.specs.Last.{IsDictionaryOf, EndsAt}
-use Rattle.lp_dict.specs.Reading.{IsDone, EndsBy, RayIs}
+use Rattle.lp_exact.specs.Reading.{IsDone, EndsBy, RayIs}
 use Rattle.lp_walk.specs.declared.walk.Halt.{Halt}
 use Rattle.lp_walk.specs.declared.walk.Halt.TheVariants as halt
 use Rattle.lp_walk.specs.Walks.{NoneIsDue, HaltsAt}

@@ -15,10 +15,10 @@ use Rattle.lp_core.specs.StandardForm.{standard_form}
 use Rattle.lp_core.specs.Dictionary.{Dictionary, Improves, IsLegal, first_dictionary, exchanged}
 use Rattle.lp_core.specs.Answers.{IsAllowed, IsChosen, IsUnlimitedBy, IsGoingOnBy, PivotStopsBy, WayBackStopsBy, Leads, EndsSoBy, AnswersCrossed, AnswersStopped, IsAnswer}
 use Rattle.lp_core.specs.Choices.{after_pivot, reached, IsTaken, IsAllowedBy, AreTaken, IsAnswerBy}
-use Rattle.lp_dict.specs.Pivots.{IsProper}
-use Rattle.lp_dict.proofs.Begins.{first_proper}
-use Rattle.lp_dict.proofs.InForm.{form_in_order}
-use Rattle.lp_dict.proofs.Proper.{proper_after}
+use Rattle.lp_exact.specs.Pivots.{IsProper}
+use Rattle.lp_exact.proofs.Begins.{first_proper}
+use Rattle.lp_exact.proofs.InForm.{form_in_order}
+use Rattle.lp_exact.proofs.Proper.{proper_after}
 use Rattle.lp_walk.proofs.Walking.{leaves_row, after_is}
 
 -- ---- the rules

@@ -11,12 +11,12 @@ use Rattle.lp_core.specs.StandardForm.{Standard, standard_form}
 use Rattle.lp_core.specs.Dictionary.{Dictionary, Meets, basic_at, IsLegal, first_dictionary, exchanged}
 use Rattle.lp_core.specs.Answers.{Leads}
 use Rattle.lp_std.specs.Last.{IsDictionaryOf}
-use Rattle.lp_dict.specs.Pivots.{IsProper}
-use Rattle.lp_dict.proofs.Equations.{meets_after, meets_before}
-use Rattle.lp_dict.proofs.Proper.{place_within, pivot_some, leaves_is, proper_after}
-use Rattle.lp_dict.proofs.OfForm.{of_form_after}
-use Rattle.lp_dict.proofs.InForm.{form_in_order}
-use Rattle.lp_dict.proofs.Begins.{first_proper, first_of_form}
+use Rattle.lp_exact.specs.Pivots.{IsProper}
+use Rattle.lp_exact.proofs.Equations.{meets_after, meets_before}
+use Rattle.lp_exact.proofs.Proper.{place_within, pivot_some, leaves_is, proper_after}
+use Rattle.lp_exact.proofs.OfForm.{of_form_after}
+use Rattle.lp_exact.proofs.InForm.{form_in_order}
+use Rattle.lp_exact.proofs.Begins.{first_proper, first_of_form}
 use Rattle.lp_walk.proofs.Rules.{legal_of}
 
 -- A dictionary of a standard form in which each basic variable stands in its own row alone.

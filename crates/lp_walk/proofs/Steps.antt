@@ -12,9 +12,9 @@ use Rattle.lp_core.specs.Steps.{AllFit, FirstStop, ratio_steps, exchange_steps}
 use Rattle.lp_core.specs.Answers.{TestFits}
 use Rattle.lp_core.specs.Choices.{reached, after_pivot, IsTaken, AreTaken}
 use Rattle.lp_std.specs.Last.{IsDictionaryOf}
-use Rattle.lp_dict.specs.Pivots.{IsProper, IsLeaving}
+use Rattle.lp_exact.specs.Pivots.{IsProper, IsLeaving}
 use Rattle.lp_dict.specs.Tableau.{Tableau, dictionary}
-use Rattle.lp_dict.proofs.Proper.{proper_after}
+use Rattle.lp_exact.proofs.Proper.{proper_after}
 use Rattle.lp_walk.specs.declared.walk.Due.{Due}
 use Rattle.lp_walk.specs.declared.walk.Halt.{Halt}
 use Rattle.lp_walk.specs.declared.walk.Halt.TheVariants as halt

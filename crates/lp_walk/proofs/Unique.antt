@@ -19,9 +19,9 @@ use Rattle.lp_core.specs.Dictionary.{Dictionary, basic_at, InPhaseOne, OpeningIs
 use Rattle.lp_core.specs.Steps.{Due, AllFit, FirstStop, ratio_steps, exchange_steps, standard_steps, optimal_steps, infeasible_steps, unbounded_steps, interrupted_steps}
 use Rattle.lp_core.specs.Answers.{NothingImproves, TestFits, Leads, IsUnlimitedBy, IsGoingOnBy, IsPhase, InterruptedWith, EndsSoBy, NoneCrosses, AnswersCrossed, AnswersStopped, last_of, last_along}
 use Rattle.lp_core.specs.Choices.{after_pivot, reached, IsTaken, IsAllowedBy, AreTaken, IsAnswerBy}
-use Rattle.lp_dict.specs.Pivots.{IsProper}
-use Rattle.lp_dict.proofs.Kept.{get_index}
-use Rattle.lp_dict.proofs.Proper.{proper_after}
+use Rattle.lp_exact.specs.Pivots.{IsProper}
+use Rattle.lp_exact.proofs.Kept.{get_index}
+use Rattle.lp_exact.proofs.Proper.{proper_after}
 use Rattle.lp_walk.specs.Walks.{StopsBy}
 use Rattle.lp_walk.proofs.Stops.{same_stop, fit_or_stop}
 use Rattle.lp_walk.proofs.Walking.{turn_of, leaves_row, goes_on_by_pivot, goes_on_by_stop, after_is}

@@ -12,11 +12,11 @@ use Rattle.lp_core.specs.Dictionary.{Dictionary, entry_at, InPhaseOne, OpeningIs
 use Rattle.lp_core.specs.Steps.{AllFit, FirstStop, ratio_steps, exchange_steps}
 use Rattle.lp_core.specs.Answers.{IsAllowed, IsGoingOnBy, TestFits, Leads}
 use Rattle.lp_core.specs.Choices.{leaving_row, after_pivot, reached, IsTaken, IsAllowedBy}
-use Rattle.lp_dict.specs.Pivots.{IsProper, IsLeaving}
-use Rattle.lp_dict.proofs.Kept.{get_within, get_index}
-use Rattle.lp_dict.proofs.Improving.{found_or_not}
-use Rattle.lp_dict.proofs.Lists.{place_is}
-use Rattle.lp_dict.proofs.Steps.{ratios_fit}
+use Rattle.lp_exact.specs.Pivots.{IsProper, IsLeaving}
+use Rattle.lp_exact.proofs.Kept.{get_within, get_index}
+use Rattle.lp_exact.proofs.Improving.{found_or_not}
+use Rattle.lp_exact.proofs.Lists.{place_is}
+use Rattle.lp_exact.proofs.Steps.{ratios_fit}
 use Rattle.lp_walk.specs.Walks.{NoneIsDue, StopsBy}
 use Rattle.lp_walk.proofs.Stops.{fit_or_stop}
 

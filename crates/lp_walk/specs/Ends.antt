@@ -14,7 +14,7 @@ use Rattle.lp_std.specs.declared.types.FinalKind.{FinalKind}
 use Rattle.lp_std.specs.Last.{IsDictionaryOf, EndsAt}
 use Rattle.lp_std.specs.Back.{LeadsTo, IsProved, steps_back}
 use Rattle.lp_dict.specs.Tableau.{dictionary}
-use Rattle.lp_dict.specs.Reading.{IsDone, EndsBy, RayIs}
+use Rattle.lp_exact.specs.Reading.{IsDone, EndsBy, RayIs}
 use Rattle.lp_walk.specs.declared.walk.Halt.{Halt}
 use Rattle.lp_walk.specs.declared.walk.Halt.TheVariants as halt
 

@@ -10,7 +10,7 @@ use Rattle.lp_core.specs.Steps.{AllFit, exchange_steps}
 use Rattle.lp_core.specs.Answers.{NothingImproves, IsUnlimitedBy, IsGoingOnBy, TestFits, PivotStopsBy, Leads}
 use Rattle.lp_core.specs.Choices.{reached, IsAllowedBy, AreTaken}
 use Rattle.lp_std.specs.Last.{IsDictionaryOf}
-use Rattle.lp_dict.specs.Pivots.{IsProper}
+use Rattle.lp_exact.specs.Pivots.{IsProper}
 use Rattle.lp_dict.specs.Tableau.{Tableau, dictionary}
 use Rattle.lp_walk.specs.declared.walk.Due.{Due}
 use Rattle.lp_walk.specs.declared.walk.Due.TheVariants as due

@@ -14,7 +14,7 @@ ghost use Rattle.lp_std.specs.Meaning.{standard_value, FirstCrossed, HasNoForm};
 ghost use Rattle.lp_std.specs.Back.{IsFormOf};
 ghost use Rattle.lp_std.specs.Last.{IsDictionaryOf};
 ghost use Rattle.lp_dict.specs.Tableau.{dictionary};
-ghost use Rattle.lp_dict.specs.Reading.{IsDone};
+ghost use Rattle.lp_exact.specs.Reading.{IsDone};
 ghost use Rattle.lp_walk.specs.Ends.{MayGoOn, CanEnd, IsLedBack, IsBrokenOff, EndsHalted, EndsCrossed, EndsFormless};
 
 use crate::choosing::Choosing;

@@ -2,7 +2,7 @@
 ghost use Rattle.std.specs.Prelude.{◌≡◌, ℕ, List, [], ◌∷◌, ◌++◌, slice_get, Some, MatchOption};
 ghost use Rattle.lp_core.specs.declared.answer.Pivot.{Pivot};
 ghost use Rattle.lp_core.specs.Dictionary.{Dictionary, OpeningIsDue, Improves, IsLegal, exchanged};
-ghost use Rattle.lp_dict.specs.Pivots.{IsProper};
+ghost use Rattle.lp_exact.specs.Pivots.{IsProper};
 ghost use Rattle.lp_dict.specs.Tableau.{dictionary};
 
 use gq_field::ExactField;

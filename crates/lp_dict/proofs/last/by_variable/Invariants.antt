@@ -1,6 +1,7 @@
-use Rattle.lp_dict.specs.Lines.{rows_of}
+use Rattle.std.specs.Prelude.{◌+◌}
+use Rattle.lp_whole.specs.Whole.{dictionary as dictionary_of}
 use Rattle.lp_dict.specs.Reading.{AreByVariable}
 use Rattle.lp_dict.proofs.last.by_variable.Given as goal
 
 abbrev pub invariant-loop-place : goal.invariant-loop-place
-invariant-loop-place g l = AreByVariable g.F.ExactField.value (rows_of l.rows) l.basic l.count l.column l.place l.list.items
+invariant-loop-place g l = AreByVariable g.F.ExactField.value (dictionary_of l.rows) ((dictionary_of l.rows).variables + 1) l.column l.place l.list.items

@@ -1,7 +1,7 @@
 use Rattle.std.proofs.Common.{subst}
 use Rattle.lp_core.specs.Dictionary.{Improves}
 use Rattle.lp_core.specs.Steps.{ratio_steps}
-use Rattle.lp_dict.specs.Pivots.{IsLimit}
+use Rattle.lp_exact.specs.Pivots.{IsLimit}
 use Rattle.lp_dict.specs.Tableau.{dictionary}
 use Rattle.lp_walk.proofs.Walking.{opening_is_due, ratio_stops}
 use Rattle.lp_walk.proofs.Steps.{due_by}

@@ -1,6 +1,6 @@
 use Rattle.std.proofs.Common.{subst, sym, [], ◌∷◌, ◌++◌}
 use Rattle.lp_core.specs.Steps.{exchange_steps}
-use Rattle.lp_dict.specs.Pivots.{StopsAt}
+use Rattle.lp_exact.specs.Pivots.{StopsAt}
 use Rattle.lp_dict.specs.Tableau.{dictionary}
 use Rattle.lp_walk.specs.Walks.{StopsBy}
 use Rattle.lp_walk.proofs.Steps.{pivot_legal, row_leaves, pivot_after, pivot_stops}

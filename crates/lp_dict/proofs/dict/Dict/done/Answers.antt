@@ -1,7 +1,7 @@
 use Rattle.std.proofs.Common.{map, sym, ap, ◌∙◌, subst}
 use Rattle.lp_dict.specs.Tableau.{dictionary}
-use Rattle.lp_dict.specs.Reading.{RayIs}
-use Rattle.lp_dict.proofs.Finals.{ends_at}
+use Rattle.lp_exact.specs.Reading.{RayIs}
+use Rattle.lp_exact.proofs.Finals.{ends_at}
 use Rattle.lp_dict.proofs.dict.Dict.done.Goals as goal
 
 pub returns-clause-read : goal.returns-clause-read

@@ -1,18 +1,17 @@
-use Rattle.std.proofs.Common.{ap, subst, sym, refl, ◌∙◌, ◌≡◌, inl, inr, Some, length}
-use Rattle.std.specs.Prelude.{slice_get, Contains}
-use Rattle.lp_dict.specs.Tableau.{IsTableau}
-use Rattle.lp_dict.proofs.Kept.{place_at_row, objective_behind}
-use Rattle.lp_dict.proofs.Greatest.{greatest_tells}
+use Rattle.std.proofs.Common.{ℕ, subst}
+use Rattle.std.specs.Prelude.{MatchOption}
+use Rattle.lp_core.specs.Dictionary.{Improves}
+use Rattle.lp_core.specs.LargestCoefficient.{HasGreatest}
+use Rattle.lp_dict.specs.declared.body.Body.TheVariants as body
+use Rattle.lp_dict.proofs.Kept.{kept_is}
 use Rattle.lp_dict.proofs.dict.Dict.greatest.Goals as goal
 
-pub returns-in-Some : goal.returns-in-Some
-returns-in-Some g c =
-    let at = subst (λ b. slice_get b c.in-Some.place ≡ Some 0) (c.as_slice.ensures.value ∙ ap (λ t. t.basic) c.self.view_is) c.in-Some.ensures in
-    let inv = subst (IsTableau g.F.ExactField.value) c.self.view_is c.self.invariant in
-    greatest_tells g.F.ExactField.value c.args.self.now inv c.in-Some.place (inl at) c.as_slice-in-Some.result.now (c.as_slice-in-Some.ensures.value ∙ place_at_row g.F.ExactField.value c.args.self.now inv c.self.inside.rows.items c.index.result.now c.in-Some.place 0 (ap (λ t. t.rows) c.self.view_is) at c.index.ensures) c.greatest_above.result c.greatest_above.ensures
+pub returns-in-Whole : goal.returns-in-Whole
+returns-in-Whole g c =
+    subst (λ d. MatchOption c.greatest.result ((v : ℕ) → ¬ (Improves d v)) (HasGreatest d))
+    (kept_is g.F.ExactField.value c.args.self.now c.self.inside.body c.self.view_is (body.Whole c.in-Whole.rows c.in-Whole.field-1) c.in-Whole.is) c.greatest.ensures
 
-pub returns-in-None : goal.returns-in-None
-returns-in-None g c =
-    let none = subst (λ b. ¬ (Contains b 0)) (c.as_slice.ensures.value ∙ ap (λ t. t.basic) c.self.view_is) c.in-None.ensures in
-    let inv = subst (IsTableau g.F.ExactField.value) c.self.view_is c.self.invariant in
-    greatest_tells g.F.ExactField.value c.args.self.now inv (length c.args.self.now.basic) (inr (none, refl)) c.as_slice-in-None.result.now (c.as_slice-in-None.ensures.value ∙ ap (λ t. t.objective) c.self.view_is ∙ sym (objective_behind g.F.ExactField.value c.args.self.now inv)) c.greatest_above-in-None.result c.greatest_above-in-None.ensures
+pub returns-in-Exact : goal.returns-in-Exact
+returns-in-Exact g c =
+    subst (λ d. MatchOption c.greatest-in-Exact.result ((v : ℕ) → ¬ (Improves d v)) (HasGreatest d))
+    (kept_is g.F.ExactField.value c.args.self.now c.self.inside.body c.self.view_is (body.Exact c.in-Exact.dict) c.in-Exact.is) c.greatest-in-Exact.ensures

@@ -1,35 +1,20 @@
-use Rattle.std.proofs.Common.{ap, subst, sym, ◌∙◌, ◌+◌, Ok, Err}
-use Rattle.lp_core.specs.declared.answer.StepName.TheVariants.{Ratio}
-use Rattle.lp_core.specs.Steps.{FirstStop, ratio_steps}
-use Rattle.lp_dict.specs.Tableau.{dictionary, IsTableau}
-use Rattle.lp_dict.specs.Lines.{rows_of}
-use Rattle.lp_dict.proofs.Kept.{some_rows}
-use Rattle.lp_dict.proofs.Choices.{Rated, kept_rated, all_rated, first_unrated, none_limits, least_leaves}
+use Rattle.std.proofs.Common.{subst}
+use Rattle.std.specs.Prelude.{IfOk}
+use Rattle.lp_core.specs.Steps.{AllFit, ratio_steps}
+use Rattle.lp_exact.specs.Pivots.{IsLeaving}
+use Rattle.lp_dict.specs.declared.body.Body.TheVariants as body
+use Rattle.lp_dict.specs.Tableau.{dictionary}
+use Rattle.lp_dict.proofs.Kept.{kept_is, upcoming_is}
 use Rattle.lp_dict.proofs.dict.Dict.leaving.Goals as goal
 
-pub least_ratio-requires-clause-rows : goal.least_ratio-requires-clause-rows
-least_ratio-requires-clause-rows g c =
-    some_rows g.F.ExactField.value c.args.self.now (subst (IsTableau g.F.ExactField.value) c.self.view_is c.self.invariant) (rows_of c.as_slice.result.now) (ap rows_of c.as_slice.ensures.value ∙ ap (λ t. t.rows) c.self.view_is)
+pub returns-in-Exact-clause-fits : goal.returns-in-Exact-clause-fits
+returns-in-Exact-clause-fits g c =
+    subst (λ n. IfOk c.leaving-in-Exact.result (λ _. AllFit (ratio_steps g.F.ExactField.limit n (dictionary g.F.ExactField.value c.args.self.now) c.args.enter)))
+    (upcoming_is g.F.ExactField.value c.args.self.now c.self.inside.body c.self.view_is (body.Exact c.in-Exact.dict) c.in-Exact.is)
+    (subst (λ d. IfOk c.leaving-in-Exact.result (λ _. AllFit (ratio_steps g.F.ExactField.limit c.in-Exact.dict.upcoming d c.args.enter)))
+    (kept_is g.F.ExactField.value c.args.self.now c.self.inside.body c.self.view_is (body.Exact c.in-Exact.dict) c.in-Exact.is) c.leaving-in-Exact.ensures.fits)
 
-pub returns-in-Some-clause-fits : goal.returns-in-Some-clause-fits
-returns-in-Some-clause-fits g c =
-    all_rated g.F.ExactField.value g.F.ExactField.limit c.args.self.now.upcoming (dictionary g.F.ExactField.value c.args.self.now) c.args.enter c.in-Ok.best (kept_rated g.F.ExactField.value g.F.ExactField.limit c.args.self.now (rows_of c.as_slice.result.now) c.as_slice-2.result.now (ap rows_of c.as_slice.ensures.value ∙ ap (λ t. t.rows) c.self.view_is) (c.as_slice-2.ensures.value ∙ ap (λ t. t.basic) c.self.view_is) c.args.enter (Ok c.in-Ok.best) c.in-Ok.ensures)
-
-pub returns-in-Some-clause-choice : goal.returns-in-Some-clause-choice
-returns-in-Some-clause-choice g c =
-    let h = kept_rated g.F.ExactField.value g.F.ExactField.limit c.args.self.now (rows_of c.as_slice.result.now) c.as_slice-2.result.now (ap rows_of c.as_slice.ensures.value ∙ ap (λ t. t.rows) c.self.view_is) (c.as_slice-2.ensures.value ∙ ap (λ t. t.basic) c.self.view_is) c.args.enter (Ok c.in-Ok.best) c.in-Ok.ensures in
-    least_leaves g.F.ExactField.value g.F.ExactField.limit (dictionary g.F.ExactField.value c.args.self.now) c.args.enter c.in-Some.candidate (subst (λ b. Rated g.F.ExactField.value g.F.ExactField.limit (dictionary g.F.ExactField.value c.args.self.now) c.args.enter (Ok b)) c.in-Some.is h)
-
-pub returns-in-None-clause-fits : goal.returns-in-None-clause-fits
-returns-in-None-clause-fits g c =
-    all_rated g.F.ExactField.value g.F.ExactField.limit c.args.self.now.upcoming (dictionary g.F.ExactField.value c.args.self.now) c.args.enter c.in-Ok.best (kept_rated g.F.ExactField.value g.F.ExactField.limit c.args.self.now (rows_of c.as_slice.result.now) c.as_slice-2.result.now (ap rows_of c.as_slice.ensures.value ∙ ap (λ t. t.rows) c.self.view_is) (c.as_slice-2.ensures.value ∙ ap (λ t. t.basic) c.self.view_is) c.args.enter (Ok c.in-Ok.best) c.in-Ok.ensures)
-
-pub returns-in-None-clause-choice : goal.returns-in-None-clause-choice
-returns-in-None-clause-choice g c =
-    let h = kept_rated g.F.ExactField.value g.F.ExactField.limit c.args.self.now (rows_of c.as_slice.result.now) c.as_slice-2.result.now (ap rows_of c.as_slice.ensures.value ∙ ap (λ t. t.rows) c.self.view_is) (c.as_slice-2.ensures.value ∙ ap (λ t. t.basic) c.self.view_is) c.args.enter (Ok c.in-Ok.best) c.in-Ok.ensures in
-    none_limits g.F.ExactField.value g.F.ExactField.limit (dictionary g.F.ExactField.value c.args.self.now) c.args.enter (subst (λ b. Rated g.F.ExactField.value g.F.ExactField.limit (dictionary g.F.ExactField.value c.args.self.now) c.args.enter (Ok b)) c.in-None.is h)
-
-pub returns-in-Err-clause-limit : goal.returns-in-Err-clause-limit
-returns-in-Err-clause-limit g c =
-    subst (λ n. FirstStop (ratio_steps g.F.ExactField.limit c.args.self.now.upcoming (dictionary g.F.ExactField.value c.args.self.now) c.args.enter) (Ratio n (c.in-Err.place + 1))) (ap (λ t. t.upcoming) (sym c.self.view_is))
-    (first_unrated g.F.ExactField.value g.F.ExactField.limit c.args.self.now.upcoming (dictionary g.F.ExactField.value c.args.self.now) c.args.enter c.in-Err.place (kept_rated g.F.ExactField.value g.F.ExactField.limit c.args.self.now (rows_of c.as_slice.result.now) c.as_slice-2.result.now (ap rows_of c.as_slice.ensures.value ∙ ap (λ t. t.rows) c.self.view_is) (c.as_slice-2.ensures.value ∙ ap (λ t. t.basic) c.self.view_is) c.args.enter (Err c.in-Err.place) c.in-Err.ensures))
+pub returns-in-Exact-clause-choice : goal.returns-in-Exact-clause-choice
+returns-in-Exact-clause-choice g c =
+    subst (λ d. IfOk c.leaving-in-Exact.result (IsLeaving d c.args.enter))
+    (kept_is g.F.ExactField.value c.args.self.now c.self.inside.body c.self.view_is (body.Exact c.in-Exact.dict) c.in-Exact.is) c.leaving-in-Exact.ensures.choice

@@ -1,24 +1,12 @@
-use Rattle.std.proofs.Common.{ℕ, ◌+◌, ◌≤◌, ◌≡◌, List, map, length, refl, sym, ap, subst, subst₂, arith}
-use Rattle.std.specs.Prelude.{Contains}
-use Rattle.lp_core.specs.Answers.{last_along}
-use Rattle.lp_dict.specs.declared.row.Entry.{Entry}
-use Rattle.lp_dict.specs.Lines.{rows_of}
-use Rattle.lp_dict.specs.Tableau.{Tableau, dictionary}
-use Rattle.lp_dict.specs.Reading.{AreByVariable, IsDone, RayIs}
-use Rattle.lp_dict.proofs.Kept.{some_rows}
-use Rattle.lp_dict.proofs.Finals.{changes_are}
+use Rattle.std.proofs.Common.{Some, sym, subst}
+use Rattle.lp_exact.specs.Reading.{IsDone}
+use Rattle.lp_dict.specs.declared.body.Body.TheVariants as body
+use Rattle.lp_dict.specs.Tableau.{dictionary}
+use Rattle.lp_dict.proofs.Kept.{kept_is}
 use Rattle.lp_dict.proofs.dict.Dict.ray.Goals as goal
 
-pub by_variable-requires-clause-rows : goal.by_variable-requires-clause-rows
-by_variable-requires-clause-rows g c =
-    some_rows g.F.ExactField.value (record { variables = c.self.inside.variables; basic = c.self.inside.basic.items; rows = rows_of c.self.inside.rows.items; objective = c.self.inside.objective.items; upcoming = c.self.inside.upcoming }) c.self.invariant (rows_of c.as_slice-rows.result.now) (ap rows_of c.as_slice-rows.ensures.value)
-
-pub returns : goal.returns
-returns g c =
-    let done = subst (IsDone (dictionary g.F.ExactField.value c.args.self.now)) c.in-Some.is c.requires in
-    let none = subst (λ (t : Tableau _). ¬ (Contains t.basic c.in-Some.enter)) (sym c.self.view_is) done.1.1.not_basic in
-    let there = subst (λ (t : Tableau _). c.in-Some.enter ≤ t.variables) (sym c.self.view_is) done.1.1.there in
-    let numbers = subst₂ (λ (rs : List (List (Entry _))) (b : List ℕ). AreByVariable g.F.ExactField.value rs b (c.self.inside.variables + 1) (c.in-Some.enter + 1) (length b) c.in_ok-numbers.numbers.items) (ap rows_of c.as_slice-rows.ensures.value) c.as_slice.ensures.value c.in_ok-numbers.ensures in
-    subst (λ e. RayIs (dictionary g.F.ExactField.value c.args.self.now) e (map g.F.ExactField.value c.changes.result.items)) (sym c.in-Some.is)
-    (subst (λ (t : Tableau _). map g.F.ExactField.value c.changes.result.items ≡ (last_along (dictionary g.F.ExactField.value t) c.in-Some.enter).changes) c.self.view_is
-    (changes_are g.F.ExactField.value (record { variables = c.self.inside.variables; basic = c.self.inside.basic.items; rows = rows_of c.self.inside.rows.items; objective = c.self.inside.objective.items; upcoming = c.self.inside.upcoming }) c.self.invariant c.in-Some.enter (length c.self.inside.basic.items) c.in_ok-numbers.numbers.items c.changes.result.items (omega arith) none refl numbers c.changes.ensures))
+pub ray-requires-in-Exact : goal.ray-requires-in-Exact
+ray-requires-in-Exact g c =
+    subst (λ d. IsDone d (Some c.in-Some.variable))
+    (sym (kept_is g.F.ExactField.value c.args.self.now c.self.inside.body c.self.view_is (body.Exact c.in-Exact.dict) c.in-Exact.is))
+    (subst (IsDone (dictionary g.F.ExactField.value c.args.self.now)) c.in-Some.is c.requires)

@@ -1,0 +1,83 @@
+//! What is read from rows of whole numbers.
+ghost use Rattle.std.specs.Prelude.{◌≡◌, ◌*◌, ◌≤◌, ◌<◌, ◌↔◌, ℕ, pos, length, slice_get, Some, Contains, IsTrue};
+ghost use Rattle.gq_number.specs.Number.{whole};
+ghost use Rattle.lp_core.specs.Dictionary.{constant_at, entry_at, IsPriced};
+ghost use Rattle.lp_core.specs.Answers.{priced_row};
+ghost use Rattle.lp_whole.specs.Whole.{dictionary as dictionary_of};
+
+use crate::number::number_at;
+use gq_field::ExactField;
+use lp_whole::Whole;
+
+/// Whether a variable is basic.
+pub(crate) fn is_basic(rows: &Whole, v: u32) -> bool
+    ensures { IsTrue result ↔ Contains (dictionary_of rows.now).basic v }
+{
+    rows.place_of(v).is_some()
+}
+
+/// The row by which pivots are chosen: that of variable 0 while it is basic, else the objective's behind the rows.
+pub(crate) fn priced(rows: &Whole) -> usize
+    ensures { result ≡ priced_row (dictionary_of rows.now) }
+{
+    rows.keeps();
+    match rows.place_of(0) {
+        Some(place) => place,
+        None => rows.basic().len(),
+    }
+}
+
+/// The constant of a variable's row; 0 for a variable that is not basic.
+pub(crate) fn amount<F: ExactField>(rows: &Whole, v: u32) -> F
+    requires { 2 * (rows.now.bound * rows.now.bound) ≤ F.limit }
+    ensures basic { (k : ℕ) → slice_get (dictionary_of rows.now).basic k ≡ Some v → F.value result ≡ constant_at (dictionary_of rows.now) k }
+    ensures other { ¬ (Contains (dictionary_of rows.now).basic v) → F.value result ≡ whole (pos 0) }
+{
+    rows.keeps();
+    match rows.place_of(v) {
+        Some(place) => number_at(rows, place, 0),
+        None => F::zero(),
+    }
+}
+
+/// The number of a variable in a row; 0 where it is basic or no variable.
+fn free_entry<F: ExactField>(rows: &Whole, row: usize, v: u32) -> F
+    requires bounded { 2 * (rows.now.bound * rows.now.bound) ≤ F.limit }
+    requires row { row ≤ length (dictionary_of rows.now).basic }
+    ensures free { ¬ (Contains (dictionary_of rows.now).basic v) → F.value result ≡ entry_at (dictionary_of rows.now) row v }
+    ensures basic { Contains (dictionary_of rows.now).basic v → F.value result ≡ whole (pos 0) }
+    ensures no_variable { (dictionary_of rows.now).variables < v → F.value result ≡ whole (pos 0) }
+{
+    rows.keeps();
+    if v > rows.variables() || is_basic(rows, v) {
+        return F::zero();
+    }
+    number_at(rows, row, v as usize + 1)
+}
+
+/// The number of a variable in the row of a basic one; 0 where the first is not basic, and where the second is basic or no
+/// variable.
+pub(crate) fn entry<F: ExactField>(rows: &Whole, basic: u32, other: u32) -> F
+    requires { 2 * (rows.now.bound * rows.now.bound) ≤ F.limit }
+    ensures row { (k : ℕ) → slice_get (dictionary_of rows.now).basic k ≡ Some basic → ¬ (Contains (dictionary_of rows.now).basic other) → F.value result ≡ entry_at (dictionary_of rows.now) k other }
+    ensures not_basic { ¬ (Contains (dictionary_of rows.now).basic basic) → F.value result ≡ whole (pos 0) }
+    ensures both_basic { Contains (dictionary_of rows.now).basic other → F.value result ≡ whole (pos 0) }
+    ensures no_variable { (dictionary_of rows.now).variables < other → F.value result ≡ whole (pos 0) }
+{
+    rows.keeps();
+    match rows.place_of(basic) {
+        Some(place) => free_entry(rows, place, other),
+        None => F::zero(),
+    }
+}
+
+/// The number of a variable in the row by which pivots are chosen; 0 for a basic variable, and for a number that is no variable.
+pub(crate) fn coefficient<F: ExactField>(rows: &Whole, v: u32) -> F
+    requires { 2 * (rows.now.bound * rows.now.bound) ≤ F.limit }
+    ensures priced { (k : ℕ) → IsPriced (dictionary_of rows.now) k → ¬ (Contains (dictionary_of rows.now).basic v) → F.value result ≡ entry_at (dictionary_of rows.now) k v }
+    ensures basic { Contains (dictionary_of rows.now).basic v → F.value result ≡ whole (pos 0) }
+    ensures no_variable { (dictionary_of rows.now).variables < v → F.value result ≡ whole (pos 0) }
+{
+    rows.keeps();
+    free_entry(rows, priced(rows), v)
+}

@@ -1,0 +1,128 @@
+//! The exchange over the rows and the objective.
+ghost use Rattle.std.specs.Prelude.{◌≡◌, ◌≢◌, ◌≤◌, ◌<◌, ℕ, pos, List, [], length, map, slice_index_or, slice_set};
+ghost use Rattle.gq_number.specs.Number.{whole};
+ghost use Rattle.lp_exact.specs.Rows.{IsRow, number_in, OnRow, IsLessened, IsFirstMisfit};
+ghost use Rattle.lp_exact.specs.Lines.{rows_of, line, OnLine, AreExchanged, IsFirstLine, IsTurned, IsFirstTurn, without, kept_after};
+
+use crate::fault::{LineFault, RowFault};
+use crate::row::{Entry, lessen_into, number_at, row_over};
+use gq_field::ExactField;
+use std::alloc::Global;
+use std::mem;
+
+/// Takes from a row the multiple of the pivot row that its number at the column asks for; a row without that column stays.
+fn exchange_row<F: ExactField>(
+    row: &mut Vec<Entry<F>>,
+    column: u32,
+    pivot_row: &[Entry<F>],
+    buffer: &mut Vec<Entry<F>>,
+) -> Result<(), RowFault>
+    requires { (high : ℕ) × IsRow F.value 0 high row.old.items }
+    ensures { (high : ℕ) → IsRow F.value 0 high row.old.items → IsRow F.value 0 high pivot_row.now → OnRow
+        (λ _. IsLessened F.value F.limit high row.old.items (number_in F.value row.old.items column) pivot_row.now row.new.items)
+        (IsFirstMisfit F.value F.limit high row.old.items (number_in F.value row.old.items column) pivot_row.now) result }
+{
+    let factor = number_at(row.as_slice(), column);
+    if factor.is_zero() {
+        return Ok(());
+    }
+    lessen_into(buffer, row.as_slice(), factor, pivot_row)?;
+    mem::swap(row, buffer);
+    Ok(())
+}
+
+/// The same for each row.
+fn exchange_rows<F: ExactField>(
+    rows: &mut Vec<Vec<Entry<F>>>,
+    column: u32,
+    pivot_row: &[Entry<F>],
+    buffer: &mut Vec<Entry<F>>,
+) -> Result<(), LineFault>
+    requires { (high : ℕ) × ((k : ℕ) → IsRow F.value 0 high (slice_index_or (rows_of rows.old.items) k [])) × IsRow F.value 0 high pivot_row.now }
+    ensures { (high : ℕ) → ((k : ℕ) → IsRow F.value 0 high (slice_index_or (rows_of rows.old.items) k [])) → IsRow F.value 0 high pivot_row.now → OnLine
+        (λ _. AreExchanged F.value F.limit high column pivot_row.now (rows_of rows.old.items) (rows_of rows.new.items))
+        (IsFirstLine F.value F.limit high column pivot_row.now (rows_of rows.old.items)) result }
+{
+    for place in 0..rows.len() {
+        let row = &mut rows[place];
+        if let Err(fault) = exchange_row(row, column, pivot_row, buffer) {
+            return Err(fault.in_line(place));
+        }
+    }
+    Ok(())
+}
+
+/// Puts a row at a place, and gives the one that was there.
+fn put_row<F: ExactField>(
+    rows: &mut Vec<Vec<Entry<F>>>,
+    place: usize,
+    row: Vec<Entry<F>>,
+) -> Vec<Entry<F>>
+    requires { place < length rows.old.items }
+    ensures given { result.items ≡ slice_index_or (rows_of rows.old.items) place [] }
+    ensures put { rows_of rows.new.items ≡ slice_set (rows_of rows.old.items) place row.items }
+{
+    let old = &mut rows[place];
+    mem::replace(old, row)
+}
+
+/// The exchange: the row at a place is divided by its number at a column, and each other row and the objective lose the
+/// multiple of it that takes theirs.
+pub(crate) fn turn<F: ExactField>(
+    alloc: Global,
+    rows: &mut Vec<Vec<Entry<F>>>,
+    objective: &mut Vec<Entry<F>>,
+    place: usize,
+    column: u32,
+) -> Result<(), LineFault>
+    requires within { place < length rows.old.items }
+    requires rows { (high : ℕ) × ((k : ℕ) → IsRow F.value 0 high (slice_index_or (rows_of rows.old.items) k [])) × IsRow F.value 0 high objective.old.items }
+    requires some { number_in F.value (slice_index_or (rows_of rows.old.items) place []) column ≢ whole (pos 0) }
+    ensures { (high : ℕ) → ((k : ℕ) → IsRow F.value 0 high (slice_index_or (rows_of rows.old.items) k [])) → IsRow F.value 0 high objective.old.items → OnLine
+        (λ _. (length (rows_of rows.new.items) ≡ length (rows_of rows.old.items)) × IsTurned F.value F.limit high
+        (line (rows_of rows.old.items) objective.old.items) place column
+        (line (rows_of rows.new.items) objective.new.items))
+        (λ i at p. (i ≤ length (rows_of rows.old.items)) × (at < high) × IsFirstTurn F.value F.limit high
+        (line (rows_of rows.old.items) objective.old.items) place column i at p) result }
+{
+    let mut buffer = put_row(rows, place, Vec::new(alloc));
+    let divisor = number_at(buffer.as_slice(), column);
+    let pivot_row = match row_over(alloc, buffer.as_slice(), divisor) {
+        Ok(pivot_row) => pivot_row,
+        Err(fault) => return Err(fault.in_line(place)),
+    };
+    if let Err(fault) = exchange_rows(rows, column, pivot_row.as_slice(), &mut buffer) {
+        return Err(fault);
+    }
+    if let Err(fault) = exchange_row(objective, column, pivot_row.as_slice(), &mut buffer) {
+        return Err(fault.in_line(rows.len()));
+    }
+    let _ = put_row(rows, place, pivot_row);
+    Ok(())
+}
+
+/// Takes the entry of variable 0 out of a row.
+fn forget_zero<F: ExactField>(row: &mut Vec<Entry<F>>)
+    ensures { row.new.items ≡ without 1 row.old.items }
+{
+    row.retain(|entry| entry.column != 1);
+}
+
+/// Takes the entries of variable 0 out of each row and the objective, where that variable leaves.
+pub(crate) fn forget_leaving<F: ExactField>(
+    leave: u32,
+    rows: &mut Vec<Vec<Entry<F>>>,
+    objective: &mut Vec<Entry<F>>,
+)
+    ensures rows { rows_of rows.new.items ≡ map (kept_after leave) (rows_of rows.old.items) }
+    ensures objective { objective.new.items ≡ kept_after leave objective.old.items }
+{
+    if leave != 0 {
+        return;
+    }
+    for place in 0..rows.len() {
+        let row = &mut rows[place];
+        forget_zero(row);
+    }
+    forget_zero(objective);
+}

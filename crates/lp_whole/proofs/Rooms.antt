@@ -1,0 +1,72 @@
+-- The room of all lines after an exchange, line by line.
+use Rattle.std.proofs.Common.{◌≡◌, ◌≢◌, ℕ, ◌+◌, ◌*◌, ◌<◌, ◌≤◌, ◌^◌, ◌-◌, nat_abs, inl, inr, List, length, Some, pos, sym, ◌∙◌, subst, subst₂, arith}
+use Rattle.std.specs.Prelude.{slice_get, slice_index_or}
+use Rattle.std.proofs.lemmas.Bool.{cases_eq}
+use Rattle.lp_whole.specs.declared.line.Line.{Line}
+use Rattle.lp_whole.specs.declared.line.Factors.{Factors}
+use Rattle.lp_whole.specs.Form.{wholes, IsLine, AreLines, IsPlan, own_factors}
+use Rattle.lp_whole.specs.Room.{zero_after}
+use Rattle.lp_whole.proofs.Plans.{index_get, same_some}
+
+abbrev pub none : Factors
+none = record { line = pos 0; pivot = pos 0; most = 0 }
+
+-- a line and its factors, as they are read at a place
+pub record IsAt (width : ℕ) (lines : List Line) (plans : List Factors) (p : Line) (i : ℕ) (l : Line) (f : Factors) : Type 0 where
+  pub line : IsLine l
+  pub wide : 1 < length (wholes l)
+  pub there : slice_get lines i ≡ Some l
+  pub by : slice_get plans i ≡ Some f
+  pub small : f.most < 2 ^ 63
+  pub room : nat_abs f.line * l.most + nat_abs f.pivot * p.most ≤ 2 ^ 63 - 1
+
+module _ (width bound column place : ℕ) (lines : List Line) (plans : List Factors) (p : Line) (are : AreLines width lines) (wide : 1 < width) (h : IsPlan bound column place lines p plans) (p_there : slice_get lines place ≡ Some p) where
+  pub plans_sized : length plans ≡ length lines
+  plans_sized = h.planned.sized
+
+  own_room : (m n : ℕ) → m ≡ 1 * m + 0 * n
+  own_room m n = omega arith
+
+  room_of : (i : ℕ) (l : Line) (f : Factors) → slice_get lines i ≡ Some l → slice_get plans i ≡ Some f → (f.most < 2 ^ 63) × (nat_abs f.line * l.most + nat_abs f.pivot * p.most ≤ 2 ^ 63 - 1)
+  room_of i l f there by = elim (cases_eq i place) [
+    | inl same ↦
+        let f_is : f ≡ own_factors p = h.planned.own f (subst (λ k. slice_get plans k ≡ Some f) same by) in
+        let l_is : p ≡ l = same_some p l (sym p_there ∙ subst (λ k. slice_get lines k ≡ Some l) same there) in
+        let small = (are place p p_there).0.small in
+        let total = own_room p.most p.most in
+        let fits : 1 * p.most + 0 * p.most ≤ 2 ^ 63 - 1 = omega arith in (
+          subst (λ (g : Factors). g.most < 2 ^ 63) (sym f_is) small,
+          subst (λ (g : Factors). nat_abs g.line * l.most + nat_abs g.pivot * p.most ≤ 2 ^ 63 - 1) (sym f_is) (subst (λ (t : Line). 1 * t.most + 0 * p.most ≤ 2 ^ 63 - 1) l_is fits),
+        )
+    | inr other ↦
+        let planned = h.planned.each i l f other there by in
+        let most = planned.most in
+        let within = planned.within in
+        let small = h.small in
+        (omega arith, omega arith)
+  ]
+
+  pub at : (i : ℕ) (l : Line) (f : Factors) → i < length lines → l ≡ slice_index_or lines i l → f ≡ slice_index_or plans i none → IsAt width lines plans p i l f
+  at i l f within l_is f_is =
+      let there : slice_get lines i ≡ Some l = index_get lines i l l within (sym l_is) in
+      let sized = h.planned.sized in
+      let by : slice_get plans i ≡ Some f = index_get plans i f none (omega arith) (sym f_is) in
+      let of_line = are i l there in
+      let is_wide = of_line.1 in
+      let room = room_of i l f there by in
+      record { line = of_line.0; wide = omega arith; there = there; by = by; small = room.0; room = room.1 }
+
+-- the first n lines have room
+abbrev pub RoomBelow : ℕ → ℕ → Line → Factors → ℕ → List Line → List Factors → ℕ → Type 0
+RoomBelow n leaving p g u lines plans bound =
+    (i : ℕ) (x : Line) (f : Factors) → i < n → i ≢ leaving → slice_get lines i ≡ Some x → slice_get plans i ≡ Some f → f.most * u + zero_after x p f * g.most ≤ bound
+
+pub room_more : (n leaving : ℕ) (p : Line) (g : Factors) (u : ℕ) (lines : List Line) (plans : List Factors) (bound : ℕ) (x : Line) (f : Factors) → RoomBelow n leaving p g u lines plans bound → slice_get lines n ≡ Some x → slice_get plans n ≡ Some f → (n ≢ leaving → f.most * u + zero_after x p f * g.most ≤ bound) → RoomBelow (n + 1) leaving p g u lines plans bound
+room_more n leaving p g u lines plans bound x f h at by here i y e less other there on =
+    elim (cases_eq i n) [
+      | inl same ↦
+          let x_is : x ≡ y = same_some x y (sym at ∙ subst (λ k. slice_get lines k ≡ Some y) same there) in
+          let f_is : f ≡ e = same_some f e (sym by ∙ subst (λ k. slice_get plans k ≡ Some e) same on) in
+          subst₂ (λ (t : Line) (r : Factors). r.most * u + zero_after t p r * g.most ≤ bound) x_is f_is (here (λ e. other (same ∙ e)))
+      | inr apart ↦ h i y e (omega arith) other there on
+    ]

@@ -1,0 +1,35 @@
+use Rattle.std.proofs.Common.{◌≡◌, ◌<◌, ℕ, List, length, length-set, sym, ap, ◌∙◌, subst, arith}
+use Rattle.lp_whole.specs.declared.line.Line.{Line}
+use Rattle.lp_whole.specs.Form.{IsPlan, AreExchanged, AreTurned}
+use Rattle.lp_whole.proofs.Plans.{plan_put, turned_lines}
+use Rattle.lp_whole.proofs.exchange.exchange_lines.Goals as goal
+
+pub apply_plans-requires-clause-planned : goal.apply_plans-requires-clause-planned
+apply_plans-requires-clause-planned c =
+    let bound : ℕ = c.requires.planned.0 in
+    let pivot : Line = c.put_line-pivot.result in
+    let plan : IsPlan bound c.args.column c.args.place c.args.lines.now.items pivot c.args.plans.now = c.requires.planned.1 pivot c.put_line-pivot.ensures.given in
+    (bound, c.args.column, plan_put bound c.args.column c.args.place c.args.lines.now.items c.put_line-pivot.new.lines.items pivot _ c.args.plans.now c.put_line-pivot.ensures.put plan)
+
+pub put_line-requires : goal.put_line-requires
+put_line-requires c =
+    let bound : ℕ = c.requires.planned.0 in
+    let pivot : Line = c.put_line-pivot.result in
+    let plan : IsPlan bound c.args.column c.args.place c.args.lines.now.items pivot c.args.plans.now = c.requires.planned.1 pivot c.put_line-pivot.ensures.given in
+    let h = c.apply_plans.ensures bound c.args.column (plan_put bound c.args.column c.args.place c.args.lines.now.items c.put_line-pivot.new.lines.items pivot _ c.args.plans.now c.put_line-pivot.ensures.put plan) in
+    let sized = h.sized in
+    let put : length c.put_line-pivot.new.lines.items ≡ length c.args.lines.now.items = ap length c.put_line-pivot.ensures.put ∙ length-set c.args.lines.now.items c.args.place _ in
+    let within : c.args.place < length c.args.lines.now.items = c.requires.within in
+    omega arith
+
+pub returns : goal.returns
+returns c =
+    let bound : ℕ = c.requires.planned.0 in
+    let items : List Line = c.args.lines.now.items in
+    let pivot : Line = c.put_line-pivot.result in
+    let plan : IsPlan bound c.args.column c.args.place items pivot c.args.plans.now = c.requires.planned.1 pivot c.put_line-pivot.ensures.given in
+    let h = c.apply_plans.ensures bound c.args.column (plan_put bound c.args.column c.args.place items c.put_line-pivot.new.lines.items pivot _ c.args.plans.now c.put_line-pivot.ensures.put plan) in
+    let put : length c.put_line-pivot.new.lines.items ≡ length items = ap length c.put_line-pivot.ensures.put ∙ length-set items c.args.place _ in
+    subst (λ ls. AreTurned c.args.column c.args.place c.args.plans.now items ls) (sym c.put_line.ensures.put)
+    (turned_lines c.args.column c.args.place c.args.plans.now items c.apply_plans.new.lines.items pivot _ c.turn_pivot.new.line (length c.put_line-pivot.new.lines.items) c.requires.within c.put_line-pivot.ensures.given put plan.planned.sized plan.planned.own
+    (subst (λ ls. AreExchanged c.args.column c.args.place pivot c.args.plans.now ls c.apply_plans.new.lines.items (length c.put_line-pivot.new.lines.items)) c.put_line-pivot.ensures.put h) c.turn_pivot.ensures)

@@ -1,0 +1,28 @@
+-- Dictionaries whose rows are whole numbers over one denominator each, below one bound (Edmonds, and Bareiss, on integer pivoting).
+use Rattle.std.specs.Prelude.{◌≡◌, ◌≢◌, ℕ, ◌+◌, ◌*◌, ◌<◌, ◌≤◌, ℤ, pos, nat_abs}
+use Rattle.gq_number.specs.Number.{Number, ratio}
+use Rattle.lp_core.specs.Dictionary.{Dictionary}
+
+-- Each row and the objective are whole numbers over one denominator, and no magnitude and no denominator passes the bound.
+pub record IsBounded (d : Dictionary) (bound : ℕ) : Type 0 where
+  pub number : ℕ → ℕ → ℤ
+  pub denominator : ℕ → ℕ
+  pub positive : (i : ℕ) → 0 < denominator i
+  pub numbers : (i c : ℕ) → d.numbers i c ≡ ratio (number i c) (denominator i)
+  pub number_within : (i c : ℕ) → nat_abs (number i c) ≤ bound
+  pub denominator_within : (i : ℕ) → denominator i ≤ bound
+
+-- the numbers of lines: whole numbers, each line over its denominator
+abbrev pub over_denominators : (ℕ → ℕ → ℤ) → (ℕ → ℕ) → ℕ → ℕ → Number
+over_denominators n d i c = ratio (n i c) (d i)
+
+-- Lines with the greatest magnitude of each, and room under a bound for what the exchange of variable 0 into row k makes of
+-- them; u is the number of variable 0 there.
+pub record HasRoomAbove (n : ℕ → ℕ → ℤ) (d most : ℕ → ℕ) (bound k u : ℕ) : Type 0 where
+  pub pivot : n k 1 ≡ pos u
+  pub above : 0 < u
+  pub positive : (i : ℕ) → 0 < d i
+  pub number_within : (i c : ℕ) → nat_abs (n i c) ≤ most i
+  pub denominator_within : (i : ℕ) → d i ≤ most i
+  pub own : most k ≤ bound
+  pub others : (i : ℕ) → i ≢ k → most i * u + nat_abs (n i 1) * most k ≤ bound

@@ -1,0 +1,37 @@
+-- Rows by fractions at their columns.
+use Rattle.std.specs.Prelude.{◌≡◌, ◌≢◌, ℕ, ◌<◌, ◌-◌, ◌^◌, ℤ, pos, List, length, slice_get, Some}
+use Rattle.std.specs.Int.{◌∣◌}
+use Rattle.gq_number.specs.Number.{Number, whole, ratio}
+use Rattle.lp_whole.specs.declared.parts.Part.{Part}
+use Rattle.lp_whole.specs.Lines.{whole_at, AreWithin}
+
+-- so many zeros
+pub record AreZeros (count : ℕ) (list : List ℤ) : Type 0 where
+  pub sized : length list ≡ count
+  pub zeros : (c : ℕ) → whole_at list c ≡ pos 0
+
+-- the columns of parts are there, and what they are over is above 0
+abbrev pub AreThere : ℕ → List Part → Type 0
+AreThere width parts = (i : ℕ) (p : Part) → slice_get parts i ≡ Some p → (p.column < width) × (0 < p.denominator)
+
+-- no two parts have the same column
+abbrev pub AreApart : List Part → Type 0
+AreApart parts = (i j : ℕ) (p q : Part) → slice_get parts i ≡ Some p → slice_get parts j ≡ Some q → p.column ≡ q.column → i ≡ j
+
+-- A number of at most 63 bits is a multiple of what the first n parts are over.
+pub record IsMultiple (parts : List Part) (n m : ℕ) : Type 0 where
+  pub positive : 0 < m
+  pub small : m < 2 ^ 63
+  pub divides : (i : ℕ) (p : Part) → i < n → slice_get parts i ≡ Some p → p.denominator ∣ m
+
+-- Whole numbers over a multiple are the first n parts at their columns, and 0 elsewhere.
+pub record AreFilled (parts : List Part) (multiple width n : ℕ) (numbers : List ℤ) : Type 0 where
+  pub sized : length numbers ≡ width
+  pub small : AreWithin numbers (2 ^ 63 - 1)
+  pub here : (i : ℕ) (p : Part) → i < n → slice_get parts i ≡ Some p → ratio (whole_at numbers p.column) multiple ≡ ratio p.numerator p.denominator
+  pub elsewhere : (c : ℕ) → ((i : ℕ) (p : Part) → i < n → slice_get parts i ≡ Some p → p.column ≢ c) → whole_at numbers c ≡ pos 0
+
+-- The parts of a row are its numbers: at each part's column the part's fraction, elsewhere 0.
+pub record AreParts (parts : List Part) (numbers : ℕ → Number) : Type 0 where
+  pub here : (i : ℕ) (p : Part) → slice_get parts i ≡ Some p → numbers p.column ≡ ratio p.numerator p.denominator
+  pub elsewhere : (c : ℕ) → ((i : ℕ) (p : Part) → slice_get parts i ≡ Some p → p.column ≢ c) → numbers c ≡ whole (pos 0)

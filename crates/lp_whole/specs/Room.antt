@@ -1,0 +1,68 @@
+-- Lines with variable 0 put off or not, and the room below a bound of what they stand for.
+use Rattle.std.specs.Prelude.{◌≡◌, ◌≢◌, ℕ, ◌+◌, ◌*◌, ◌<◌, ◌≤◌, ◌^◌, ◌==◌, pos, ◌-ℤ◌, ◌*ℤ◌, ◌<ℤ◌, nat_abs, List, slice_get, Option, Some, None, if◌then◌else◌}
+use Rattle.lp_whole.specs.declared.line.Line.{Line}
+use Rattle.lp_whole.specs.declared.line.Factors.{Factors}
+use Rattle.lp_whole.specs.Lines.{whole_at}
+use Rattle.lp_whole.specs.Form.{wholes, AreLines, AreBounded, AreSameLines, AreTurned, IsPlan}
+
+-- Where the line p is that of the row k which variable 0 is to enter, there is room for what that exchange makes of each line.
+pub record HasRoomFor (k : ℕ) (p : Line) (lines : List Line) (bound : ℕ) : Type 0 where
+  pub own : p.most ≤ bound
+  pub others : (i : ℕ) (l : Line) → i ≢ k → slice_get lines i ≡ Some l → l.most * nat_abs (whole_at (wholes p) 1) + nat_abs (whole_at (wholes l) 1) * p.most ≤ bound
+
+-- Variable 0 is put off in the row k: its number there is above 0, and there is room for its exchange.
+pub record IsPutOff (k : ℕ) (lines : List Line) (bound : ℕ) : Type 0 where
+  pub pivot : Line
+  pub there : slice_get lines k ≡ Some pivot
+  pub above : pos 0 <ℤ whole_at (wholes pivot) 1
+  pub room : HasRoomFor k pivot lines bound
+
+-- there is room for what lines stand for
+abbrev pub HasRoom : Option ℕ → List Line → ℕ → Type 0
+HasRoom None lines bound = AreBounded bound lines
+HasRoom (Some k) lines bound = IsPutOff k lines bound
+
+-- Lines of one width, with room for what they stand for.
+pub record AreWhole (lines : List Line) (deferred : Option ℕ) (width bound : ℕ) : Type 0 where
+  pub are_lines : AreLines width lines
+  pub wide : 1 < width
+  pub small : bound < 2 ^ 63
+  pub room : HasRoom deferred lines bound
+
+-- the magnitude of a line's number of variable 0 after an exchange by its factors
+abbrev pub zero_after : Line → Line → Factors → ℕ
+zero_after l p f = nat_abs (f.line *ℤ whole_at (wholes l) 1 -ℤ f.pivot *ℤ whole_at (wholes p) 1)
+
+-- after an exchange there is room for that of variable 0 into the row of the variable that leaves, whose line l has the factors g
+abbrev pub KeepsRoom : ℕ → Line → Line → Factors → List Line → List Factors → ℕ → Type 0
+KeepsRoom leaving p l g lines plans bound =
+    (i : ℕ) (x : Line) (f : Factors) → i ≢ leaving → slice_get lines i ≡ Some x → slice_get plans i ≡ Some f → f.most * zero_after l p g + zero_after x p f * g.most ≤ bound
+
+-- The factors of an exchange at a place and a column, with room after it where a variable of another row leaves.
+pub record IsRoomyPlan (bound column place leaving : ℕ) (lines : List Line) (plans : List Factors) : Type 0 where
+  pub planned : (p : Line) → slice_get lines place ≡ Some p → IsPlan bound column place lines p plans
+  pub room : (p l : Line) (g : Factors) → leaving ≢ place → slice_get lines place ≡ Some p → slice_get lines leaving ≡ Some l → slice_get plans leaving ≡ Some g → KeepsRoom leaving p l g lines plans bound
+
+-- Lines are others after the exchange at a place and a column, perhaps after a division of each, with room where a variable of
+-- another row leaves.
+pub record AreTurnedInRoom (bound column place leaving : ℕ) (before after : List Line) : Type 0 where
+  pub divided : List Line
+  pub plans : List Factors
+  pub same : AreSameLines before divided
+  pub roomy : IsRoomyPlan bound column place leaving divided plans
+  pub turned : AreTurned column place plans divided after
+
+-- the denominator of a line; 1 where there is none
+abbrev pub denominator_or_one : Option Line → ℕ
+denominator_or_one None = 1
+denominator_or_one (Some l) = l.denominator
+
+-- the magnitude of the number of variable 0 of a line; 1 where there is none
+abbrev pub zero_or_one : Option Line → ℕ
+zero_or_one None = 1
+zero_or_one (Some l) = nat_abs (whole_at (wholes l) 1)
+
+-- the denominator of a row of what lines stand for
+abbrev pub row_denominator : Option ℕ → List Line → ℕ → ℕ
+row_denominator None lines i = denominator_or_one (slice_get lines i)
+row_denominator (Some k) lines i = if i == k then zero_or_one (slice_get lines k) else zero_or_one (slice_get lines k) * denominator_or_one (slice_get lines i)

@@ -1,0 +1,50 @@
+-- A dictionary by whole numbers, as contracts see it, and how it is kept (Chvatal, Linear Programming, chapters 2 and 3).
+use Rattle.std.specs.Prelude.{◌≡◌, ℕ, ◌+◌, ◌<◌, ◌^◌, nat_lt, List, length, Option, Result, IfOk, IfErr, if◌then◌else◌}
+use Rattle.lp_core.specs.declared.answer.Pivot.{Pivot}
+use Rattle.lp_core.specs.Dictionary.{Dictionary, exchanged}
+use Rattle.lp_exact.specs.Pivots.{IsProper}
+use Rattle.lp_exact.specs.Tableau.{IsPlace}
+use Rattle.lp_whole.specs.declared.line.Line.{Line}
+use Rattle.lp_whole.specs.Form.{lines_number, numbers_above}
+use Rattle.lp_whole.specs.Room.{AreWhole}
+
+-- the row of a number; past the last it is the objective
+abbrev pub row_of : ℕ → ℕ → ℕ
+row_of rows i = if nat_lt i rows then i else rows
+
+-- the dictionary that lines stand for, the objective behind the rows; in the row that is deferred variable 0 is put off
+abbrev pub whole_dictionary : ℕ → List ℕ → List Line → Option ℕ → Dictionary
+whole_dictionary variables basic lines deferred =
+    record {
+      variables = variables;
+      basic = basic;
+      numbers = λ i c. numbers_above deferred (lines_number lines) (row_of (length basic) i) c;
+    }
+
+-- What is kept: the basic variables, the lines, the row in which variable 0 is put off, and a bound that no part passes.
+pub record WholeTableau : Type 0 where
+  -- the greatest number of a variable
+  pub variables : ℕ
+  pub basic : List ℕ
+  pub lines : List Line
+  pub deferred : Option ℕ
+  pub bound : ℕ
+
+-- the dictionary that is kept
+abbrev pub dictionary : WholeTableau → Dictionary
+dictionary t = whole_dictionary t.variables t.basic t.lines t.deferred
+
+-- There is a line for each basic variable and one for the objective, with room below the bound; variable 0 is put off just where
+-- it is basic; and the dictionary is one of a program.
+pub record IsWhole (t : WholeTableau) : Type 0 where
+  pub sized : t.variables + 2 < 2 ^ 32
+  pub paired : length t.lines ≡ length t.basic + 1
+  pub are_whole : AreWhole t.lines t.deferred (t.variables + 2) t.bound
+  pub put_off : IsPlace t.basic 0 t.deferred
+  pub proper : IsProper (dictionary t)
+
+-- what a pivot by row k answers: the dictionary exchanged, or the same where it is crowded; and the bound stays
+abbrev pub IsPivoted : WholeTableau → Pivot → ℕ → Result WholeTableau WholeTableau → Type 0
+IsPivoted t p k r =
+    IfOk r (λ after. (dictionary after ≡ exchanged (dictionary t) p.enter k) × (after.bound ≡ t.bound))
+    × IfErr r (λ same. (dictionary same ≡ dictionary t) × (same.bound ≡ t.bound))

@@ -1,0 +1,118 @@
+//! The exchange of all lines: the rows, and the objective behind them.
+ghost use Rattle.std.specs.Prelude.{◌≡◌, ℕ, ◌<◌, ◌≤◌, ◌^◌, pos, ◌<ℤ◌, length, slice_get, slice_set, Some, IfOk, MatchOption};
+ghost use Rattle.lp_whole.specs.declared.line.Line.{Line};
+ghost use Rattle.lp_whole.specs.Lines.{whole_at};
+ghost use Rattle.lp_whole.specs.Form.{wholes, IsLine, AreLines, AreLinesBut, AreBounded, AreSameLines, IsDividedLine, ArePlanned, AreExchanged, AreTurned, IsPlan, IsSomeCrowded};
+
+use crate::line::{Factors, Line, apply, divide_pivot, plan, reduce};
+use std::alloc::{AllocError, Global};
+use std::mem;
+
+/// The factors of each line in an exchange at a place and a column; none where some part might pass the bound. The line of the
+/// place gets factors that leave it as it is. The error is want of memory.
+pub(crate) fn plan_lines(
+    alloc: Global,
+    lines: &[Line],
+    place: usize,
+    column: usize,
+    pivot: &Line,
+    bound: u64,
+) -> Result<Option<Vec<Factors>>, AllocError>
+    requires lines { (width : ℕ) × AreLines width lines.now × (length (wholes pivot.now) ≡ width) × (column < width) }
+    requires pivot { IsLine pivot.now }
+    requires above { pos 0 <ℤ whole_at (wholes pivot.now) column }
+    requires bounded { AreBounded bound lines.now }
+    ensures { IfOk result (λ o. MatchOption o (IsSomeCrowded bound column place lines.now pivot.now) (λ plans. ArePlanned bound column place lines.now pivot.now plans.items (length lines.now))) }
+{
+    let mut plans = Vec::with_capacity(alloc, lines.len())?;
+    for i in 0..lines.len() {
+        let factors = if i == place {
+            Factors::of_own(pivot)
+        } else {
+            let Some(factors) = plan(&lines[i], column, pivot, bound) else {
+                return Ok(None);
+            };
+            factors
+        };
+        plans.push(factors)?;
+    }
+    Ok(Some(plans))
+}
+
+/// Takes from each line but that of the place the multiple of the pivot line for which its factors are; divides those that have
+/// a part past a magnitude.
+fn apply_plans(lines: &mut Vec<Line>, plans: &[Factors], place: usize, pivot: &Line, due: u64)
+    requires lines { (width : ℕ) × AreLinesBut place width lines.old.items × (length (wholes pivot.now) ≡ width) }
+    requires pivot { IsLine pivot.now }
+    requires planned { (bound column : ℕ) × IsPlan bound column place lines.old.items pivot.now plans.now }
+    ensures { (bound column : ℕ) → IsPlan bound column place lines.old.items pivot.now plans.now → AreExchanged column place pivot.now plans.now lines.old.items lines.new.items (length lines.old.items) }
+{
+    for i in 0..lines.len() {
+        if i != place {
+            let factors = plans[i];
+            let line = &mut lines[i];
+            apply(line, factors, pivot, due);
+        }
+    }
+}
+
+/// Puts a line at a place, and gives the one that was there.
+pub(crate) fn put_line(lines: &mut Vec<Line>, place: usize, line: Line) -> Line
+    requires { place < length lines.old.items }
+    ensures given { slice_get lines.old.items place ≡ Some result }
+    ensures put { lines.new.items ≡ slice_set lines.old.items place line }
+{
+    let old = &mut lines[place];
+    mem::replace(old, line)
+}
+
+/// Divides the pivot line by its number at a column, and by what its parts then have in common.
+fn turn_pivot(line: &mut Line, column: usize)
+    requires line { IsLine line.old }
+    requires within { column < length (wholes line.old) }
+    requires above { pos 0 <ℤ whole_at (wholes line.old) column }
+    ensures { IsDividedLine column line.old line.new }
+{
+    divide_pivot(line, column);
+    reduce(line);
+}
+
+/// A line without numbers.
+pub(crate) fn no_line(alloc: Global) -> Line {
+    Line {
+        numbers: Vec::new(alloc),
+        denominator: 1,
+        most: 1,
+    }
+}
+
+/// The exchange of all lines at a place and a column, by their factors; divides those that have a part past a magnitude.
+pub(crate) fn exchange_lines(
+    alloc: Global,
+    lines: &mut Vec<Line>,
+    plans: &[Factors],
+    place: usize,
+    column: usize,
+    due: u64,
+)
+    requires within { place < length lines.old.items }
+    requires lines { (width : ℕ) × AreLines width lines.old.items × (column < width) }
+    requires planned { (bound : ℕ) × ((l : Line) → slice_get lines.old.items place ≡ Some l → IsPlan bound column place lines.old.items l plans.now) }
+    ensures { AreTurned column place plans.now lines.old.items lines.new.items }
+{
+    let mut pivot = put_line(lines, place, no_line(alloc));
+    apply_plans(lines, plans, place, &pivot, due);
+    turn_pivot(&mut pivot, column);
+    let _ = put_line(lines, place, pivot);
+}
+
+/// Divides each line by what its parts have in common.
+pub(crate) fn reduce_lines(lines: &mut Vec<Line>)
+    requires { (width : ℕ) × AreLines width lines.old.items }
+    ensures { AreSameLines lines.old.items lines.new.items }
+{
+    for i in 0..lines.len() {
+        let line = &mut lines[i];
+        reduce(line);
+    }
+}

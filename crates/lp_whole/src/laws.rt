@@ -1,0 +1,64 @@
+//! What the exchange with variable 0 put off means, for any numbers: laws on functions with empty bodies.
+ghost use Rattle.std.specs.Prelude.{◌≡◌, ◌≢◌, ◌↔◌, ℕ, ◌+◌, ◌*◌, ◌<◌, ◌≤◌, ℤ, pos, ◌-ℤ◌, ◌*ℤ◌, ◌≤ℤ◌, ◌<ℤ◌, ◌==◌, if◌then◌else◌};
+ghost use Rattle.gq_number.specs.Number.{Number, whole, ratio, ◌-ℚ◌, ◌*ℚ◌, ◌/ℚ◌};
+ghost use Rattle.gq_number.specs.Order.{◌≤ℚ◌, ◌<ℚ◌};
+ghost use Rattle.lp_core.specs.Dictionary.{Dictionary, basic_at, entry_at, exchanged};
+ghost use Rattle.lp_core.specs.Steps.{AllFit, ratio_steps, exchange_steps};
+ghost use Rattle.lp_whole.specs.Bounds.{IsBounded, HasRoomAbove, over_denominators};
+ghost use Rattle.lp_whole.specs.Turning.{turned_at, swapped, negated, IsAbove};
+
+/// Two exchanges in one row are the second alone; and an exchange of a dictionary with variable 0 put off is an exchange
+/// of what is kept: Chvatal, Linear Programming, chapter 3.
+///
+/// Where another variable than 0 leaves, by row `l`, the kept rows are exchanged in the row `k` of variable 0, and then
+/// the rows `k` and `l` change places; where variable 0 leaves, nothing is put off any more, and its column is 0.
+pub fn turning_laws()
+    ensures own { (n : ℕ → ℕ → Number) (z q k i c : ℕ) → n k z ≢ whole (pos 0) → n k q ≢ whole (pos 0) →
+        turned_at (turned_at n z k) q k i c ≡ turned_at n q k i c }
+    ensures other { (n : ℕ → ℕ → Number) (z q k l i c : ℕ) → l ≢ k → n k z ≢ whole (pos 0) → n k q ≢ whole (pos 0) →
+        turned_at n z k l q ≢ whole (pos 0) →
+        turned_at (turned_at n z k) q l i c ≡ turned_at (swapped (turned_at n q k) k l) z k i c }
+    ensures negated { (n : ℕ → ℕ → Number) (z k i c : ℕ) → turned_at (negated n k) z k i c ≡ turned_at n z k i c }
+    ensures above { (d : Dictionary) (kept : ℕ → ℕ → Number) (q k l : ℕ) → l ≢ k → basic_at d l ≢ 0 →
+        entry_at d k q ≢ whole (pos 0) → entry_at d l q ≢ whole (pos 0) → IsAbove d kept k →
+        IsAbove (exchanged d q l) (swapped (turned_at kept (q + 1) k) k l) k }
+    ensures leaves { (d : Dictionary) (kept : ℕ → ℕ → Number) (q k i c : ℕ) → basic_at d k ≡ 0 →
+        entry_at d k q ≢ whole (pos 0) → IsAbove d kept k →
+        (exchanged d q k).numbers i c ≡ (if c == 1 then whole (pos 0) else turned_at kept (q + 1) k i c) }
+{}
+
+/// A line of whole numbers over one denominator stays one in an exchange, and two ratios compare as the cross products of
+/// their whole numbers: Edmonds, Systems of distinct representatives and linear algebra; Bareiss, Sylvester's identity and
+/// multistep integer-preserving Gaussian elimination.
+///
+/// A line has `n` over `d`, and `f` for the variable that enters; the line of the variable that leaves has `x` over `e`, and
+/// `p` for the variable that enters; `a` and `b` are `p` and `f` without their common factor `g`.
+pub fn line_laws()
+    ensures divided { (x : ℤ) (p e : ℕ) → 0 < e → 0 < p → ratio x e /ℚ ratio (pos p) e ≡ ratio x p }
+    ensures lessened { (n x f b : ℤ) (d e p a g : ℕ) → 0 < d → 0 < e → 0 < a → 0 < g → p ≡ a * g → f ≡ b *ℤ pos g →
+        ratio (pos a *ℤ n -ℤ b *ℤ x) (a * d) ≡ ratio n d -ℚ ratio f d *ℚ (ratio x e /ℚ ratio (pos p) e) }
+    ensures compare_most { (r s : ℤ) (a b d e : ℕ) → 0 < a → 0 < b → 0 < d → 0 < e →
+        (ratio r d /ℚ ratio (pos a) d ≤ℚ ratio s e /ℚ ratio (pos b) e) ↔ ((r *ℤ pos b) ≤ℤ (s *ℤ pos a)) }
+    ensures compare_below { (r s : ℤ) (a b d e : ℕ) → 0 < a → 0 < b → 0 < d → 0 < e →
+        (ratio r d /ℚ ratio (pos a) d <ℚ ratio s e /ℚ ratio (pos b) e) ↔ ((r *ℤ pos b) <ℤ (s *ℤ pos a)) }
+{}
+
+/// Every step fits where each row is whole numbers over one denominator, all at most a bound, and twice the square of the
+/// bound is at most the limit: those of a ratio test, and those of an exchange at a number that is not 0.
+pub fn bound_laws()
+    ensures ratios { (limit bound : ℕ) (d : Dictionary) (pivot q : ℕ) → 2 * (bound * bound) ≤ limit → IsBounded d bound →
+        AllFit (ratio_steps limit pivot d q) }
+    ensures exchange { (limit bound : ℕ) (d : Dictionary) (pivot q k : ℕ) → 2 * (bound * bound) ≤ limit → IsBounded d bound →
+        entry_at d k q ≢ whole (pos 0) → AllFit (exchange_steps limit pivot d q k) }
+    ensures above { (n : ℕ → ℕ → ℤ) (d most : ℕ → ℕ) (bound k u : ℕ) (above : Dictionary) →
+        HasRoomAbove n d most bound k u → IsAbove above (over_denominators n d) k → IsBounded above bound }
+{}
+
+/// How a dictionary with variable 0 put off is read off the lines that are kept, where the number `u` of variable 0 in the
+/// row `k` is above 0: in row `k` the whole numbers stay and `u` is the denominator, and another row is exchanged.
+pub fn reading_laws()
+    ensures own { (n : ℕ → ℕ → ℤ) (d : ℕ → ℕ) (z k u c : ℕ) → n k z ≡ pos u → 0 < u → ((i : ℕ) → 0 < d i) →
+        turned_at (over_denominators n d) z k k c ≡ ratio (n k c) u }
+    ensures other { (n : ℕ → ℕ → ℤ) (d : ℕ → ℕ) (z k u i c : ℕ) → n k z ≡ pos u → 0 < u → ((i : ℕ) → 0 < d i) → i ≢ k →
+        turned_at (over_denominators n d) z k i c ≡ ratio (pos u *ℤ n i c -ℤ n i z *ℤ n k c) (u * d i) }
+{}

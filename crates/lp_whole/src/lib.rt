@@ -1,0 +1,21 @@
+//! Floor 4, linear programs. A dictionary as lines of whole numbers, each over one denominator, with variable 0 put off.
+#![tactic(auto)]
+
+mod choice;
+mod coefficients;
+mod exchange;
+mod laws;
+mod line;
+mod numbers;
+mod parts;
+mod put_off;
+mod read;
+mod room;
+mod step;
+mod whole;
+
+pub use laws::{bound_laws, line_laws, reading_laws, turning_laws};
+pub use line::Line;
+pub use parts::{Part, line_of_parts};
+pub use read::Fraction;
+pub use whole::Whole;

@@ -1,0 +1,87 @@
+//! The numbers that lines stand for.
+ghost use Rattle.std.specs.Prelude.{◌≡◌, ℕ, ◌+◌, ◌*◌, ◌<◌, ◌≤◌, ◌^◌, pos, ◌<ℤ◌, ◌-ℤ◌, ◌*ℤ◌, nat_abs, length};
+ghost use Rattle.gq_number.specs.Number.{ratio};
+ghost use Rattle.lp_whole.specs.Lines.{whole_at};
+ghost use Rattle.lp_whole.specs.Form.{wholes, IsLine, lines_number, numbers_above};
+ghost use Rattle.lp_whole.specs.Room.{AreWhole, HasRoom, row_denominator};
+
+use crate::line::{Line, magnitude_at, number_at};
+use crate::numbers::cross_difference;
+
+/// A number: a whole number over another that is above 0.
+#[derive(Clone, Copy)]
+pub struct Fraction {
+    /// The whole number.
+    pub numerator: i64,
+    /// What it is over.
+    pub denominator: u64,
+}
+
+/// The number of a line at a column.
+fn read_own(line: &Line, column: usize) -> Fraction
+    requires line { IsLine line.now }
+    requires within { column < length (wholes line.now) }
+    ensures numerator { result.numerator ≡ whole_at (wholes line.now) column }
+    ensures denominator { result.denominator ≡ line.now.denominator }
+{
+    Fraction {
+        numerator: number_at(line, column),
+        denominator: line.denominator,
+    }
+}
+
+/// The number of the line of variable 0, which is put off there, at a column.
+fn read_pivot(pivot: &Line, column: usize) -> Fraction
+    requires line { IsLine pivot.now }
+    requires within { (column < length (wholes pivot.now)) × (1 < length (wholes pivot.now)) }
+    ensures numerator { result.numerator ≡ whole_at (wholes pivot.now) column }
+    ensures denominator { result.denominator ≡ nat_abs (whole_at (wholes pivot.now) 1) }
+{
+    Fraction {
+        numerator: number_at(pivot, column),
+        denominator: magnitude_at(pivot, 1),
+    }
+}
+
+/// The number of a line at a column in the dictionary that the exchange of variable 0 into the pivot line makes.
+fn read_above(line: &Line, pivot: &Line, column: usize) -> Fraction
+    requires line { IsLine line.now }
+    requires pivot { IsLine pivot.now }
+    requires within { column < length (wholes line.now) }
+    requires sized { length (wholes pivot.now) ≡ length (wholes line.now) }
+    requires zero { 1 < length (wholes line.now) }
+    requires room { line.now.most * nat_abs (whole_at (wholes pivot.now) 1) + nat_abs (whole_at (wholes line.now) 1) * pivot.now.most < 2 ^ 63 }
+    ensures numerator { result.numerator ≡ whole_at (wholes pivot.now) 1 *ℤ whole_at (wholes line.now) column -ℤ whole_at (wholes line.now) 1 *ℤ whole_at (wholes pivot.now) column }
+    ensures denominator { result.denominator ≡ nat_abs (whole_at (wholes pivot.now) 1) * line.now.denominator }
+{
+    let u = number_at(pivot, 1);
+    let n = number_at(line, column);
+    let f = number_at(line, 1);
+    let x = number_at(pivot, column);
+    let numerator = cross_difference(u, n, f, x);
+    let denominator = magnitude_at(pivot, 1) * line.denominator;
+    Fraction {
+        numerator,
+        denominator,
+    }
+}
+
+/// The number of a row, or behind the rows of the objective, at a column.
+pub(crate) fn read(lines: &[Line], deferred: Option<usize>, place: usize, column: usize) -> Fraction
+    requires lines { (width bound : ℕ) × AreWhole lines.now deferred width bound × (column < width) }
+    requires within { place < length lines.now }
+    ensures positive { 0 < result.denominator }
+    ensures number { ratio result.numerator result.denominator ≡ numbers_above deferred (lines_number lines.now) place column }
+    ensures shared { result.denominator ≡ row_denominator deferred lines.now place }
+    ensures within { (bound : ℕ) → HasRoom deferred lines.now bound → (nat_abs result.numerator ≤ bound) × (result.denominator ≤ bound) }
+{
+    let line = &lines[place];
+    let Some(k) = deferred else {
+        return read_own(line, column);
+    };
+    let pivot = &lines[k];
+    if place == k {
+        return read_pivot(pivot, column);
+    }
+    read_above(line, pivot, column)
+}

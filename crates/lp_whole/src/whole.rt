@@ -1,0 +1,379 @@
+//! The dictionary by whole numbers.
+ghost use Rattle.std.specs.Prelude.{◌≡◌, ◌≢◌, ℕ, ◌+◌, ◌*◌, ◌<◌, ◌≤◌, ◌^◌, pos, nat_abs, length, slice_get, Some, None, IfOk, IfErr, MatchOption, Contains};
+ghost use Rattle.gq_number.specs.Number.{whole, ratio};
+ghost use Rattle.lp_core.specs.Dictionary.{OpeningIsDue, IsOpening, IsBland, IsLegal, Improves, exchanged};
+ghost use Rattle.lp_core.specs.LargestCoefficient.{HasGreatest};
+ghost use Rattle.lp_core.specs.Steps.{AllFit, ratio_steps, exchange_steps};
+ghost use Rattle.lp_exact.specs.Pivots.{IsProper, IsLeaving};
+ghost use Rattle.lp_exact.specs.Tableau.{IsPlace};
+ghost use Rattle.lp_whole.specs.Whole.{dictionary, whole_dictionary, IsPivoted};
+ghost use Rattle.lp_whole.specs.Form.{AreLines};
+
+use crate::choice::{first_above, least_constant, least_ratio};
+use crate::coefficients::greatest_above;
+use crate::line::Line;
+use crate::put_off::{forget_zero, raise_at, swap_lines};
+use crate::read::{Fraction, read};
+use crate::room::{all_within, has_room};
+use crate::step::turn_lines;
+use lp_core::Pivot;
+use std::alloc::{AllocError, Global};
+use std::marker::Model;
+
+/// A dictionary: an equation for each basic variable, and the objective, each as whole numbers over one denominator that pass no
+/// bound (Chvatal, Linear Programming, chapters 2 and 3; Edmonds, Systems of distinct representatives and linear algebra).
+///
+/// Variable 0 is the one of phase 1. While it is basic the lines are those of the dictionary in which it is not: its exchange is
+/// put off.
+#[derive(Drop)]
+pub struct Whole {
+    variables: u32,
+    basic: Vec<u32>,
+    lines: Vec<Line>,
+    deferred: Option<usize>,
+    bound: u64,
+}
+
+impl Model for Whole {
+    ghost use Rattle.lp_whole.specs.Whole.{WholeTableau, IsWhole};
+
+    ghost Value = { WholeTableau };
+
+    ghost view = { λ w. record { variables = w.variables; basic = w.basic.items; lines = w.lines.items; deferred = w.deferred; bound = w.bound } };
+
+    ghost invariant = { λ w. IsWhole (record { variables = w.variables; basic = w.basic.items; lines = w.lines.items; deferred = w.deferred; bound = w.bound }) };
+}
+
+/// The place of a variable among the basic ones.
+fn place_among(basic: &[u32], variable: u32) -> Option<usize>
+    ensures { IsPlace basic.now variable result }
+{
+    for (i, other) in basic.iter().enumerate() {
+        if *other == variable {
+            return Some(i);
+        }
+    }
+    None
+}
+
+impl Whole {
+    /// The dictionary of these lines: one for each basic variable, and behind them that of the objective. None where some part of
+    /// them passes the bound. Variable 0 is not basic.
+    pub fn of_lines(variables: u32, basic: Vec<u32>, lines: Vec<Line>, bound: u64) -> Option<Whole>
+        requires sized { variables + 2 < 2 ^ 32 }
+        requires small { bound < 2 ^ 63 }
+        requires paired { length lines.items ≡ length basic.items + 1 }
+        requires lines { AreLines (variables + 2) lines.items }
+        requires phase { ¬ (Contains basic.items 0) }
+        requires proper { IsProper (whole_dictionary variables basic.items lines.items None) }
+        ensures dictionary { MatchOption result (Unit {0}) (λ w. dictionary w ≡ whole_dictionary variables basic.items lines.items None) }
+        ensures bound { MatchOption result (Unit {0}) (λ w. w.bound ≡ bound) }
+    {
+        if !all_within(lines.as_slice(), bound) {
+            return None;
+        }
+        let whole = Whole {
+            variables,
+            basic,
+            lines,
+            deferred: None,
+            bound,
+        };
+        Some(whole)
+    }
+
+    /// The greatest number of a variable: there are as many and variable 0.
+    pub fn variables(&self) -> u32
+        ensures { result ≡ self.now.variables }
+    {
+        self.variables
+    }
+
+    /// The basic variable of each row.
+    pub fn basic(&self) -> &[u32]
+        ensures { result.now ≡ self.now.basic }
+    {
+        self.basic.as_slice()
+    }
+
+    /// The place of a variable's row; none where it is not basic.
+    pub fn place_of(&self, v: u32) -> Option<usize>
+        ensures { IsPlace self.now.basic v result }
+    {
+        place_among(self.basic.as_slice(), v)
+    }
+
+    /// The number of a row, or behind the rows of the objective, at a column: column 0 is the constant, and variable v is column
+    /// v + 1.
+    pub fn number(&self, row: usize, column: usize) -> Fraction
+        requires row { row ≤ length self.now.basic }
+        requires column { column ≤ self.now.variables + 1 }
+        ensures number { ratio result.numerator result.denominator ≡ (dictionary self.now).numbers row column }
+        ensures positive { 0 < result.denominator }
+        ensures within { (nat_abs result.numerator ≤ self.now.bound) × (result.denominator ≤ self.now.bound) }
+    {
+        read(self.lines.as_slice(), self.deferred, row, column)
+    }
+
+    /// The opening pivot of Bland's choice, where one is due: variable 0 enters, and of the variables with the least constant,
+    /// which is below 0, the least leaves.
+    pub fn opening(&self) -> Option<Pivot>
+        ensures { MatchOption result (¬ (OpeningIsDue (dictionary self.now)))
+            (λ p. ((k : ℕ) × IsOpening (dictionary self.now) p k) × IsBland (dictionary self.now) p) }
+    {
+        match least_constant(self.lines.as_slice(), self.deferred, self.basic.as_slice()) {
+            Some(candidate) => Some(Pivot {
+                enter: 0,
+                leave: candidate.variable,
+            }),
+            None => None,
+        }
+    }
+
+    /// The least variable that improves; none exactly where there is none.
+    pub fn entering(&self) -> Option<u32>
+        requires { ¬ (OpeningIsDue (dictionary self.now)) }
+        ensures { MatchOption result ((v : ℕ) → ¬ (Improves (dictionary self.now) v))
+            (λ q. Improves (dictionary self.now) q × ((v : ℕ) → Improves (dictionary self.now) v → q ≤ v)) }
+    {
+        match self.deferred {
+            Some(k) => first_above(&self.lines[k]),
+            None => first_above(&self.lines[self.basic.len()]),
+        }
+    }
+
+    /// The variable that improves with the greatest coefficient in the row by which pivots are chosen, and of several such the
+    /// least; none exactly where nothing improves. It walks that row once.
+    pub fn greatest(&self) -> Option<u32>
+        requires { ¬ (OpeningIsDue (dictionary self.now)) }
+        ensures { MatchOption result ((v : ℕ) → ¬ (Improves (dictionary self.now) v)) (HasGreatest (dictionary self.now)) }
+    {
+        match self.deferred {
+            Some(k) => greatest_above(&self.lines[k]),
+            None => greatest_above(&self.lines[self.basic.len()]),
+        }
+    }
+
+    /// The least of the variables that tie for leaving where `enter` enters; none exactly where no row limits that.
+    pub fn leaving(&self, enter: u32) -> Option<u32>
+        requires { Improves (dictionary self.now) enter }
+        ensures choice { IsLeaving (dictionary self.now) enter result }
+        ensures fits { (limit pivot : ℕ) → 2 * (self.now.bound * self.now.bound) ≤ limit → AllFit (ratio_steps limit pivot (dictionary self.now) enter) }
+    {
+        match least_ratio(
+            self.lines.as_slice(),
+            self.deferred,
+            self.basic.as_slice(),
+            enter as usize + 1,
+        ) {
+            Some(candidate) => Some(candidate.variable),
+            None => None,
+        }
+    }
+
+    /// The opening pivot: variable 0 enters in this row, and is put off there; or the same, where there is no room for it.
+    fn open(self, p: Pivot, place: usize) -> Result<Whole, Whole>
+        requires legal { IsLegal (dictionary self) p place }
+        requires opens { p.enter ≡ 0 }
+        ensures { IsPivoted self p place result }
+    {
+        let Whole {
+            variables,
+            mut basic,
+            mut lines,
+            deferred,
+            bound,
+        } = self;
+        if !has_room(lines.as_slice(), place, bound) {
+            let same = Whole {
+                variables,
+                basic,
+                lines,
+                deferred,
+                bound,
+            };
+            return Err(same);
+        }
+        raise_at(&mut lines, place);
+        basic[place] = p.enter;
+        let after = Whole {
+            variables,
+            basic,
+            lines,
+            deferred: Some(place),
+            bound,
+        };
+        Ok(after)
+    }
+
+    /// A pivot where nothing is put off.
+    fn step_plain(
+        self,
+        alloc: Global,
+        p: Pivot,
+        place: usize,
+    ) -> Result<Result<Whole, Whole>, AllocError>
+        requires legal { IsLegal (dictionary self) p place }
+        requires later { p.enter ≢ 0 }
+        requires plain { self.deferred ≡ None }
+        ensures { IfOk result (IsPivoted self p place) }
+    {
+        let Whole {
+            variables,
+            mut basic,
+            mut lines,
+            deferred,
+            bound,
+        } = self;
+        let column = p.enter as usize + 1;
+        let done = turn_lines(alloc, &mut lines, place, place, column, bound)?;
+        if !done {
+            let same = Whole {
+                variables,
+                basic,
+                lines,
+                deferred,
+                bound,
+            };
+            return Ok(Err(same));
+        }
+        basic[place] = p.enter;
+        let after = Whole {
+            variables,
+            basic,
+            lines,
+            deferred: None,
+            bound,
+        };
+        Ok(Ok(after))
+    }
+
+    /// A pivot by which variable 0 leaves: nothing is put off any more.
+    fn step_out(
+        self,
+        alloc: Global,
+        p: Pivot,
+        place: usize,
+    ) -> Result<Result<Whole, Whole>, AllocError>
+        requires legal { IsLegal (dictionary self) p place }
+        requires later { p.enter ≢ 0 }
+        requires out { self.deferred ≡ Some place }
+        ensures { IfOk result (IsPivoted self p place) }
+    {
+        let Whole {
+            variables,
+            mut basic,
+            mut lines,
+            deferred,
+            bound,
+        } = self;
+        let column = p.enter as usize + 1;
+        let done = turn_lines(alloc, &mut lines, place, place, column, bound)?;
+        if !done {
+            let same = Whole {
+                variables,
+                basic,
+                lines,
+                deferred,
+                bound,
+            };
+            return Ok(Err(same));
+        }
+        forget_zero(&mut lines);
+        basic[place] = p.enter;
+        let after = Whole {
+            variables,
+            basic,
+            lines,
+            deferred: None,
+            bound,
+        };
+        Ok(Ok(after))
+    }
+
+    /// A pivot by which another variable leaves than 0, which stays put off in row `k`: the kept lines are exchanged there, and
+    /// the two lines change places.
+    fn step_other(
+        self,
+        alloc: Global,
+        p: Pivot,
+        place: usize,
+        k: usize,
+    ) -> Result<Result<Whole, Whole>, AllocError>
+        requires legal { IsLegal (dictionary self) p place }
+        requires later { p.enter ≢ 0 }
+        requires off { self.deferred ≡ Some k }
+        requires apart { place ≢ k }
+        ensures { IfOk result (IsPivoted self p place) }
+    {
+        let Whole {
+            variables,
+            mut basic,
+            mut lines,
+            deferred,
+            bound,
+        } = self;
+        let column = p.enter as usize + 1;
+        let done = turn_lines(alloc, &mut lines, k, place, column, bound)?;
+        if !done {
+            let same = Whole {
+                variables,
+                basic,
+                lines,
+                deferred,
+                bound,
+            };
+            return Ok(Err(same));
+        }
+        swap_lines(alloc, &mut lines, k, place);
+        raise_at(&mut lines, k);
+        basic[place] = p.enter;
+        let after = Whole {
+            variables,
+            basic,
+            lines,
+            deferred: Some(k),
+            bound,
+        };
+        Ok(Ok(after))
+    }
+
+    /// The dictionary after a legal pivot, in which `p.enter` stands in the row of `p.leave`, as the inner `Ok`; variable 0 is
+    /// dropped where it leaves. The inner `Err` is the same dictionary, where its whole numbers might pass the bound.
+    ///
+    /// The error is want of memory; after it the dictionary is gone.
+    pub fn pivot(self, alloc: Global, p: Pivot) -> Result<Result<Whole, Whole>, AllocError>
+        requires { (k : ℕ) × IsLegal (dictionary self) p k }
+        ensures exchanged { IfOk result (λ r. IfOk r (λ after. (k : ℕ) → slice_get self.basic k ≡ Some p.leave →
+            dictionary after ≡ exchanged (dictionary self) p.enter k)) }
+        ensures bound { IfOk result (λ r. IfOk r (λ after. after.bound ≡ self.bound)) }
+        ensures same { IfOk result (λ r. IfErr r (λ same. (dictionary same ≡ dictionary self) × (same.bound ≡ self.bound))) }
+        ensures fits { (limit pivot k : ℕ) → 2 * (self.bound * self.bound) ≤ limit → slice_get self.basic k ≡ Some p.leave →
+            AllFit (exchange_steps limit pivot (dictionary self) p.enter k) }
+    {
+        let Some(place) = place_among(self.basic.as_slice(), p.leave) else {
+            unreachable!();
+        };
+        if p.enter == 0 {
+            return Ok(self.open(p, place));
+        }
+        let Some(k) = self.deferred else {
+            return self.step_plain(alloc, p, place);
+        };
+        if place == k {
+            return self.step_out(alloc, p, place);
+        }
+        self.step_other(alloc, p, place, k)
+    }
+
+    /// What each of them keeps: a law, which does nothing.
+    pub fn keeps(&self)
+        ensures proper { IsProper (dictionary self.now) }
+        ensures sized { self.now.variables + 2 < 2 ^ 32 }
+        ensures bound { self.now.bound < 2 ^ 63 }
+        ensures past { (k c : ℕ) → length self.now.basic ≤ k → (dictionary self.now).numbers k c ≡ (dictionary self.now).numbers (length self.now.basic) c }
+        ensures outside { (k c : ℕ) → self.now.variables + 2 ≤ c → (dictionary self.now).numbers k c ≡ whole (pos 0) }
+    {
+        let _bound = self.bound;
+    }
+}
