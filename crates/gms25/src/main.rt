@@ -1,62 +1,51 @@
 //! Floor 7, outside. The program `gams25`: its words, the real files and standard output, and the exit status.
 #![tactic(auto)]
 
-ghost use Rattle.std.specs.Prelude.{◌≡◌, ◌↔◌, drop, IfOk};
+ghost use Rattle.std.specs.Prelude.{◌≡◌, ◌↔◌, ◌⊎◌, IfOk};
 ghost use Rattle.std.specs.Process.{exit_status};
 ghost use Rattle.gms_words.specs.CommandLine.{texts, request_of};
-ghost use Rattle.gms_run.specs.Statuses.{EndsByNoFault, IsReadyFor, OfStatus};
-ghost use Rattle.gms25.specs.Program.{RunsWith, exit_of};
+ghost use Rattle.gms_run.specs.Statuses.{CountsSo, EndsByNoFault, IsReadyFor, MeetsNoFault, NamesProgram};
+ghost use Rattle.gms25.specs.Program.{HasWords, RunsGiven, RunsWith, both, exit_of};
 
 use gms_host::{Host, RealHost};
-use gms_run::run;
+use gms_run::{Status, run};
 use lp_bland::Bland;
 use lp_dantzig::Dantzig;
 use lp_slot::LpSolver;
 use std::alloc::{AllocError, Global};
-use std::env;
+use std::env::{self, Args};
 use std::io::{self, ErrorKind};
 use std::process::ExitCode;
-use std::rt::Env;
 
 /// The exit status where memory was wanting.
 const OUT_OF_MEMORY: u8 = 6;
 
-/// The command's words, the program's name first.
+/// The words of the command, of what the process gives: all behind the program's name.
 ///
-/// Where one of them is not UTF-8 there are none, which a run refuses as it refuses that word.
-fn words(rt: &(impl Env + AllocGlobal), alloc: Global) -> io::Result<Vec<String>> {
-    let mut words = Vec::new(alloc);
-    let args = match env::args(rt) {
-        Err(error) if error.kind() == ErrorKind::InvalidData => return Ok(words),
-        args => args?,
-    };
-    for word in args {
-        words.push(word)?;
-    }
-    Ok(words)
-}
-
-/// The words behind the program's name: all but the first.
-fn behind_name(words: &[String]) -> &[String]
-    ensures { result.now ≡ drop 1 words.now }
+/// Where one of them is not UTF-8 there are none, which a run refuses as it refuses that word. Any other error is want of memory.
+fn words(alloc: Global, args: io::Result<Args>) -> Result<Vec<String>, AllocError>
+    ensures { IfOk result (λ words. HasWords args words.items) }
 {
-    match words.split_first() {
-        Some((_, behind)) => behind,
-        None => words,
+    match args {
+        Ok(args) => args.skip(1).collect(alloc),
+        Err(error) if error.kind() == ErrorKind::InvalidData => Ok(Vec::new(alloc)),
+        Err(_) => Err(AllocError),
     }
 }
 
-/// Runs the words over a host with the solver by Bland's rule and the one by the largest coefficient, and tells the exit status, which is
-/// that of the run. A source that chooses none has the first.
+/// Runs the words over a host with the solver by Bland's rule and the one by the largest coefficient, and tells how the run ends. A
+/// source that chooses none has the first.
 fn run_with_solvers<H: Host>(
     alloc: Global,
     words: &[String],
     host: &mut H,
-) -> Result<u8, AllocError>
+) -> Result<Status, AllocError>
     ensures run { IfOk result (λ status. RunsWith status (texts words.now) (H.meaning host.old) (H.meaning host.new)) }
+    ensures counts { IfOk result (λ status. CountsSo status (H.meaning host.old).counts (H.meaning host.new).counts) }
     ensures steady { IsReadyFor (H.meaning host.old) (texts words.now) → (H.meaning host.new).counts ≡ (H.meaning host.old).counts }
-    ensures no_fault { IsReadyFor (H.meaning host.old) (texts words.now) → IfOk result (λ status. OfStatus status EndsByNoFault) }
-    ensures usage { IfOk result (λ status. (status ≡ 1) ↔ (request_of (texts words.now) ≡ None)) }
+    ensures no_fault { IsReadyFor (H.meaning host.old) (texts words.now) → IfOk result EndsByNoFault }
+    ensures usage { IfOk result (λ status. (status ≡ Status.Usage) ↔ (request_of (texts words.now) ≡ None)) }
+    ensures complete { NamesProgram both.names (H.meaning host.old).outside (texts words.now) → MeetsNoFault (H.meaning host.old).counts (H.meaning host.new).counts → IfOk result (λ status. (status ≡ Status.Done) ⊎ (status ≡ Status.Execution)) }
 {
     let mut solvers: Vec<Box<dyn LpSolver>> = Vec::new(alloc);
     solvers.push(Box::new(alloc, Bland::new(alloc))?)?;
@@ -65,21 +54,30 @@ fn run_with_solvers<H: Host>(
     Ok(ended.status)
 }
 
+/// Runs the words that the process gives over a host, and tells how the run ends.
+fn run_given<H: Host>(
+    alloc: Global,
+    args: io::Result<Args>,
+    host: &mut H,
+) -> Result<Status, AllocError>
+    ensures { IfOk result (λ status. RunsGiven status args (H.meaning host.old) (H.meaning host.new)) }
+{
+    let words = words(alloc, args)?;
+    run_with_solvers(alloc, words.as_slice(), host)
+}
+
 /// The exit status of the process.
-fn exit_code(ended: Result<u8, AllocError>) -> ExitCode
+fn exit_code(ended: Result<Status, AllocError>) -> ExitCode
     ensures { exit_status result ≡ exit_of ended }
 {
     match ended {
-        Ok(status) => ExitCode::from(status),
+        Ok(status) => ExitCode::from(status.code()),
         Err(AllocError) => ExitCode::from(OUT_OF_MEMORY),
     }
 }
 
 fn main(rt: HostRuntime) -> ExitCode {
     let alloc = rt.alloc();
-    let Ok(words) = words(&rt, alloc) else {
-        return ExitCode::from(OUT_OF_MEMORY);
-    };
-    let words = behind_name(words.as_slice());
-    exit_code(run_with_solvers(alloc, words, &mut RealHost::new(rt)))
+    let args = env::args(&rt);
+    exit_code(run_given(alloc, args, &mut RealHost::new(rt)))
 }

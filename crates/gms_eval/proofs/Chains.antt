@@ -6,10 +6,10 @@ use Rattle.gq_extended.specs.Extended.{Extended}
 use Rattle.gms_ast.specs.Trees.{Mark}
 use Rattle.gms_eval.specs.declared.stop.StopOrMemory.{StopOrMemory}
 use Rattle.gms_eval.specs.declared.stop.StopOrMemory.TheVariants.{Memory, Stop}
-use Rattle.gms_eval.specs.Answers.{Marked, Step, joined}
+use Rattle.gms_eval.specs.Nodes.{Marked, Step, joined}
 use Rattle.gms_eval.specs.Faults.{Answer, Fault, ◌and_then◌}
 use Rattle.gms_eval.specs.Gives.{fault_of, Stops}
-use Rattle.gms_eval.specs.Steps.{after}
+use Rattle.gms_eval.specs.InnerSteps.{after}
 
 module _ (step : Step) (empty : Answer Extended) where
   -- the next part has a value, and the step gives one

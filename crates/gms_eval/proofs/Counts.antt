@@ -5,7 +5,7 @@ use Rattle.gq_number.specs.Number.{Number, whole, ratio}
 use Rattle.gq_number.proofs.Naming.{ratio-one}
 use Rattle.gq_field.specs.Fits.{fits}
 use Rattle.gq_extended.specs.Extended.{number, number_if}
-use Rattle.gms_eval.specs.Answers.{counted}
+use Rattle.gms_eval.specs.Nodes.{counted}
 use Rattle.gms_eval.specs.Bindings.{Pairs}
 use Rattle.gms_eval.specs.Faults.{nothing, faulted, taken}
 use Rattle.gms_eval.specs.declared.stop.StopKind.TheVariants.{Limit}

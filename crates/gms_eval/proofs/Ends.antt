@@ -6,7 +6,7 @@ use Rattle.gq_extended.specs.Extended.{Extended}
 use Rattle.gq_extended.specs.declared.extended.Ext.{Ext}
 use Rattle.gq_extended.specs.Meaning.{extended}
 use Rattle.gms_ast.specs.Trees.{Mark}
-use Rattle.gms_eval.specs.Answers.{Step, joined}
+use Rattle.gms_eval.specs.Nodes.{Step, joined}
 use Rattle.gms_eval.specs.Faults.{Answer, nothing}
 use Rattle.gms_eval.proofs.Chains.{from_here, chain-end}
 use Rattle.gms_eval.proofs.Marks.{value_or}

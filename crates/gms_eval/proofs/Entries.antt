@@ -22,13 +22,13 @@ use Rattle.gms_tuple.specs.TupleSet.{has, those_with}
 use Rattle.gms_tuple.proofs.Ordered.{same_tuple-Decides, same_tuple_refl}
 use Rattle.gms_tuple.proofs.Members.{has-filter}
 use Rattle.gms_store.specs.State.{State, Content, undeclared, alias_of, set_of, parameter_of, variable_of, equation_of, model_with, symbol_of, given_of, value_in, is_given, same_number, differs_in}
-use Rattle.gms_eval.specs.Answers.{in_order, is_so, truth}
+use Rattle.gms_eval.specs.Nodes.{in_order, is_so, truth}
 use Rattle.gms_eval.specs.Bindings.{Pairs, label_of, paired, controlled}
 use Rattle.gms_eval.specs.Domain.{elements}
 use Rattle.gms_eval.specs.Faults.{Answer, nothing, ◌and_then◌}
 use Rattle.gms_eval.specs.References.{all_there, tuple_of, plain_value}
-use Rattle.gms_eval.specs.Leading.{walked, spread_over, plain_so, Leads, tuple_answer, entry_holds}
-use Rattle.gms_eval.specs.Walks.{label_answer}
+use Rattle.gms_eval.specs.InnerLeading.{walked, spread_over, plain_so, Leads, tuple_answer, entry_holds}
+use Rattle.gms_eval.specs.Value.{label_answer}
 use Rattle.gms_eval.specs.declared.walk.Walk.{Walk}
 use Rattle.gms_eval.proofs.Scanning.{nothing_not_so}
 use Rattle.gms_eval.proofs.Shapes.{label-alone}

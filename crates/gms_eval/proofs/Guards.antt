@@ -6,7 +6,7 @@ use Rattle.gq_number.specs.Number.{Number}
 use Rattle.gq_extended.specs.Extended.{Extended}
 use Rattle.gms_eval.specs.declared.stop.StopOrMemory.{StopOrMemory}
 use Rattle.gms_eval.specs.declared.stop.StopOrMemory.TheVariants.{Memory, Stop}
-use Rattle.gms_eval.specs.Answers.{each_holds, is_so}
+use Rattle.gms_eval.specs.Nodes.{each_holds, is_so}
 use Rattle.gms_eval.specs.Faults.{Answer, Fault, nothing, ◌and_then◌}
 use Rattle.gms_eval.specs.Gives.{fault_of, Stops}
 

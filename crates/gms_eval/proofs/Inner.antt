@@ -5,7 +5,7 @@ use Rattle.gq_extended.specs.Extended.{Extended}
 use Rattle.gms_ast.specs.Trees.{Tree}
 use Rattle.gms_store.specs.State.{State}
 use Rattle.gms_eval.specs.declared.stop.StopOrMemory.{StopOrMemory}
-use Rattle.gms_eval.specs.Answers.{is_so}
+use Rattle.gms_eval.specs.Nodes.{is_so}
 use Rattle.gms_eval.specs.Bindings.{Pairs, paired, controlled}
 use Rattle.gms_eval.specs.Faults.{◌and_then◌}
 use Rattle.gms_eval.specs.Gives.{Stops}

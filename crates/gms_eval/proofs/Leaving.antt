@@ -3,10 +3,10 @@ use Rattle.std.proofs.Common.{◌≡◌, ℕ, ◌+◌, ◌<◌, Bool, true, fals
 use Rattle.gms_labels.specs.declared.place.Place.{Place}
 use Rattle.gq_extended.specs.Extended.{Extended}
 use Rattle.gms_ast.specs.Trees as tree
-use Rattle.gms_eval.specs.Answers.{is_so, truth, either, all_step, one_step}
+use Rattle.gms_eval.specs.Nodes.{is_so, truth, either, all_step, one_step, signed_step}
 use Rattle.gms_eval.specs.Bindings.{Pairs}
 use Rattle.gms_eval.specs.Faults.{Answer, Fault, nothing, ◌and_then◌}
-use Rattle.gms_eval.specs.Steps.{is_left_by_and, is_left_by_or, signed_step}
+use Rattle.gms_eval.specs.InnerSteps.{is_left_by_and, is_left_by_or}
 use Rattle.gms_eval.specs.declared.steps.Signed.{Signed}
 use Rattle.gms_eval.specs.declared.steps.Signed.TheVariants.{Sum, Product}
 use Rattle.gms_eval.proofs.Chains.{from_here, chain-left}

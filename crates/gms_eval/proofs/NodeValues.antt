@@ -15,12 +15,11 @@ use Rattle.gms_ast.specs.Trees as tree
 use Rattle.gms_ast.specs.TreeView.{tree_of, control_tree}
 use Rattle.gms_ast.proofs.TreeEquations.{tree_of-Ref, tree_of-Call, tree_of-Fold, tree_of-Neg, tree_of-Plus, tree_of-Times, tree_of-Power, tree_of-Relate, tree_of-Not, tree_of-And, tree_of-Or, tree_of-Guard}
 use Rattle.gms_store.specs.State.{State}
-use Rattle.gms_eval.specs.Answers.{chain, sum_step, product_step, power_step, relation_step, all_step, one_step, in_order, called, folded, each_holds, is_so, truth}
+use Rattle.gms_eval.specs.Nodes.{chain, sum_step, product_step, power_step, relation_step, all_step, one_step, in_order, called, folded, each_holds, is_so, truth}
 use Rattle.gms_eval.specs.Bindings.{Pairs, controlled}
 use Rattle.gms_eval.specs.Faults.{Answer, nothing, ◌and_then◌}
 use Rattle.gms_eval.specs.References.{tuple_of, entry_of}
-use Rattle.gms_eval.specs.Value.{value, domain, sets_of}
-use Rattle.gms_eval.specs.Walks.{label_answer}
+use Rattle.gms_eval.specs.Value.{value, domain, sets_of, label_answer}
 use Rattle.gms_eval.proofs.Answering.{and_then_assoc}
 use Rattle.gms_eval.proofs.TreeValues.{values-parts_of, unmarked-parts_of, labels-indices_of}
 

@@ -8,10 +8,10 @@ use Rattle.gq_extended.specs.Extended.{Extended}
 use Rattle.gms_ast.specs.declared.expression.Expr.{Expr, And, Guard}
 use Rattle.gms_ast.specs.Trees as tree
 use Rattle.gms_store.specs.State.{State}
-use Rattle.gms_eval.specs.Answers.{Marked, joined, chain, all_step, each_holds, is_so, truth}
+use Rattle.gms_eval.specs.Nodes.{Marked, joined, chain, all_step, each_holds, is_so, truth}
 use Rattle.gms_eval.specs.Bindings.{Pairs, controlled}
 use Rattle.gms_eval.specs.Faults.{Answer, Fault, nothing, ◌and_then◌}
-use Rattle.gms_eval.specs.Leading.{Condition, both, each_in_turn, Leads, IsScan, expression_holds, all_hold_in_turn, guards_hold}
+use Rattle.gms_eval.specs.InnerLeading.{Condition, both, each_in_turn, Leads, IsScan, expression_holds, all_hold_in_turn, guards_hold}
 use Rattle.gms_eval.specs.Value.{when_so}
 use Rattle.gms_eval.specs.declared.leading.Scan.{Scan}
 use Rattle.gms_eval.specs.declared.walk.Walk.{Walk}

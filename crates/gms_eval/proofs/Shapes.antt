@@ -18,15 +18,15 @@ use Rattle.gms_ast.specs.TreeView.{control_of, tree_step, index_step, control_st
 use Rattle.gms_store.specs.State.{State, members_of}
 use Rattle.gms_eval.specs.declared.elements.Elements.{Elements}
 use Rattle.gms_eval.specs.declared.stop.StopOrMemory.{StopOrMemory}
-use Rattle.gms_eval.specs.Answers.{counted, folded, truth}
+use Rattle.gms_eval.specs.Nodes.{counted, folded, truth}
 use Rattle.gms_eval.specs.Bindings.{Pairs, label_of, controlled}
 use Rattle.gms_eval.specs.Domain.{elements, sized, those_where}
 use Rattle.gms_eval.specs.Faults.{◌and_then◌}
 use Rattle.gms_eval.specs.Gives.{Stops}
 use Rattle.gms_eval.specs.Holds.{holds}
 use Rattle.gms_eval.specs.References.{place_in_set, reached}
-use Rattle.gms_eval.specs.Value.{value, domain, sets_of}
-use Rattle.gms_eval.specs.Walks.{those_of, IsCounted, first_label, label_answer}
+use Rattle.gms_eval.specs.Value.{value, domain, sets_of, first_label, label_answer}
+use Rattle.gms_eval.specs.InnerWalks.{those_of, IsCounted}
 use Rattle.gms_eval.proofs.Answering.{stops-then, then-value}
 use Rattle.gms_eval.proofs.NodeValues.{of_expr, value-Fold}
 

@@ -7,10 +7,9 @@ use Rattle.gms_ast.specs.declared.expression.Expr.TheFolds.{fold_out-Index}
 use Rattle.gms_ast.specs.Trees.{Mark, Tree, Indices, no_index, Control}
 use Rattle.gms_ast.specs.TreeView.{parts_of, indices_of, tree_step, index_step, control_step, index_tree}
 use Rattle.gms_store.specs.State.{State}
-use Rattle.gms_eval.specs.Answers.{unmarked}
+use Rattle.gms_eval.specs.Nodes.{unmarked}
 use Rattle.gms_eval.specs.Bindings.{Pairs}
-use Rattle.gms_eval.specs.Value.{value, values, labels}
-use Rattle.gms_eval.specs.Walks.{first_label, label_answer}
+use Rattle.gms_eval.specs.Value.{value, values, labels, first_label, label_answer}
 
 module _ {F : Type 0} (v : F → Number) (limit : ℕ) (state : State) (b : Pairs) where
   -- the answers of parts are those of their trees

@@ -2,10 +2,10 @@
 use Rattle.std.proofs.Common.{◌≡◌, ℕ, ◌+◌, ◌<◌, ◌≤◌, suc, nat_le, nat_lt, Bool, true, false, List, [], ◌∷◌, ◌++◌, drop, map, get_or, length, Option, Some, None, option_map, Ok, Err, if◌then◌else◌, refl, sym, ap, ◌∙◌, append-nil, append_assoc, inl, inr, le-leb, lt-ltb, le-ltb, arith}
 use Rattle.std.proofs.lemmas.List.{at_drop_more, at_drop_all, length_push}
 use Rattle.std.proofs.lemmas.Bool.{cases_lt, lt-leb}
-use Rattle.gms_eval.specs.Answers.{in_order}
+use Rattle.gms_eval.specs.Nodes.{in_order}
 use Rattle.gms_eval.specs.Faults.{Answer, Fault, ◌and_then◌}
 use Rattle.gms_eval.specs.References.{all_there, tuple_of}
-use Rattle.gms_eval.specs.Walks.{with_label}
+use Rattle.gms_eval.specs.InnerWalks.{with_label}
 use Rattle.gms_eval.proofs.Answering.{and_then_assoc}
 
 -- a tuple filled by the labels that are left

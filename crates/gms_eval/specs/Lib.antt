@@ -1,12 +1,12 @@
-pub mod Answers
 pub mod Bindings
 pub mod Domain
 pub mod Faults
 pub mod Gives
 pub mod Holds
 pub mod Lag
-pub mod Leading
+pub mod Nodes
 pub mod References
-pub mod Steps
 pub mod Value
-pub mod Walks
+pub mod InnerLeading
+pub mod InnerSteps
+pub mod InnerWalks

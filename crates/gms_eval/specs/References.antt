@@ -8,7 +8,7 @@ use Rattle.gms_ast.specs.declared.expression.LagOp.{LagOp}
 use Rattle.gms_ast.specs.declared.expression.Suffix.{Suffix}
 use Rattle.gms_ast.specs.declared.expression.Suffix.TheVariants as suffix
 use Rattle.gms_store.specs.State.{State, Content, set_of, symbol_of, members_of, value_of, attributes_of, statuses_in}
-use Rattle.gms_eval.specs.Answers.{truth, counted}
+use Rattle.gms_eval.specs.Nodes.{truth, counted}
 use Rattle.gms_eval.specs.Bindings.{Pairs, label_of}
 use Rattle.gms_eval.specs.Faults.{Answer, nothing, faulted, ◌and_then◌}
 use Rattle.gms_eval.specs.Lag.{lagged_label, whole_number}

@@ -4,9 +4,11 @@ use Rattle.std.specs.Prelude.{ℕ, Bool, true, false, not, List, [], ◌∷◌, 
 use Rattle.gms_labels.specs.declared.place.Place.{Place}
 use Rattle.gq_number.specs.Number.{Number}
 use Rattle.gq_extended.specs.Extended.{Extended, number, plus_infinity, na, negated}
+use Rattle.gms_ast.specs.declared.expression.Index.{Index}
+use Rattle.gms_ast.specs.TreeView.{index_tree}
 use Rattle.gms_ast.specs.Trees as tree
 use Rattle.gms_store.specs.State.{State, members_of}
-use Rattle.gms_eval.specs.Answers.{Marked, unmarked, is_so, truth, chain, sum_step, product_step, power_step, relation_step, all_step, one_step, called, counted, folded, in_order, each_holds}
+use Rattle.gms_eval.specs.Nodes.{Marked, unmarked, is_so, truth, chain, sum_step, product_step, power_step, relation_step, all_step, one_step, called, counted, folded, in_order, each_holds}
 use Rattle.gms_eval.specs.Bindings.{Pairs, label_of, controlled}
 use Rattle.gms_eval.specs.Domain.{elements, sized, those_where}
 use Rattle.gms_eval.specs.Faults.{Answer, nothing, ◌and_then◌}
@@ -72,3 +74,14 @@ module _ {F : Type 0} (number_of : F → Number) (limit : ℕ) (state : State) w
     domain binding at (tree.over sets) = sized at binding (elements state sets)
     domain binding at (tree.over_where sets condition) =
         sized at binding (elements state sets) and_then λ all. those_where (λ element. when_so (value (controlled binding sets element) condition)) all
+
+  -- the label of the first of some indices
+  abbrev pub first_label : Pairs → tree.Indices F → Answer (Option ℕ)
+  first_label binding tree.no_index = Ok None
+  first_label binding (tree.label n rest) = Ok (Some n)
+  first_label binding (tree.set name rest) = Ok (label_of binding name)
+  first_label binding (tree.lagged name op at amount rest) = value binding amount and_then λ x. reached state binding name op at x
+
+  -- the label of an index
+  abbrev pub label_answer : Pairs → Index F → Answer (Option ℕ)
+  label_answer binding index = first_label binding (index_tree index tree.no_index)

@@ -3,16 +3,15 @@ ghost use Rattle.std.specs.Prelude.{◌≡◌, map, Ok, IfOk, option_map, option
 ghost use Rattle.gq_extended.specs.Meaning.{extended};
 ghost use Rattle.gms_ast.specs.TreeView.{tree_of, control_tree};
 ghost use Rattle.gms_ast.specs.Trees.{plain, signed, placed, related, chosen};
-ghost use Rattle.gms_eval.specs.Answers.{chain, power_step, relation_step, all_step, one_step, in_order, each_holds, folded};
+ghost use Rattle.gms_eval.specs.Nodes.{chain, power_step, relation_step, all_step, one_step, in_order, each_holds, folded, signed_step};
 ghost use Rattle.gms_eval.specs.Bindings.{controlled};
 ghost use Rattle.gms_eval.specs.Domain.{those_where};
 ghost use Rattle.gms_eval.specs.Faults.{◌and_then◌};
 ghost use Rattle.gms_eval.specs.Gives.{Gives};
 ghost use Rattle.gms_eval.specs.Holds.{holds};
 ghost use Rattle.gms_eval.specs.References.{tuple_of};
-ghost use Rattle.gms_eval.specs.Steps.{signed_step};
-ghost use Rattle.gms_eval.specs.Value.{value, domain, control_over};
-ghost use Rattle.gms_eval.specs.Walks.{those_of, IsCounted, label_answer};
+ghost use Rattle.gms_eval.specs.Value.{value, domain, control_over, label_answer};
+ghost use Rattle.gms_eval.specs.InnerWalks.{those_of, IsCounted};
 
 use crate::binding::Binding;
 use crate::elements::{Elements, all, keep, size};
@@ -110,9 +109,11 @@ pub fn value<F: ExactField>(
     }
 }
 
-/// The value of a sum or a product.
+/// The value of a sum or a product of parts, joined from the left to the right; that of no parts is 0.
+///
+/// Each part has its place, and whether it is subtracted, or divides, which says nothing of the first. A stop is the first fault of a part or a step.
 #[cycle(value)]
-fn signed_chain<F: ExactField>(
+pub fn signed_chain<F: ExactField>(
     alloc: Global,
     store: &Store<F>,
     kind: Signed,

@@ -2,7 +2,7 @@
 ghost use Rattle.std.specs.Prelude.{◌≡◌, map, fold};
 ghost use Rattle.gq_extended.specs.Meaning.{extended};
 ghost use Rattle.gq_extended.specs.ExtendedOrder.{lesser, greater};
-ghost use Rattle.gms_eval.specs.Answers.{called, of_one, of_two, remainder_of, extreme};
+ghost use Rattle.gms_eval.specs.Nodes.{called, of_one, of_two, remainder_of, extreme};
 ghost use Rattle.gms_eval.specs.Gives.{Gives};
 
 use crate::binding::Binding;

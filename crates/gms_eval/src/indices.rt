@@ -6,7 +6,7 @@ ghost use Rattle.gms_tuple.specs.TupleSet.{place_of};
 ghost use Rattle.gms_eval.specs.Gives.{Gives};
 ghost use Rattle.gms_eval.specs.Lag.{label_in, lagged_label, whole_number};
 ghost use Rattle.gms_eval.specs.References.{place_in_set, reached};
-ghost use Rattle.gms_eval.specs.Walks.{within, moved_place, with_label};
+ghost use Rattle.gms_eval.specs.InnerWalks.{within, moved_place, with_label};
 
 use crate::binding::Binding;
 use crate::steps::zero;

@@ -7,8 +7,9 @@ ghost use Rattle.gms_tuple.specs.TupleSet.{has};
 ghost use Rattle.gms_eval.specs.Bindings.{Pairs, label_of, controlled};
 ghost use Rattle.gms_eval.specs.Domain.{elements, those_where};
 ghost use Rattle.gms_eval.specs.Holds.{holds};
-ghost use Rattle.gms_eval.specs.Leading.{Condition, both, Leads, IsScan, spread_over, label_answers, tuple_answer, entry_holds, expression_holds, all_hold_in_turn, guards_hold};
-ghost use Rattle.gms_eval.specs.Walks.{those_of, IsCounted, label_answer};
+ghost use Rattle.gms_eval.specs.InnerLeading.{Condition, both, Leads, IsScan, spread_over, label_answers, tuple_answer, entry_holds, expression_holds, all_hold_in_turn, guards_hold};
+ghost use Rattle.gms_eval.specs.InnerWalks.{those_of, IsCounted};
+ghost use Rattle.gms_eval.specs.Value.{label_answer};
 
 use crate::binding::Binding;
 use crate::elements::{Elements, MOST_ELEMENTS, count};

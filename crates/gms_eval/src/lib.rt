@@ -13,5 +13,6 @@ mod stop;
 mod walk;
 
 pub use binding::Binding;
-pub use expressions::{all_hold, domain, domain_over, holds, tuple_of, value};
+pub use expressions::{all_hold, domain, domain_over, holds, signed_chain, tuple_of, value};
+pub use steps::Signed;
 pub use stop::{ExecStop, StopKind, StopOrMemory, taken};

@@ -3,9 +3,9 @@ ghost use Rattle.std.specs.Prelude.{◌≡◌, ◌||◌, not, true, option_map, 
 ghost use Rattle.gq_extended.specs.Meaning.{extended, outcome};
 ghost use Rattle.gms_ast.specs.Trees.{signed, placed, related, chosen, plain};
 ghost use Rattle.gms_eval.specs.Faults.{nothing};
-ghost use Rattle.gms_eval.specs.Answers.{is_so, truth, holds_between, counted, start_of, fold_step, power_step, relation_step, all_step, one_step};
+ghost use Rattle.gms_eval.specs.Nodes.{is_so, truth, holds_between, counted, start_of, fold_step, power_step, relation_step, all_step, one_step, signed_step};
 ghost use Rattle.gms_eval.specs.Gives.{Gives};
-ghost use Rattle.gms_eval.specs.Steps.{after, signed_outcome, signed_step, is_left_by_and, is_left_by_or};
+ghost use Rattle.gms_eval.specs.InnerSteps.{after, signed_outcome, is_left_by_and, is_left_by_or};
 
 use crate::binding::Binding;
 use crate::stop::{StopKind, StopOrMemory, taken};
@@ -60,9 +60,9 @@ fn holds_between<F: ExactField>(op: RelOp, x: Ext<F>, y: Ext<F>) -> bool
     }
 }
 
-/// A chain of parts with signs.
+/// A chain of parts with signs. GAMS User's Guide, "Data Manipulations with Parameters", arithmetic operations.
 #[derive(Clone, Copy)]
-pub(crate) enum Signed {
+pub enum Signed {
     /// A sum: a part is added or subtracted.
     Sum,
     /// A product: a part is multiplied by, or divides.

@@ -4,7 +4,7 @@ ghost use Rattle.gms_tuple.specs.TupleOrder.{IsOrdered};
 ghost use Rattle.gms_tuple.specs.TupleSet.{has};
 ghost use Rattle.gms_store.specs.State.{given_of};
 ghost use Rattle.gms_eval.specs.Domain.{elements};
-ghost use Rattle.gms_eval.specs.Leading.{IsSimple, picked, spread_over, walked};
+ghost use Rattle.gms_eval.specs.InnerLeading.{IsSimple, picked, spread_over, walked};
 
 use crate::elements::element;
 use gms_store::Store;

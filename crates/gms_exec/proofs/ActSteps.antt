@@ -1,5 +1,5 @@
 -- What each act makes of a run, by its parts.
-use Rattle.std.proofs.Common.{◌≡◌, ℕ, Bool, List, map, Option, option_map, Vec, refl, sym, ap, ◌∙◌}
+use Rattle.std.proofs.Common.{◌≡◌, ℕ, Bool, List, map, Option, option_map, Vec, sym, ap, ◌∙◌}
 use Rattle.std.specs.declared.alloc.Global.{Global}
 use Rattle.gms_labels.specs.declared.place.Place.{Place}
 use Rattle.gq_number.specs.Number.{Number}

@@ -1,14 +1,9 @@
 -- What calls did that do one act each, as runs.
-use Rattle.std.proofs.Common.{◌≡◌, ℕ, ◌+◌, Bool, true, false, List, [], ◌∷◌, ◌++◌, length, map, refl, sym, ap, subst, ◌∙◌, Option, Some, None, option_map, slice_get, Result, Ok, Err, append-nil}
-use Rattle.std.specs.List.{All}
+use Rattle.std.proofs.Common.{◌≡◌, ℕ, List, [], ◌∷◌, ◌++◌, length, map, refl, sym, ap, subst, ◌∙◌, None, option_map, slice_get, Result, Ok, Err, append-nil}
 use Rattle.std.proofs.lemmas.List.{map-append}
 use Rattle.std.proofs.lemmas.List.Elements.{All-nil, All-cons}
-use Rattle.gms_labels.specs.declared.place.Place.{Place}
 use Rattle.gq_number.specs.Number.{Number}
-use Rattle.gms_ast.specs.declared.program.Show.{Show}
-use Rattle.gms_ast.specs.Trees as tree
 use Rattle.gms_store.specs.State.{State}
-use Rattle.gms_eval.specs.Bindings.{Pairs}
 use Rattle.gms_eval.specs.Faults.{Answer as Evaluated, Fault}
 use Rattle.gms_eval.specs.Gives.{fault_of, Shows, Stops}
 use Rattle.gms_eval.specs.declared.stop.StopOrMemory.{StopOrMemory}
@@ -22,7 +17,8 @@ use Rattle.lp_core.specs.declared.answer.Rule.{Rule}
 use Rattle.lp_core.specs.Numbers.{answer_numbers}
 use Rattle.gms_exec.specs.Answering.{IsAnswered, AreAnswered}
 use Rattle.gms_exec.specs.Run.{Course, stopped_by, with_value, with_event, in_state}
-use Rattle.gms_exec.specs.Walks.{Seen, come_to, Comes, Runs, Assigns, Answered, paths_taken, HasNoSolve, ShowsNoSolve, UnlessMemory}
+use Rattle.gms_exec.specs.InnerWalks.{Assigns, HasNoSolve, ShowsNoSolve}
+use Rattle.gms_exec.specs.Stepping.{Seen, come_to, Runs, Answered, paths_taken, UnlessMemory}
 use Rattle.gms_exec.proofs.Joining.{grown-nothing}
 
 module _ {F : Type 0} (value : F → Number) where
@@ -137,15 +133,15 @@ quiet-paths k answers (event.Fault stop ∷ shown) quiet = quiet-paths k answers
 
 module _ {S F : Type 0} (value : F → Number) (limit : ℕ) (name : S → List ℕ) (rule : S → Rule) (paths : S → List (List Pivot)) where
   -- a call that asked no solver
-  pub answered-quiet : (solvers : List S) (answers : List (Answer F)) (old new : List (Event F)) → ShowsNoSolve old new → Answered value limit name rule paths solvers solvers answers old new
-  answered-quiet solvers answers old new shows =
+  pub answered-quiet : (solvers : List S) (old new : Seen F) → ShowsNoSolve old.events new.events → Answered value limit name rule paths solvers solvers old new
+  answered-quiet solvers old new shows =
       record {
         names = refl;
         rules = refl;
         shown = shows.shown;
         events = shows.events;
-        answered = quiet-answered value limit (map rule solvers) answers shows.shown shows.quiet;
-        grown = λ k. grown-nothing (slice_get (map paths solvers) k) ∙ ap (λ taken. option_map (λ before. before ++ taken) (slice_get (map paths solvers) k)) (sym (quiet-paths k answers shows.shown shows.quiet));
+        answered = quiet-answered value limit (map rule solvers) new.answers shows.shown shows.quiet;
+        grown = λ k. grown-nothing (slice_get (map paths solvers) k) ∙ ap (λ taken. option_map (λ before. before ++ taken) (slice_get (map paths solvers) k)) (sym (quiet-paths k new.answers shows.shown shows.quiet));
       }
 
 -- what holds in any case holds unless memory was wanted

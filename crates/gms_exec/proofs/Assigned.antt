@@ -1,10 +1,9 @@
 -- What each name stands for after elements of one name were given something, and what is read there.
-use Rattle.std.proofs.Common.{◌≡◌, ℕ, ◌<◌, Bool, true, false, not, ◌&&◌, ◌==◌, List, length, map, filter, refl, sym, ap, ◌∙◌, Option, Some, None, unwrap_or, option_map, pos}
+use Rattle.std.proofs.Common.{◌≡◌, ℕ, ◌<◌, Bool, true, false, not, ◌&&◌, ◌==◌, List, length, refl, sym, ap, ◌∙◌, Option, Some, None, unwrap_or, option_map, pos}
 use Rattle.std.specs.declared.cmp.Ordering.{Ordering}
 use Rattle.std.specs.declared.cmp.Ordering.TheVariants.{Less, Equal, Greater}
 use Rattle.std.specs.Ordering.{is_eq}
 use Rattle.std.specs.List.{All}
-use Rattle.std.specs.FinMap as finite
 use Rattle.std.proofs.lemmas.Bool.{and_parts, eq-eqb}
 use Rattle.std.proofs.lemmas.List.Elements.{All-weaker}
 use Rattle.gq_number.specs.Number.{Number, whole}
@@ -17,7 +16,7 @@ use Rattle.gms_tuple.specs.TupleSet.{has}
 use Rattle.gms_tuple.proofs.Ordered.{filter_all}
 use Rattle.gms_store.specs.State.{Entries, Attributes, Content, undeclared, alias_of, set_of, parameter_of, variable_of, equation_of, model_with, Symbol, State, behind, base_of, symbol_of, with_content, value_in, attributes_in, members_in, value_of, attributes_of, members_of, is_given, has_attributes, same_number, same_bound, same_attributes, absent_variable, unbounded}
 use Rattle.gms_store.specs.State as state_words
-use Rattle.gms_exec.specs.Given.{Given, AllGiven, values_given, members_given, with_attribute, overlaid, with_members, attributes_given, plain_values, with_given, fitting, after_given}
+use Rattle.gms_exec.specs.Given.{Given, AllGiven, values_given, members_given, with_attribute, attributes_given, with_given, fitting, after_given}
 use Rattle.gms_exec.specs.Reads.{last_at, value_at, membership_at, attributes_with}
 use Rattle.gms_exec.proofs.Symbols.{symbol-here, symbol-elsewhere}
 use Rattle.gms_exec.proofs.Newest.{read-overlaid, last-made, has-with_members}

@@ -18,19 +18,18 @@ use Rattle.gms_store.specs.State.{State, Content, undeclared, alias_of, set_of, 
 use Rattle.gms_eval.specs.declared.stop.StopOrMemory.{StopOrMemory}
 use Rattle.gms_eval.specs.declared.stop.StopOrMemory.TheVariants.{Memory, Stop}
 use Rattle.gms_eval.specs.declared.stop.StopKind.TheVariants.{Undefined}
-use Rattle.gms_eval.specs.Answers.{in_order}
+use Rattle.gms_eval.specs.Nodes.{in_order}
 use Rattle.gms_eval.specs.Bindings.{Pairs, controlled}
 use Rattle.gms_eval.specs.Faults.{Answer, nothing, faulted, ◌and_then◌}
 use Rattle.gms_eval.specs.Gives.{Stops}
 use Rattle.gms_eval.specs.References.{tuple_of}
-use Rattle.gms_eval.specs.Value.{value, domain, control_over}
-use Rattle.gms_eval.specs.Walks.{label_answer}
+use Rattle.gms_eval.specs.Value.{value, domain, control_over, label_answer}
 use Rattle.gms_eval.proofs.Answering.{and_then_assoc, then-value}
 use Rattle.gms_eval.proofs.TreeValues.{labels-indices_of}
 use Rattle.gms_exec.specs.Given.{Given, member, value_is, AllGiven}
 use Rattle.gms_exec.specs.Membership.{membership}
 use Rattle.gms_exec.specs.Assignment.{newly_controlled, takes, where_taken, is_set, target_of, given_under, element_under, those_there, given_by}
-use Rattle.gms_exec.specs.Walks.{behind_others, found_at, Assigns}
+use Rattle.gms_exec.specs.InnerWalks.{behind_others, found_at, Assigns}
 
 -- ---- kinds
 

@@ -1,7 +1,6 @@
 -- What a run showed before changes nothing of what statements do: they put what they show behind it.
-use Rattle.std.proofs.Common.{◌≡◌, ℕ, ◌+◌, Bool, true, false, List, [], ◌∷◌, ◌++◌, map, Option, Some, None, Ok, Err, refl, sym, ap, ◌∙◌, subst, append_assoc, append-nil}
+use Rattle.std.proofs.Common.{◌≡◌, ℕ, ◌+◌, Bool, true, false, List, [], ◌∷◌, ◌++◌, map, Option, Some, None, Ok, Err, refl, sym, ap, ◌∙◌, subst, append_assoc}
 use Rattle.std.specs.Prelude.{if◌then◌else◌, option_map}
-use Rattle.std.specs.List.{All, fold}
 use Rattle.gq_number.specs.Number.{Number}
 use Rattle.gms_labels.specs.declared.place.Place.{Place}
 use Rattle.gms_ast.specs.declared.program.Show.{Show}
@@ -11,16 +10,15 @@ use Rattle.gms_ast.specs.declared.program.Act.{Act, roll-Act, map-Act}
 use Rattle.gms_ast.specs.declared.program.Target.{Target}
 use Rattle.gms_ast.specs.declared.expression.Expr.{Expr}
 use Rattle.gms_ast.specs.declared.program.Act.TheOpen.{Act-F, Stmt-F}
-use Rattle.gms_ast.specs.declared.program.Act.TheFolds.{fold-Act, fold-Stmt, fold-roll-Act, fold-roll-Stmt, ind-Stmt}
+use Rattle.gms_ast.specs.declared.program.Act.TheFolds.{fold-Act, fold-roll-Act, fold-roll-Stmt, ind-Stmt}
 use Rattle.gms_ast.specs.Trees as tree
 use Rattle.gms_ast.specs.TreeView.{tree_of, control_tree}
-use Rattle.gms_store.specs.State.{State}
 use Rattle.gms_eval.specs.Bindings.{Pairs, controlled}
-use Rattle.gms_eval.specs.Faults.{Answer as Evaluated, Fault, faulted, nothing}
+use Rattle.gms_eval.specs.Faults.{Answer as Evaluated, faulted, nothing}
 use Rattle.gms_eval.specs.declared.stop.StopKind.TheVariants.{Aborted}
 use Rattle.gms_eval.specs.Holds.{holds}
 use Rattle.gms_eval.specs.Value.{domain, sets_of}
-use Rattle.gms_event.specs.Events.{Event, displays, solves, aborts, stops}
+use Rattle.gms_event.specs.Events.{Event, displays, aborts}
 use Rattle.lp_core.specs.declared.program.Lp.{Lp}
 use Rattle.gms_rows.specs.ProgramLp.{program_lp}
 use Rattle.gms_rows.specs.Rows.{equations_of}

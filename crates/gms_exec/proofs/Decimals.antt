@@ -1,5 +1,5 @@
 -- Each item that is shown has the decimals of the settings.
-use Rattle.std.proofs.Common.{◌≡◌, ℕ, ◌≤◌, List, [], ◌∷◌, map, refl, sym, ap, subst, ◌∙◌, Result, Ok, Err}
+use Rattle.std.proofs.Common.{◌≡◌, ℕ, ◌≤◌, List, [], ◌∷◌, map, refl, sym, subst, Ok, Err}
 use Rattle.std.specs.Prelude.{IfOk}
 use Rattle.std.specs.List.{All}
 use Rattle.std.proofs.lemmas.List.Elements.{All-nil, All-cons, All-head, All-tail, All-weaker}
@@ -7,7 +7,6 @@ use Rattle.gq_number.specs.Number.{Number}
 use Rattle.gms_ast.specs.declared.program.Show.{Show}
 use Rattle.gms_ast.specs.declared.program.Show.TheVariants as show
 use Rattle.gms_store.specs.State.{State}
-use Rattle.gms_eval.specs.Answers.{in_order}
 use Rattle.gms_eval.specs.Bindings.{Pairs}
 use Rattle.gms_eval.specs.Faults.{Answer as Evaluated, ◌and_then◌}
 use Rattle.gms_event.specs.Events.{Shown}

@@ -1,6 +1,5 @@
 -- Runs one after another, and what solvers answered in them.
-use Rattle.std.proofs.Common.{◌≡◌, ℕ, zero, suc, Bool, true, false, ◌==◌, List, [], ◌∷◌, ◌++◌, length, map, slice_get, refl, sym, ap, subst, ◌∙◌, cond, Option, Some, None, option_map, option_to_list, Result, Ok, Err, append_assoc, append-nil, arith}
-use Rattle.std.specs.List.{All, fold}
+use Rattle.std.proofs.Common.{◌≡◌, ℕ, zero, suc, ◌==◌, List, [], ◌∷◌, ◌++◌, map, slice_get, refl, sym, ap, subst, ◌∙◌, cond, Option, Some, None, option_map, option_to_list, Ok, Err, append_assoc, append-nil, arith}
 use Rattle.std.proofs.lemmas.List.{map-append}
 use Rattle.std.proofs.lemmas.List.Elements.{All-head, All-tail, All-append, All-weaker}
 use Rattle.gq_number.specs.Number.{Number}
@@ -15,9 +14,9 @@ use Rattle.lp_core.specs.declared.answer.Answer.{Answer}
 use Rattle.lp_core.specs.declared.answer.Pivot.{Pivot}
 use Rattle.lp_core.specs.declared.answer.Rule.{Rule}
 use Rattle.lp_core.specs.Numbers.{answer_numbers}
-use Rattle.gms_exec.specs.Answering.{IsSolved, IsAnswered, AreAnswered}
+use Rattle.gms_exec.specs.Answering.{IsAnswered, AreAnswered}
 use Rattle.gms_exec.specs.Run.{Course, Halt, stopped, stopped_by, while_it_runs, OfStatement, one_after_another, for_each}
-use Rattle.gms_exec.specs.Walks.{Seen, come_to, Comes, Runs, Answered, paths_taken, UnlessMemory}
+use Rattle.gms_exec.specs.Stepping.{Seen, come_to, Runs, Answered, paths_taken}
 
 -- ---- a run that is halted stays
 
@@ -161,26 +160,26 @@ grown-both (Some before) first second = ap Some (append_assoc before first secon
 
 module _ {S F : Type 0} (value : F → Number) (limit : ℕ) (name : S → List ℕ) (rule : S → Rule) (paths : S → List (List Pivot)) where
   -- a call that shows nothing and asks no solver
-  pub answered-nothing : (solvers : List S) (answers : List (Answer F)) (events : List (Event F)) → Answered value limit name rule paths solvers solvers answers events events
-  answered-nothing solvers answers events =
-      record { names = refl; rules = refl; shown = []; events = sym (append-nil events); answered = λ k d within. absurd (omega arith); grown = λ k. grown-nothing (slice_get (map paths solvers) k) }
+  pub answered-nothing : (solvers : List S) (seen : Seen F) → Answered value limit name rule paths solvers solvers seen seen
+  answered-nothing solvers seen =
+      record { names = refl; rules = refl; shown = []; events = sym (append-nil seen.events); answered = λ k d within. absurd (omega arith); grown = λ k. grown-nothing (slice_get (map paths solvers) k) }
 
   -- a call after another, with further answers
-  pub answered-both : (old mid new : List S) (first_answers last_answers fresh : List (Answer F)) (old_events mid_events new_events : List (Event F)) → last_answers ≡ first_answers ++ fresh → Answered value limit name rule paths old mid first_answers old_events mid_events → Answered value limit name rule paths mid new last_answers mid_events new_events → Answered value limit name rule paths old new last_answers old_events new_events
-  answered-both old mid new first_answers last_answers fresh old_events mid_events new_events are first second =
+  pub answered-both : (old mid new : List S) (before between after : Seen F) (fresh : List (Answer F)) → after.answers ≡ between.answers ++ fresh → Answered value limit name rule paths old mid before between → Answered value limit name rule paths mid new between after → Answered value limit name rule paths old new before after
+  answered-both old mid new before between after fresh are first second =
       record {
         names = second.names ∙ first.names;
         rules = second.rules ∙ first.rules;
         shown = first.shown ++ second.shown;
-        events = behind-both old_events mid_events new_events first.shown second.shown first.events second.events;
+        events = behind-both before.events between.events after.events first.shown second.shown first.events second.events;
         answered =
-            subst (AreAnswered value limit (map rule old) last_answers) (sym (map-append (event_in value) first.shown second.shown))
-            (All-append (IsAnswered value limit (map rule old) last_answers) (events_in value first.shown) (events_in value second.shown)
-            (subst (λ answers. AreAnswered value limit (map rule old) answers (events_in value first.shown)) (sym are) (All-weaker (IsAnswered value limit (map rule old) first_answers) (IsAnswered value limit (map rule old) (first_answers ++ fresh)) (still-answered value limit (map rule old) first_answers fresh) (events_in value first.shown) first.answered))
-            (subst (λ rules. AreAnswered value limit rules last_answers (events_in value second.shown)) first.rules second.answered));
+            subst (AreAnswered value limit (map rule old) after.answers) (sym (map-append (event_in value) first.shown second.shown))
+            (All-append (IsAnswered value limit (map rule old) after.answers) (events_in value first.shown) (events_in value second.shown)
+            (subst (λ answers. AreAnswered value limit (map rule old) answers (events_in value first.shown)) (sym are) (All-weaker (IsAnswered value limit (map rule old) between.answers) (IsAnswered value limit (map rule old) (between.answers ++ fresh)) (still-answered value limit (map rule old) between.answers fresh) (events_in value first.shown) first.answered))
+            (subst (λ rules. AreAnswered value limit rules after.answers (events_in value second.shown)) first.rules second.answered));
         grown = λ k.
             second.grown k
-            ∙ ap (option_map (λ before. before ++ paths_taken k last_answers second.shown)) (first.grown k ∙ ap (λ taken. option_map (λ before. before ++ taken) (slice_get (map paths old) k)) (sym (ap (λ answers. paths_taken k answers first.shown) are ∙ paths-stay value limit (map rule old) first_answers fresh k first.shown first.answered)))
-            ∙ grown-both (slice_get (map paths old) k) (paths_taken k last_answers first.shown) (paths_taken k last_answers second.shown)
-            ∙ ap (λ taken. option_map (λ before. before ++ taken) (slice_get (map paths old) k)) (sym (paths-both k last_answers first.shown second.shown));
+            ∙ ap (option_map (λ those. those ++ paths_taken k after.answers second.shown)) (first.grown k ∙ ap (λ taken. option_map (λ those. those ++ taken) (slice_get (map paths old) k)) (sym (ap (λ answers. paths_taken k answers first.shown) are ∙ paths-stay value limit (map rule old) between.answers fresh k first.shown first.answered)))
+            ∙ grown-both (slice_get (map paths old) k) (paths_taken k after.answers first.shown) (paths_taken k after.answers second.shown)
+            ∙ ap (λ taken. option_map (λ those. those ++ taken) (slice_get (map paths old) k)) (sym (paths-both k after.answers first.shown second.shown));
       }

@@ -1,7 +1,5 @@
 -- What statements that are no loops keep: settings within their ranges, and definitions over sets of one dimension.
-use Rattle.std.proofs.Common.{◌≡◌, ℕ, ◌<◌, Bool, true, false, List, [], ◌∷◌, ◌++◌, length, map, get_or, refl, sym, ap, subst, ◌∙◌, Option, Some, None, option_map, Result, Ok, Err, if◌then◌else◌}
-use Rattle.std.specs.List.{All}
-use Rattle.std.proofs.lemmas.List.Elements.{All-weaker, All-get_or}
+use Rattle.std.proofs.Common.{◌≡◌, ℕ, Bool, true, false, List, [], ◌∷◌, length, get_or, refl, sym, ap, subst, ◌∙◌, Option, Some, None, option_map, Result, Ok, Err, if◌then◌else◌}
 use Rattle.gms_labels.specs.declared.place.Place.{Place}
 use Rattle.gq_number.specs.Number.{Number}
 use Rattle.gms_ast.specs.declared.expression.Suffix.{Suffix}
@@ -10,21 +8,18 @@ use Rattle.gms_ast.specs.declared.program.Show.{Show}
 use Rattle.gms_ast.specs.declared.program.Act.{Act, out-Act, roll-Act, roll-out-Act}
 use Rattle.gms_ast.specs.declared.program.Act.TheOpen.{Act-F}
 use Rattle.gms_ast.specs.declared.program.Act.TheVariants.{rolls-Declare, rolls-Alias, rolls-Assign, rolls-Define, rolls-Model, rolls-Solve, rolls-Display, rolls-Loop, rolls-Options, rolls-Abort}
-use Rattle.gms_ast.specs.declared.program.Right.{Right}
 use Rattle.gms_ast.specs.declared.program.Right.TheVariants.{Value}
 use Rattle.gms_ast.specs.TreeView.{tree_of}
 use Rattle.gms_ast.specs.Trees as tree
-use Rattle.gms_store.specs.declared.settings.Settings.{Settings}
-use Rattle.gms_store.specs.State.{State, Symbol, symbol_of, members_in, members_of, with_settings, symbol_at}
+use Rattle.gms_store.specs.State.{State, with_settings}
 use Rattle.gms_eval.specs.Bindings.{Pairs}
 use Rattle.gms_eval.specs.Faults.{Answer as Evaluated, ◌and_then◌}
 use Rattle.gms_eval.specs.Holds.{holds}
-use Rattle.gms_eval.specs.Gives.{fault_of}
 use Rattle.gms_eval.specs.declared.stop.StopOrMemory.{StopOrMemory}
 use Rattle.gms_eval.specs.declared.stop.StopOrMemory.TheVariants.{Memory, Stop}
 use Rattle.gms_event.specs.Events.{Shown}
-use Rattle.gms_rows.specs.Rows.{Definition, definitions, equations_of}
-use Rattle.gms_rows.specs.Plain.{ArePlain, HasPlainDefinitions}
+use Rattle.gms_rows.specs.Rows.{definitions, equations_of}
+use Rattle.gms_rows.specs.Plain.{ArePlain}
 use Rattle.gms_rows.specs.ProgramLp.{program_lp}
 use Rattle.lp_core.specs.declared.answer.Answer.{Answer}
 use Rattle.lp_core.specs.declared.program.Lp.{Lp}
@@ -33,11 +28,12 @@ use Rattle.gms_exec.specs.Dimensions.{AreOverOne, AreOneDimensional}
 use Rattle.gms_exec.specs.Given.{AllGiven, after_given}
 use Rattle.gms_exec.specs.Options.{after_options}
 use Rattle.gms_exec.specs.Showing.{all_shown}
-use Rattle.gms_exec.specs.Run.{Course, World, stopped_by, with_value, in_state, display, abort, abort_where, answered, solve, of_statement, labels_in}
-use Rattle.gms_exec.specs.Walks.{Seen, come_to, Runs, AreKept, IsOnce, UnlessMemory}
+use Rattle.gms_exec.specs.Run.{Course, World, with_value, in_state, abort, abort_where, answered, solve, of_statement, labels_in}
+use Rattle.gms_exec.specs.InnerWalks.{IsOnce}
+use Rattle.gms_exec.specs.Stepping.{Seen, come_to, Runs, AreKept, UnlessMemory}
 use Rattle.gms_exec.proofs.ActSteps.{on-Assign, on-Display, on-Options, on-Abort, on-Solve, on-Declare, on-Alias, on-Define, on-Model}
 use Rattle.gms_exec.proofs.KeptSettings.{kept-options}
-use Rattle.gms_exec.proofs.Staying.{AreSingles, Follows, Stays, follows-of, stays-itself, stays-given, stays-end, settings-end}
+use Rattle.gms_exec.proofs.Staying.{Stays, follows-of, stays-itself, stays-given, stays-end, settings-end}
 
 -- ---- definitions over sets of one dimension
 

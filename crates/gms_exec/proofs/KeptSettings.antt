@@ -1,15 +1,15 @@
 -- Options keep settings within their ranges.
-use Rattle.std.proofs.Common.{◌≡◌, ℕ, ◌<◌, ◌≤◌, Bool, true, false, ◌&&◌, List, [], ◌∷◌, length, refl, sym, ap, subst, ◌∙◌, cond, Option, Some, None, unwrap_or, arith, pos, negsuc}
-use Rattle.std.specs.Prelude.{codes, nat_le, nat_lt}
-use Rattle.std.specs.List.{position, position_or_len, fold}
+use Rattle.std.proofs.Common.{◌≡◌, ℕ, ◌<◌, ◌≤◌, Bool, true, false, List, [], ◌∷◌, length, refl, cond, Some, None, unwrap_or, pos, negsuc}
+use Rattle.std.specs.Prelude.{codes, nat_lt}
+use Rattle.std.specs.List.{position, position_or_len}
 use Rattle.std.proofs.lemmas.Bool.{ltb-true, leb-true, and_parts}
 use Rattle.gq_number.specs.Number.{Number}
 use Rattle.gms_ast.specs.declared.word.Word.{Word}
 use Rattle.gms_ast.specs.declared.program.Setting.{Setting}
 use Rattle.gms_ast.specs.declared.program.Setting.TheVariants as setting
 use Rattle.gms_store.specs.declared.settings.Settings.{Settings}
-use Rattle.gms_exec.specs.Options.{is_word, size_of, is_from_zero, is_count, count_set, switch_set, solver_set, after_option, after_options}
-use Rattle.gms_exec.specs.Walks.{AreKept}
+use Rattle.gms_exec.specs.Options.{is_word, size_of, is_from_zero, is_count, count_set, solver_set, after_option, after_options}
+use Rattle.gms_exec.specs.Stepping.{AreKept}
 
 either : {A : Type 0} (P : A → Type 0) (b : Bool) (x y : A) → P x → P y → P (cond b x y)
 either P true x y first second = first

@@ -19,14 +19,14 @@ use Rattle.gms_ast.specs.TreeView.{indices_of, tree_step, index_step, control_st
 use Rattle.gms_store.specs.State.{State}
 use Rattle.gms_eval.specs.declared.stop.StopOrMemory.{StopOrMemory}
 use Rattle.gms_eval.specs.declared.stop.StopOrMemory.TheVariants.{Memory, Stop}
-use Rattle.gms_eval.specs.Answers.{in_order}
+use Rattle.gms_eval.specs.Nodes.{in_order}
 use Rattle.gms_eval.specs.Bindings.{Pairs, label_of}
 use Rattle.gms_eval.specs.Faults.{Answer, Fault, ◌and_then◌}
 use Rattle.gms_eval.specs.Gives.{fault_of, Stops}
 use Rattle.gms_eval.proofs.Answering.{and_then_assoc}
 use Rattle.gms_exec.specs.Assignment.{sets_among, each_once, newly_controlled, those_there}
 use Rattle.gms_exec.specs.Given.{Given, AllGiven}
-use Rattle.gms_exec.specs.Walks.{first_set, behind_others, noted, with_found}
+use Rattle.gms_exec.specs.InnerWalks.{first_set, behind_others, noted, with_found}
 
 -- ---- the sets of indices
 

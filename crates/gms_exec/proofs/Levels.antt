@@ -1,16 +1,16 @@
 -- Levels and marginals that are put one after another.
-use Rattle.std.proofs.Common.{◌≡◌, ℕ, zero, suc, ◌+◌, ◌<◌, ◌≤◌, Bool, true, false, not, ◌==◌, List, [], ◌∷◌, ◌++◌, length, map, set, drop, get_or, refl, sym, ap, ◌∙◌, cond, Option, Some, None, unwrap_or, pos, inl, inr, add-one}
+use Rattle.std.proofs.Common.{◌≡◌, ℕ, zero, suc, ◌+◌, ◌<◌, ◌≤◌, Bool, true, false, not, ◌==◌, List, [], ◌∷◌, length, map, set, drop, get_or, refl, sym, ap, ◌∙◌, cond, Some, None, unwrap_or, pos, inl, inr, add-one}
 use Rattle.std.specs.Ordering.{eq_by_cmp}
 use Rattle.std.specs.List.{fold}
 use Rattle.std.specs.FinMap as finite
 use Rattle.std.proofs.lemmas.Bool.{cases_lt}
 use Rattle.std.proofs.lemmas.List.{at_drop_more, at_drop_all, set_past}
 use Rattle.gq_number.specs.Number.{Number, whole}
-use Rattle.gms_tuple.specs.TupleOrder.{tuple_cmp, same_tuple}
+use Rattle.gms_tuple.specs.TupleOrder.{tuple_cmp}
 use Rattle.gms_tuple.specs.OrderLaws.{tuple_cmp-total}
 use Rattle.gms_tuple.proofs.Ordered.{same_tuple_refl, tuple_cmp-Equal}
 use Rattle.lp_form.specs.declared.key.Key.{Key}
-use Rattle.gms_store.specs.State.{Entries, Attributes, Content, undeclared, alias_of, set_of, parameter_of, variable_of, equation_of, model_with, Symbol, State, behind, base_of, symbol_of, with_symbol, with_content, if_fits, after_write, with_attributes, attributes_in, attributes_of, after_attributes, with_level, with_marginal, same_attributes, absent_variable, unbounded}
+use Rattle.gms_store.specs.State.{Entries, Attributes, Content, undeclared, alias_of, set_of, parameter_of, variable_of, equation_of, model_with, Symbol, State, behind, base_of, symbol_of, with_content, if_fits, after_write, with_attributes, attributes_in, attributes_of, after_attributes, with_level, with_marginal, same_attributes, absent_variable, unbounded}
 use Rattle.std.proofs.Math.ListN.{get_or-map, length-map}
 use Rattle.lp_core.specs.declared.program.Column.{Column}
 use Rattle.lp_core.specs.declared.program.Row.{Row}

@@ -1,5 +1,5 @@
 -- A loop of statements over elements: where it stands between two elements and inside one, and each step from there.
-use Rattle.std.proofs.Common.{◌≡◌, ℕ, ◌+◌, ◌<◌, ◌≤◌, List, [], ◌∷◌, ◌++◌, length, map, take, drop, get_or, refl, sym, ap, subst, ◌∙◌, Result, Ok, Err, append-nil}
+use Rattle.std.proofs.Common.{◌≡◌, ℕ, ◌+◌, ◌<◌, ◌≤◌, List, [], ◌∷◌, length, map, take, drop, get_or, refl, sym, ap, subst, ◌∙◌, Result, Ok, Err, append-nil}
 use Rattle.std.proofs.lemmas.List.{at_drop_more, drop_all, get_or_default, length-map}
 use Rattle.gq_number.specs.Number.{Number}
 use Rattle.gms_ast.specs.declared.program.Program.{Program}
@@ -14,7 +14,7 @@ use Rattle.lp_core.specs.declared.answer.Rule.{Rule}
 use Rattle.gms_exec.specs.Dimensions.{AreOneDimensional}
 use Rattle.gms_exec.specs.Run.{Course, OfStatement, one_after_another, for_each, of_statement}
 use Rattle.gms_exec.specs.Standing.{ShowsStanding}
-use Rattle.gms_exec.specs.Walks.{Seen, come_to, Runs, Answered, AreKept, UnlessMemory}
+use Rattle.gms_exec.specs.Stepping.{Seen, come_to, Runs, Answered, AreKept, UnlessMemory}
 use Rattle.gms_exec.proofs.Arms.{unless-any}
 use Rattle.gms_exec.proofs.Joining.{Reaches, LeavesHalted, reaches-more, reaches-stop, reaches-end, statements-halted, each-halted}
 use Rattle.gms_exec.proofs.Keeping.{Keeps}
@@ -39,7 +39,7 @@ module _ {S F : Type 0} (value : F → Number) (limit : ℕ) (name : S → List 
 
   -- the clauses of a call that speak of what it leaves
   pub record Leaves {A : Type 0} (result : Result A (StopOrMemory F)) (old_solvers new_solvers : List S) (old new : Seen F) : Type 0 where
-    pub solvers : UnlessMemory result (Answered value limit name rule paths old_solvers new_solvers new.answers old.events new.events)
+    pub solvers : UnlessMemory result (Answered value limit name rule paths old_solvers new_solvers old new)
     pub standing : UnlessMemory result (ShowsStanding value limit (map rule old_solvers) new.answers old.events new.events)
     pub settings : UnlessMemory result (AreKept (length old_solvers) new.state.settings)
     pub plain : UnlessMemory result (AreOneDimensional new.state program.statements.items)
@@ -55,7 +55,7 @@ module _ {S F : Type 0} (value : F → Number) (limit : ℕ) (name : S → List 
       leaves-of result solvers solvers seen seen (unless-any result (LeftBy solvers solvers seen seen) (left-start value limit name rule paths program.statements.items solvers seen kept))
 
   -- the clauses of a call, together
-  pub left-of : {A : Type 0} (result : Result A (StopOrMemory F)) (old_solvers new_solvers : List S) (old new : Seen F) → UnlessMemory result (Answered value limit name rule paths old_solvers new_solvers new.answers old.events new.events) → UnlessMemory result (ShowsStanding value limit (map rule old_solvers) new.answers old.events new.events) → UnlessMemory result (AreKept (length old_solvers) new.state.settings) → UnlessMemory result (AreOneDimensional new.state program.statements.items) → UnlessMemory result (LeftBy old_solvers new_solvers old new)
+  pub left-of : {A : Type 0} (result : Result A (StopOrMemory F)) (old_solvers new_solvers : List S) (old new : Seen F) → UnlessMemory result (Answered value limit name rule paths old_solvers new_solvers old new) → UnlessMemory result (ShowsStanding value limit (map rule old_solvers) new.answers old.events new.events) → UnlessMemory result (AreKept (length old_solvers) new.state.settings) → UnlessMemory result (AreOneDimensional new.state program.statements.items) → UnlessMemory result (LeftBy old_solvers new_solvers old new)
   left-of (Ok x) old_solvers new_solvers old new answered standing settings plain = record { answered = answered; standing = standing; kept = record { settings = settings; plain = plain } }
   left-of (Err Memory) old_solvers new_solvers old new answered standing settings plain = tt
   left-of (Err (Stop stop)) old_solvers new_solvers old new answered standing settings plain = record { answered = answered; standing = standing; kept = record { settings = settings; plain = plain } }
@@ -139,7 +139,7 @@ module _ {S F : Type 0} (value : F → Number) (limit : ℕ) (name : S → List 
         left-both value limit name rule paths program.statements.items solvers mid_solvers new_solvers old mid new runs.fresh runs.answers (left-many solvers mid_solvers old mid within.left) within.left left
 
     pub within-leaves : {A : Type 0} (B : Type 0) (failed : StopOrMemory F) (i : ℕ) (element : List ℕ) (k : ℕ) (inner : Pairs) (mid_solvers new_solvers : List S) (mid new : Seen F) (does_so : Course → Course) → Within i element k inner mid_solvers mid → Runs value {A = A} (Err failed) does_so mid new →
-        UnlessMemory {A = A} (Err failed) (Answered value limit name rule paths mid_solvers new_solvers new.answers mid.events new.events) → UnlessMemory {A = A} (Err failed) (ShowsStanding value limit (map rule mid_solvers) new.answers mid.events new.events) →
+        UnlessMemory {A = A} (Err failed) (Answered value limit name rule paths mid_solvers new_solvers mid new) → UnlessMemory {A = A} (Err failed) (ShowsStanding value limit (map rule mid_solvers) new.answers mid.events new.events) →
         UnlessMemory {A = A} (Err failed) (AreKept (length mid_solvers) new.state.settings) → UnlessMemory {A = A} (Err failed) (AreOneDimensional new.state program.statements.items) → Leaves {A = B} (Err failed) solvers new_solvers old new
     within-leaves {A} B failed i element k inner mid_solvers new_solvers mid new does_so within runs answered standing settings plain =
         leaves-of {A = B} (Err failed) solvers new_solvers old new

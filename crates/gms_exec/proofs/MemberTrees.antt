@@ -14,7 +14,7 @@ use Rattle.gms_ast.proofs.TreeEquations.{tree_of-Neg, tree_of-Plus, tree_of-Time
 use Rattle.gms_store.specs.State.{State}
 use Rattle.gms_eval.specs.declared.stop.StopOrMemory.{StopOrMemory}
 use Rattle.gms_eval.specs.declared.stop.StopOrMemory.TheVariants.{Memory, Stop}
-use Rattle.gms_eval.specs.Answers.{each_holds}
+use Rattle.gms_eval.specs.Nodes.{each_holds}
 use Rattle.gms_eval.specs.Bindings.{Pairs}
 use Rattle.gms_eval.specs.Faults.{Answer, Fault, ◌and_then◌}
 use Rattle.gms_eval.specs.Gives.{fault_of, Stops}

@@ -2,7 +2,7 @@
 use Rattle.std.proofs.Common.{◌≡◌, ℕ, zero, suc, ◌<◌, Bool, true, false, ◌==◌, List, [], ◌∷◌, ◌++◌, length, map, set, get_or, slice_get, refl, sym, ap, ◌∙◌, cond, Option, Some, None, option_map, append-nil, arith}
 use Rattle.std.proofs.lemmas.Bool.{eqb-true, eq-eqb, both_ways}
 use Rattle.lp_core.specs.declared.answer.Pivot.{Pivot}
-use Rattle.gms_exec.specs.Walks.{path_at}
+use Rattle.gms_exec.specs.InnerSolving.{path_at}
 
 module _ {S A : Type 0} (f : S → A) where
   -- a list in which an element of the same reading stands at a place reads as before

@@ -1,6 +1,5 @@
 -- What a solve did, as a run, as an answer, and as an event that stands.
-use Rattle.std.proofs.Common.{◌≡◌, ℕ, zero, suc, ◌+◌, ◌<◌, Bool, true, false, ◌==◌, List, [], ◌∷◌, ◌++◌, length, map, slice_get, refl, sym, ap, subst, ◌∙◌, cond, Option, Some, None, option_map, option_to_list, Result, Ok, Err, append-nil, arith}
-use Rattle.std.proofs.Common.{Vec}
+use Rattle.std.proofs.Common.{◌≡◌, ℕ, zero, suc, ◌+◌, ◌<◌, Bool, true, false, ◌==◌, List, [], ◌∷◌, ◌++◌, length, map, slice_get, refl, sym, ap, subst, ◌∙◌, cond, Option, Some, None, option_map, option_to_list, Ok, Err, append-nil, arith, Vec}
 use Rattle.std.specs.Prelude.{slice_index_or, vec_len}
 use Rattle.std.specs.declared.alloc.Global.{Global}
 use Rattle.std.proofs.lemmas.Bool.{eqb-true}
@@ -13,7 +12,7 @@ use Rattle.gms_store.specs.declared.settings.Settings.{Settings}
 use Rattle.gms_store.specs.State.{State, attributes_of}
 use Rattle.gms_eval.specs.Bindings.{Pairs}
 use Rattle.gms_eval.specs.Faults.{Fault, faulted, nothing}
-use Rattle.gms_eval.specs.Gives.{fault_of, Shows}
+use Rattle.gms_eval.specs.Gives.{Shows}
 use Rattle.gms_eval.specs.declared.stop.StopKind.TheVariants.{NoSolver}
 use Rattle.gms_eval.specs.declared.stop.StopOrMemory.{StopOrMemory}
 use Rattle.gms_eval.specs.declared.stop.StopOrMemory.TheVariants.{Memory, Stop}
@@ -32,9 +31,9 @@ use Rattle.lp_core.specs.WellFormed.{IsWellFormed}
 use Rattle.gms_exec.specs.Answering.{IsAnswered}
 use Rattle.gms_exec.specs.Run.{Course, stopped_by, with_value, answered, solve}
 use Rattle.gms_exec.specs.Solved.{after_end}
-use Rattle.gms_exec.specs.Solving.{Grown, ShowsSolve, Solves}
+use Rattle.gms_exec.specs.InnerSolving.{Grown, ShowsSolve, Solves, AnswersAt, path_at}
 use Rattle.gms_exec.specs.Standing.{IsStanding, ShowsStanding}
-use Rattle.gms_exec.specs.Walks.{Seen, come_to, Runs, Answered, AnswersAt, path_at, paths_taken}
+use Rattle.gms_exec.specs.Stepping.{Seen, come_to, Runs, Answered, paths_taken}
 
 get-last : {A : Type 0} (xs : List A) (x : A) → slice_get (xs ++ x ∷ []) (length xs) ≡ Some x
 get-last [] x = refl
@@ -132,7 +131,7 @@ module _ {F : Type 0} (value : F → Number) (limit : ℕ) where
         ∙ ap (λ (o : Option (Answer F)). cond (old.state.settings.solver == k) (option_to_list (option_map (λ (a : Answer F). a.pivots) o)) [] ++ []) (sym answer-stands)
 
     module _ {S : Type 0} (name : S → List ℕ) (rule : S → Rule) (paths : S → List (List Pivot)) (old_solvers new_solvers : List S) where
-      pub solves-answered : rules ≡ map rule old_solvers → old_paths ≡ map paths old_solvers → new_paths ≡ map paths new_solvers → map name new_solvers ≡ map name old_solvers → map rule new_solvers ≡ map rule old_solvers → Answered value limit name rule paths old_solvers new_solvers new.answers old.events new.events
+      pub solves-answered : rules ≡ map rule old_solvers → old_paths ≡ map paths old_solvers → new_paths ≡ map paths new_solvers → map name new_solvers ≡ map name old_solvers → map rule new_solvers ≡ map rule old_solvers → Answered value limit name rule paths old_solvers new_solvers old new
       solves-answered are old_are new_are same_names same_rules =
           record {
             names = same_names;

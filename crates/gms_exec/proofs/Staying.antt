@@ -1,18 +1,18 @@
 -- States that differ in contents alone: names stand for the same ones, over the same domains, and sets of one dimension have members of one
 -- label.
-use Rattle.std.proofs.Common.{◌≡◌, ◌⊎◌, ℕ, Bool, true, false, ◌||◌, ◌==◌, List, [], ◌∷◌, ◌++◌, length, filter, refl, sym, ap, subst, ◌∙◌, cond, Option, Some, None, unwrap_or, is_some, inl, inr}
-use Rattle.std.specs.List.{All, fold, list_any, flat_map}
+use Rattle.std.proofs.Common.{◌≡◌, ℕ, Bool, true, false, ◌||◌, ◌==◌, List, [], ◌∷◌, length, refl, sym, ap, subst, ◌∙◌, cond, Option, Some, None, unwrap_or, is_some, inl, inr}
+use Rattle.std.specs.List.{All, fold}
 use Rattle.std.proofs.lemmas.Bool.{eqb-true}
-use Rattle.std.proofs.lemmas.List.Elements.{All-nil, All-cons, All-head, All-tail, All-append}
+use Rattle.std.proofs.lemmas.List.Elements.{All-nil, All-cons, All-head, All-tail}
 use Rattle.gms_ast.specs.declared.expression.Suffix.{Suffix}
 use Rattle.gms_tuple.specs.TupleOrder.{same_tuple}
 use Rattle.gms_tuple.specs.TupleSet.{has}
 use Rattle.gms_tuple.proofs.Ordered.{same_tuple-Decides, same_tuple_refl}
-use Rattle.gms_store.specs.State.{State, Attributes, Content, undeclared, alias_of, set_of, parameter_of, variable_of, equation_of, model_with, Symbol, symbol_at, behind, base_of, symbol_of, members_in, members_of, with_symbol, with_content, if_fits, with_attributes, with_statuses, after_attributes, after_statuses}
+use Rattle.gms_store.specs.State.{State, Attributes, Content, undeclared, alias_of, set_of, parameter_of, variable_of, equation_of, model_with, Symbol, symbol_at, behind, base_of, symbol_of, members_in, with_symbol, with_content, if_fits, with_attributes, with_statuses, after_attributes, after_statuses}
 use Rattle.lp_core.specs.declared.program.Lp.{Lp}
 use Rattle.lp_core.specs.declared.answer.End.{End}
 use Rattle.gq_number.specs.Number.{Number}
-use Rattle.gms_exec.specs.Given.{Given, member, value_is, AllGiven, member_given, members_given, is_among, with_members, with_given, fitting, after_given}
+use Rattle.gms_exec.specs.Given.{member, value_is, AllGiven, members_given, is_among, with_members, with_given, fitting, after_given}
 use Rattle.gms_exec.specs.Reads.{last_at}
 use Rattle.gms_exec.specs.Solved.{Point, with_point, statuses_of, points_of, after_end}
 use Rattle.gms_exec.proofs.Symbols.{at-after}

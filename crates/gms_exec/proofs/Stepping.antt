@@ -6,7 +6,7 @@ use Rattle.lp_core.specs.declared.answer.Answer.{Answer}
 use Rattle.lp_core.specs.declared.answer.Pivot.{Pivot}
 use Rattle.lp_core.specs.declared.answer.Rule.{Rule}
 use Rattle.gms_exec.specs.Standing.{ShowsStanding}
-use Rattle.gms_exec.specs.Walks.{Seen, Answered}
+use Rattle.gms_exec.specs.Stepping.{Seen, Answered}
 use Rattle.gms_exec.proofs.Joining.{answered-nothing, answered-both}
 use Rattle.gms_exec.proofs.Keeping.{Keeps}
 use Rattle.gms_exec.proofs.Standings.{standing-nothing, standing-both}
@@ -14,14 +14,14 @@ use Rattle.gms_exec.proofs.Standings.{standing-nothing, standing-both}
 module _ {S F : Type 0} (value : F → Number) (limit : ℕ) (name : S → List ℕ) (rule : S → Rule) (paths : S → List (List Pivot)) (statements : List (Stmt F)) where
   -- what calls did from an old point to a new one, but for the run: what solvers answered, that what was shown stands, and what is kept
   pub record Left (old_solvers new_solvers : List S) (old new : Seen F) : Type 0 where
-    pub answered : Answered value limit name rule paths old_solvers new_solvers new.answers old.events new.events
+    pub answered : Answered value limit name rule paths old_solvers new_solvers old new
     pub standing : ShowsStanding value limit (map rule old_solvers) new.answers old.events new.events
     pub kept : Keeps (length old_solvers) statements new.state
 
   pub left-start : (solvers : List S) (old : Seen F) → Keeps (length solvers) statements old.state → Left solvers solvers old old
   left-start solvers old kept =
       record {
-        answered = answered-nothing value limit name rule paths solvers old.answers old.events;
+        answered = answered-nothing value limit name rule paths solvers old;
         standing = standing-nothing value limit (map rule solvers) old.answers old.events old.events refl;
         kept = kept;
       }
@@ -30,7 +30,7 @@ module _ {S F : Type 0} (value : F → Number) (limit : ℕ) (name : S → List 
   pub left-both : (old_solvers mid_solvers new_solvers : List S) (old mid new : Seen F) (fresh : List (Answer F)) → new.answers ≡ mid.answers ++ fresh → length mid_solvers ≡ length old_solvers → Left old_solvers mid_solvers old mid → Left mid_solvers new_solvers mid new → Left old_solvers new_solvers old new
   left-both old_solvers mid_solvers new_solvers old mid new fresh are many first second =
       record {
-        answered = answered-both value limit name rule paths old_solvers mid_solvers new_solvers mid.answers new.answers fresh old.events mid.events new.events are first.answered second.answered;
+        answered = answered-both value limit name rule paths old_solvers mid_solvers new_solvers old mid new fresh are first.answered second.answered;
         standing =
             standing-both value limit (map rule old_solvers) mid.answers new.answers fresh old.events mid.events new.events are first.standing
             (subst (λ rules. ShowsStanding value limit rules new.answers mid.events new.events) first.answered.rules second.standing);

@@ -1,7 +1,7 @@
 -- A state in which one name stands for another symbol: what each name stands for there.
-use Rattle.std.proofs.Common.{◌≡◌, ◌⊎◌, ℕ, zero, suc, ◌<◌, Bool, true, false, ◌==◌, List, [], ◌∷◌, length, set, slice_get, refl, sym, ap, ◌∙◌, Option, Some, None, unwrap_or, subst, arith, inl, inr}
+use Rattle.std.proofs.Common.{◌≡◌, ◌⊎◌, ℕ, zero, suc, ◌<◌, Bool, true, false, ◌==◌, List, [], ◌∷◌, length, set, slice_get, refl, sym, ap, ◌∙◌, Some, unwrap_or, subst, arith, inl, inr}
 use Rattle.std.proofs.lemmas.Bool.{eqb-true, eq-eqb, both_ways}
-use Rattle.gms_store.specs.State.{Content, Symbol, State, no_symbol, symbol_at, behind, base_of, symbol_of, with_symbol}
+use Rattle.gms_store.specs.State.{Symbol, State, no_symbol, symbol_at, behind, base_of, symbol_of, with_symbol}
 
 -- what is read of a list after a write at a place: at this place the new element, elsewhere what was there
 get-set_here : (xs : List Symbol) (i : ℕ) (v : Symbol) → i < length xs → slice_get (set xs i v) i ≡ Some v

@@ -1,7 +1,7 @@
 -- The state after an assignment: a new state made of the old one, in which all values are taken (GAMS User's Guide, "Data Manipulations
 -- with Parameters", indexed assignments; "Conditional Expressions, Assignments and Equations", dollar on the left; "Sets as Sequences:
 -- Ordered Sets", lags and leads in assignments; "Dynamic Sets"). In which order faults come is this project's own rule.
-use Rattle.std.specs.Prelude.{ℕ, Bool, true, false, not, List, [], ◌∷◌, map, Option, Some, None, option_map, is_none, Ok, Err, if◌then◌else◌, filter, ◌==◌}
+use Rattle.std.specs.Prelude.{ℕ, Bool, true, false, not, List, [], ◌∷◌, map, Option, Some, None, is_none, Ok, Err, if◌then◌else◌, filter, ◌==◌}
 use Rattle.gms_labels.specs.declared.place.Place.{Place}
 use Rattle.gq_number.specs.Number.{Number}
 use Rattle.gq_extended.specs.Extended.{Extended, number, plus_infinity, minus_infinity, na}
@@ -12,7 +12,7 @@ use Rattle.gms_ast.specs.StatementTrees.{Target}
 use Rattle.gms_ast.specs.TreeView.{index_tree, indices_of}
 use Rattle.gms_ast.specs.Trees as tree
 use Rattle.gms_store.specs.State.{State, Content, alias_of, set_of, symbol_of}
-use Rattle.gms_eval.specs.Answers.{in_order}
+use Rattle.gms_eval.specs.Nodes.{in_order}
 use Rattle.gms_eval.specs.Bindings.{Pairs, label_of, controlled}
 use Rattle.gms_eval.specs.Faults.{Answer, nothing, faulted, ◌and_then◌}
 use Rattle.gms_eval.specs.References.{tuple_of}

@@ -4,7 +4,7 @@ use Rattle.std.specs.Prelude.{ℕ, pos, Bool, true, false, not, ◌==◌, List, 
 use Rattle.std.specs.List.{list_any}
 use Rattle.std.specs.FinMap as finite
 use Rattle.gq_number.specs.Number.{Number, whole}
-use Rattle.gq_extended.specs.Extended.{Extended, number, plus_infinity, minus_infinity, na}
+use Rattle.gq_extended.specs.Extended.{Extended, number}
 use Rattle.gms_ast.specs.declared.expression.Suffix.{Suffix}
 use Rattle.gms_ast.specs.declared.expression.Suffix.TheVariants as suffix
 use Rattle.gms_tuple.specs.TupleOrder.{tuple_cmp, same_tuple}

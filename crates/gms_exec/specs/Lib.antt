@@ -8,6 +8,7 @@ pub mod Reads
 pub mod Run
 pub mod Showing
 pub mod Solved
-pub mod Walks
-pub mod Solving
 pub mod Standing
+pub mod Stepping
+pub mod InnerSolving
+pub mod InnerWalks

@@ -1,5 +1,5 @@
 -- The settings after an option statement (GAMS User's Guide, "The Option Statement").
-use Rattle.std.specs.Prelude.{ℕ, ℤ, pos, negsuc, Bool, true, false, ◌&&◌, ◌==◌, nat_le, List, [], ◌∷◌, codes, position, unwrap_or, if◌then◌else◌}
+use Rattle.std.specs.Prelude.{ℕ, ℤ, pos, negsuc, Bool, true, false, ◌&&◌, ◌==◌, nat_le, List, codes, position, unwrap_or, if◌then◌else◌}
 use Rattle.std.specs.List.{fold}
 use Rattle.std.specs.Str.{str_eq_ignore_ascii_case}
 use Rattle.gq_number.specs.Number.{Number}

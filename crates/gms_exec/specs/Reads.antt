@@ -1,5 +1,5 @@
 -- What an assignment leaves to be read: at each element what it is given there, or else what was there.
-use Rattle.std.specs.Prelude.{ℕ, Bool, List, [], ◌∷◌, map, reverse, find, Option, Some, None, option_map}
+use Rattle.std.specs.Prelude.{ℕ, Bool, List, reverse, find, Option, Some, None, option_map}
 use Rattle.gq_extended.specs.Extended.{Extended}
 use Rattle.gms_tuple.specs.TupleOrder.{same_tuple}
 use Rattle.gms_ast.specs.declared.expression.Suffix.{Suffix}

@@ -18,7 +18,7 @@ use Rattle.gms_eval.specs.Faults.{Answer as Evaluated, Fault, nothing, faulted}
 use Rattle.gms_eval.specs.Holds.{holds}
 use Rattle.gms_eval.specs.Value.{domain, sets_of}
 use Rattle.gms_eval.specs.declared.stop.StopKind.TheVariants.{NoSolver, Aborted}
-use Rattle.gms_event.specs.Events.{Event, Shown, displays, solves, aborts, stops}
+use Rattle.gms_event.specs.Events.{Event, displays, solves, aborts, stops}
 use Rattle.gms_rows.specs.Rows.{equations_of}
 use Rattle.gms_rows.specs.ProgramLp.{program_lp}
 use Rattle.lp_core.specs.declared.answer.Answer.{Answer}

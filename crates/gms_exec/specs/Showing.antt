@@ -2,7 +2,6 @@
 -- over all elements of its domain, and how many these may be, is this project's own rule.
 use Rattle.std.specs.Prelude.{ℕ, pos, min, nat_le, length, Bool, true, not, List, [], ◌∷◌, map, filter, Option, Some, None, Ok, if◌then◌else◌, ◌==◌}
 use Rattle.std.specs.List.{range_with_len}
-use Rattle.gms_labels.specs.declared.place.Place.{Place}
 use Rattle.gq_number.specs.Number.{whole}
 use Rattle.gq_extended.specs.Extended.{Extended, number}
 use Rattle.gms_ast.specs.declared.word.Named.{Named}
@@ -14,7 +13,7 @@ use Rattle.gms_tuple.specs.Products.{product}
 use Rattle.gms_store.specs.declared.kind.SymbolKind.TheVariants.{Undeclared}
 use Rattle.gms_store.specs.State.{State, symbol_at, symbol_of, attributes_of, given_of, statuses_in}
 use Rattle.gms_store.specs.Declarations.{kind_in}
-use Rattle.gms_eval.specs.Answers.{is_so, in_order}
+use Rattle.gms_eval.specs.Nodes.{is_so, in_order}
 use Rattle.gms_eval.specs.Bindings.{Pairs}
 use Rattle.gms_eval.specs.Domain.{labels_of, sized}
 use Rattle.gms_eval.specs.Faults.{Answer, nothing, ◌and_then◌}

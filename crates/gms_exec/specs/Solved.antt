@@ -1,9 +1,9 @@
 -- The state after a solve was answered (GAMS User's Guide, "Model and Solve Statements", model and solver status, levels and marginals).
 -- Which answers leave levels and marginals as they were is this project's own rule.
-use Rattle.std.specs.Prelude.{ℕ, pos, ◌==◌, if◌then◌else◌, List, [], ◌∷◌, ◌++◌, map, Option, Some, None}
+use Rattle.std.specs.Prelude.{ℕ, pos, ◌==◌, if◌then◌else◌, List, [], ◌∷◌, ◌++◌, map}
 use Rattle.std.specs.List.{fold}
 use Rattle.gq_number.specs.Number.{Number, whole}
-use Rattle.gms_store.specs.State.{State, Attributes, attributes_of, after_attributes, after_statuses, with_level, with_marginal}
+use Rattle.gms_store.specs.State.{State, attributes_of, after_attributes, after_statuses, with_level, with_marginal}
 use Rattle.lp_core.specs.declared.program.Column.{Column}
 use Rattle.lp_core.specs.declared.program.Row.{Row}
 use Rattle.lp_core.specs.declared.program.Lp.{Lp}

@@ -6,12 +6,12 @@ ghost use Rattle.gms_ast.specs.TreeView.{tree_of, index_tree, indices_of};
 ghost use Rattle.gms_ast.specs.Trees.{no_index};
 ghost use Rattle.gms_ast.specs.declared.expression.Suffix.TheVariants.{Lo, Up, L, M, Fx};
 ghost use Rattle.gms_store.specs.State.{symbol_of};
-ghost use Rattle.gms_eval.specs.Answers.{in_order};
+ghost use Rattle.gms_eval.specs.Nodes.{in_order};
 ghost use Rattle.gms_eval.specs.Bindings.{controlled};
 ghost use Rattle.gms_eval.specs.Faults.{nothing, ◌and_then◌};
 ghost use Rattle.gms_eval.specs.Gives.{Gives};
 ghost use Rattle.gms_exec.specs.Assignment.{newly_controlled, takes, where_taken, is_set, target_of, given_under, element_under, those_there, given_by, after_assignment};
-ghost use Rattle.gms_exec.specs.Walks.{given_in, all_given_in, Assigns, first_set, behind_others, noted, with_found, found_in, found_at};
+ghost use Rattle.gms_exec.specs.InnerWalks.{given_in, all_given_in, Assigns, first_set, behind_others, noted, with_found, found_in, found_at};
 
 use crate::given::{Given, put_all};
 use crate::membership::membership;

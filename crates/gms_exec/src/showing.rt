@@ -2,14 +2,14 @@
 ghost use Rattle.std.specs.Prelude.{◌≡◌, ◌∷◌, [], length, not, map, option_map, Ok, IfOk, OnOk};
 ghost use Rattle.gq_extended.specs.Meaning.{extended};
 ghost use Rattle.gms_store.specs.State.{symbol_of, given_of};
-ghost use Rattle.gms_eval.specs.Answers.{truth, is_so};
+ghost use Rattle.gms_eval.specs.Nodes.{truth, is_so};
 ghost use Rattle.gms_eval.specs.Domain.{sized};
 ghost use Rattle.gms_eval.specs.Faults.{◌and_then◌};
 ghost use Rattle.gms_eval.specs.Gives.{Gives};
 ghost use Rattle.gms_eval.specs.References.{lower_value, upper_value, plain_value};
 ghost use Rattle.gms_event.specs.EventView.{shown_in};
 ghost use Rattle.gms_exec.specs.Showing.{status_shown, value_shown, elements_at, is_bound, is_indexed, entries_shown, tuples_looked_at, shown_of, all_shown};
-ghost use Rattle.gms_exec.specs.Walks.{entries_in, is_kept, with_entries, tuples_given, text_shown, symbol_shown};
+ghost use Rattle.gms_exec.specs.InnerWalks.{entries_in, is_kept, with_entries, tuples_given, text_shown, symbol_shown};
 
 use crate::walk::Walk;
 use gms_ast::{Named, Sequence, Show, Suffix, Word};

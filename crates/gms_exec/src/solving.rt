@@ -10,9 +10,9 @@ ghost use Rattle.gms_rows.specs.Plain.{HasPlainDefinitions};
 ghost use Rattle.gms_rows.specs.Rows.{equations_of};
 ghost use Rattle.gms_exec.specs.Run.{solve};
 ghost use Rattle.gms_exec.specs.Solved.{statuses_of, with_point, points, column_keys, row_keys, after_end};
-ghost use Rattle.gms_exec.specs.Solving.{Grown, ShowsSolve, Solves};
+ghost use Rattle.gms_exec.specs.InnerSolving.{Grown, ShowsSolve, Solves, AnswersAt, path_at};
 ghost use Rattle.gms_exec.specs.Standing.{ShowsStanding};
-ghost use Rattle.gms_exec.specs.Walks.{Runs, Answered, UnlessMemory, AnswersAt, path_at};
+ghost use Rattle.gms_exec.specs.Stepping.{Runs, Answered, UnlessMemory};
 
 use crate::statement::stopped;
 use gms_ast::{Program, Sequence};
@@ -290,7 +290,9 @@ pub(crate) fn solve_model(
     ensures runs { Runs frac_value result (solve frac_value (2 ^ 127 - 1) (map name solvers.old.items) program.now.statements.items s.model s.objective s.maximize s.at b.now)
         (record { state = store.old; events = events.old.items; answers = answers.old.items })
         (record { state = store.new; events = events.new.items; answers = answers.new.items }) }
-    ensures solvers { UnlessMemory result (Answered frac_value (2 ^ 127 - 1) name rule paths solvers.old.items solvers.new.items answers.new.items events.old.items events.new.items) }
+    ensures solvers { UnlessMemory result (Answered frac_value (2 ^ 127 - 1) name rule paths solvers.old.items solvers.new.items
+        (record { state = store.old; events = events.old.items; answers = answers.old.items })
+        (record { state = store.new; events = events.new.items; answers = answers.new.items })) }
     ensures standing { UnlessMemory result (ShowsStanding frac_value (2 ^ 127 - 1) (map rule solvers.old.items) answers.new.items events.old.items events.new.items) }
 {
     if solvers.is_empty() {

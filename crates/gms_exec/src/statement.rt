@@ -14,7 +14,8 @@ ghost use Rattle.lp_core.specs.declared.answer.Answer.{Answer};
 ghost use Rattle.gms_exec.specs.Run.{of_statement, display, abort, abort_where};
 ghost use Rattle.lp_core.specs.declared.answer.Rule.{Rule};
 ghost use Rattle.gms_exec.specs.Standing.{ShowsStanding};
-ghost use Rattle.gms_exec.specs.Walks.{Runs, Answered, Assigns, AreKept, IsOnce, AsksNoSolver, UnlessMemory, ShowsNoSolve};
+ghost use Rattle.gms_exec.specs.InnerWalks.{Assigns, IsOnce, AsksNoSolver, ShowsNoSolve};
+ghost use Rattle.gms_exec.specs.Stepping.{Runs, Answered, AreKept, UnlessMemory};
 
 use crate::assignment::Assignment;
 use crate::options::after_options;
@@ -56,7 +57,9 @@ pub fn step(
     ensures runs { Runs frac_value result (of_statement frac_value (2 ^ 127 - 1) (record { program = program.now; solvers = map name solvers.old.items }) s.now b.now)
         (record { state = store.old; events = events.old.items; answers = answers.old.items })
         (record { state = store.new; events = events.new.items; answers = answers.new.items }) }
-    ensures solvers { UnlessMemory result (Answered frac_value (2 ^ 127 - 1) name rule paths solvers.old.items solvers.new.items answers.new.items events.old.items events.new.items) }
+    ensures solvers { UnlessMemory result (Answered frac_value (2 ^ 127 - 1) name rule paths solvers.old.items solvers.new.items
+        (record { state = store.old; events = events.old.items; answers = answers.old.items })
+        (record { state = store.new; events = events.new.items; answers = answers.new.items })) }
     ensures standing { UnlessMemory result (ShowsStanding frac_value (2 ^ 127 - 1) (map rule solvers.old.items) answers.new.items events.old.items events.new.items) }
     ensures settings { UnlessMemory result (AreKept (length solvers.old.items) store.new.settings) }
     ensures plain { UnlessMemory result (AreOneDimensional store.new program.now.statements.items) }
@@ -96,7 +99,9 @@ fn once(
     ensures runs { Runs frac_value result (of_statement frac_value (2 ^ 127 - 1) (record { program = program.now; solvers = map name solvers.old.items }) s.now b.now)
         (record { state = store.old; events = events.old.items; answers = answers.old.items })
         (record { state = store.new; events = events.new.items; answers = answers.new.items }) }
-    ensures solvers { UnlessMemory result (Answered frac_value (2 ^ 127 - 1) name rule paths solvers.old.items solvers.new.items answers.new.items events.old.items events.new.items) }
+    ensures solvers { UnlessMemory result (Answered frac_value (2 ^ 127 - 1) name rule paths solvers.old.items solvers.new.items
+        (record { state = store.old; events = events.old.items; answers = answers.old.items })
+        (record { state = store.new; events = events.new.items; answers = answers.new.items })) }
     ensures standing { UnlessMemory result (ShowsStanding frac_value (2 ^ 127 - 1) (map rule solvers.old.items) answers.new.items events.old.items events.new.items) }
     ensures settings { UnlessMemory result (AreKept (length solvers.old.items) store.new.settings) }
     ensures plain { UnlessMemory result (AreOneDimensional store.new program.now.statements.items) }

@@ -14,12 +14,12 @@ use Rattle.gms_eval.specs.Bindings.{controlled}
 use Rattle.gms_eval.specs.Domain.{elements, too_large, sized, those_where}
 use Rattle.gms_eval.specs.Faults.{Answer, ◌and_then◌}
 use Rattle.gms_eval.specs.Holds.{holds}
-use Rattle.gms_eval.specs.Leading.{IsSimple}
+use Rattle.gms_eval.specs.InnerLeading.{IsSimple}
 use Rattle.gms_eval.specs.Value.{domain, control_over}
 use Rattle.gms_eval.proofs.Simple.{elements-ordered, element-length}
 use Rattle.gms_rows.specs.Plain.{ArePlain}
 use Rattle.gms_rows.specs.Rows.{each_once, sets_among}
-use Rattle.gms_rows.specs.Walks.{AreInOrder}
+use Rattle.gms_rows.specs.ElementRows.{AreInOrder}
 
 -- ---- answers and their parts
 

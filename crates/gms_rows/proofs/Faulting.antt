@@ -1,5 +1,5 @@
 -- Steps on forms with the faults of a run.
-use Rattle.std.proofs.Common.{◌≡◌, ◌≢◌, ℕ, pos, true, false, if◌then◌else◌, Option, Result, Err, refl, sym, ap, ◌∙◌, subst}
+use Rattle.std.proofs.Common.{◌≡◌, ◌≢◌, ℕ, pos, Bool, true, false, ◌==◌, if◌then◌else◌, length, Option, Result, Err, sym, ap, ◌∙◌, subst}
 use Rattle.gms_labels.specs.declared.place.Place.{Place}
 use Rattle.gq_number.specs.Number.{Number, whole}
 use Rattle.gq_extended.specs.Extended.{Extended, number}
@@ -12,11 +12,11 @@ use Rattle.gms_eval.proofs.Marks.{stops-shown}
 use Rattle.lp_form.specs.declared.key.Key.{Key}
 use Rattle.lp_form.specs.declared.fault.FormFault.{FormFault}
 use Rattle.lp_form.specs.declared.fault.FormFault.TheVariants as fault
-use Rattle.gms_rows.specs.Affine.{times_number}
-use Rattle.lp_form.specs.Affine.{Affine}
+use Rattle.lp_form.specs.Affine.{Affine, IsForm}
 use Rattle.lp_sum.specs.Sums.{IsKept}
-use Rattle.gms_rows.specs.Forms.{Form, form_in, entry_of, is_not_zero, where_fits, scaled}
-use Rattle.gms_rows.specs.Walks.{Told, ShowsFault}
+use Rattle.gms_rows.specs.Forms.{Form, form_in, entry_of, is_number, is_not_zero, where_fits, scaled, multiple, product_of, quotient_of}
+use Rattle.gms_rows.specs.InnerWalks.{Told, ShowsFault}
+use Rattle.gms_rows.proofs.ColumnKeys.{keys-form}
 use Rattle.gms_rows.proofs.Entries.{not_zero-true, not_zero-zero}
 
 module _ {F : Type 0} (v : F → Number) (at : Place) (b : Pairs) (left right : Option Key → Extended) where
@@ -27,20 +27,31 @@ module _ {F : Type 0} (v : F → Number) (at : Place) (b : Pairs) (left right : 
   stops-told fault.Memory stop steps told shows =
       subst (λ s. Stops v s (where_fits at b left right steps)) (sym shows) tt
 
-module _ (limit : ℕ) (b : Pairs) (at : Place) (form : Form) where
-  -- a division by 0
-  pub over-zero : (x : Number) → x ≡ whole (pos 0) → times_number limit b true at form x ≡ Err (faulted Divide at b (number form.constant) (number x))
-  over-zero x is =
-      ap (λ some. if (if some then false else true) then Err (faulted Divide at b (number form.constant) (number x)) else scaled limit at b true form x) (ap is_not_zero is ∙ not_zero-zero)
+module _ (limit : ℕ) (at : Place) (b : Pairs) (form : Form) where
+  -- a form over 0, and over another number
+  over_number : (x : Number) (some : Bool) → is_not_zero x ≡ some → quotient_of limit at b form x ≡ (if some then scaled limit at b true form x else Err (faulted Divide at b (number form.constant) (number x)))
+  over_number x some is =
+      ap (λ other. if other then scaled limit at b true form x else Err (faulted Divide at b (number form.constant) (number x))) is
 
-  -- a division by another number
-  pub over-some : (x : Number) → x ≢ whole (pos 0) → times_number limit b true at form x ≡ scaled limit at b true form x
-  over-some x some =
-      ap (λ some. if (if some then false else true) then Err (faulted Divide at b (number form.constant) (number x)) else scaled limit at b true form x) (not_zero-true x some)
+  pub over-zero : (x : Number) → x ≡ whole (pos 0) → quotient_of limit at b form x ≡ Err (faulted Divide at b (number form.constant) (number x))
+  over-zero x is = over_number x false (ap is_not_zero is ∙ not_zero-zero)
 
-  -- a product
-  pub times-some : (x : Number) → times_number limit b false at form x ≡ scaled limit at b false form x
-  times-some x = refl
+  pub over-some : (x : Number) → x ≢ whole (pos 0) → quotient_of limit at b form x ≡ scaled limit at b true form x
+  over-some x some = over_number x true (not_zero-true x some)
+
+module _ {F : Type 0} (v : F → Number) (limit : ℕ) (at : Place) (b : Pairs) (a form : Affine F) (is : IsForm v form) where
+  -- a form is a number where it has no keys
+  number-is : (so : Bool) → (length form.keys == 0) ≡ so → is_number (form_in v form) ≡ so
+  number-is so none = ap (λ keys. length keys == 0) (keys-form v form is) ∙ none
+
+  -- the product with a number, and that of a number with another form
+  pub times-number : (length form.keys == 0) ≡ true → product_of limit at b (form_in v a) (form_in v form) ≡ scaled limit at b false (form_in v a) (v form.constant)
+  times-number none =
+      ap (λ n. if n then scaled limit at b false (form_in v a) (v form.constant) else multiple limit at b (v a.constant) (form_in v form)) (number-is true none)
+
+  pub number-times : (length form.keys == 0) ≡ false → product_of limit at b (form_in v a) (form_in v form) ≡ multiple limit at b (v a.constant) (form_in v form)
+  number-times some =
+      ap (λ n. if n then scaled limit at b false (form_in v a) (v form.constant) else multiple limit at b (v a.constant) (form_in v form)) (number-is false some)
 
 module _ {F : Type 0} (v : F → Number) (at : Place) (b : Pairs) (right : Option Key → Extended) where
   -- a sum that is kept after a fault of a step shows what it was

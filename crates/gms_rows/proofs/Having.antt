@@ -1,12 +1,12 @@
 -- Whether the parts of a sum or a product have variables, part by part.
-use Rattle.std.proofs.Common.{◌≡◌, ℕ, ◌+◌, ◌<◌, ◌≤◌, Bool, true, false, ◌||◌, List, ◌∷◌, drop, length, get_or, sym, ap, ◌∙◌}
+use Rattle.std.proofs.Common.{◌≡◌, ℕ, ◌+◌, ◌<◌, ◌≤◌, Bool, true, false, ◌||◌, if◌then◌else◌, List, ◌∷◌, drop, length, get_or, sym, ap, ◌∙◌}
 use Rattle.std.proofs.lemmas.List.{at_drop_more, at_drop_all}
 use Rattle.gms_labels.specs.declared.place.Place.{Place}
 use Rattle.gms_ast.specs.declared.expression.Expr.{Expr}
 use Rattle.gms_ast.specs.TreeView.{tree_of}
 use Rattle.gms_store.specs.State.{State}
-use Rattle.gms_rows.specs.Affine.{has_variables, some_has_variables}
-use Rattle.gms_rows.specs.Walks.{parts_in}
+use Rattle.gms_rows.specs.Affine.{has_variables, some_has_variables, in_front}
+use Rattle.gms_rows.specs.InnerWalks.{parts_in}
 
 module _ {F : Type 0} (state : State) (parts : List (Place × Bool × Expr F)) (i : ℕ) where
   -- the next part has some, or a later one
@@ -23,3 +23,20 @@ module _ {F : Type 0} (state : State) (parts : List (Place × Bool × Expr F)) (
 
   pub none-left : length parts ≤ i → some_has_variables state (parts_in (drop i parts)) ≡ false
   none-left all = at_drop_all (λ ps. some_has_variables state (parts_in ps)) parts i all
+
+  -- ---- how many stand in front
+
+  next_front : (p : Place × Bool × Expr F) → i < length parts → p ≡ get_or parts i p → (has : Bool) → has_variables state (tree_of p.2) ≡ has → in_front state (parts_in (drop i parts)) ≡ (if has then 0 else in_front state (parts_in (drop (i + 1) parts)) + 1)
+  next_front p here is has so =
+      at_drop_more (λ ps. in_front state (parts_in ps)) parts i p here
+      ∙ ap (λ (z : Place × Bool × Expr F). in_front state (parts_in (z ∷ drop (i + 1) parts))) (sym is)
+      ∙ ap (λ h. if h then 0 else in_front state (parts_in (drop (i + 1) parts)) + 1) so
+
+  pub front-ends : (p : Place × Bool × Expr F) → i < length parts → p ≡ get_or parts i p → has_variables state (tree_of p.2) ≡ true → in_front state (parts_in (drop i parts)) ≡ 0
+  front-ends p here is so = next_front p here is true so
+
+  pub front-more : (p : Place × Bool × Expr F) → i < length parts → p ≡ get_or parts i p → has_variables state (tree_of p.2) ≡ false → in_front state (parts_in (drop i parts)) ≡ in_front state (parts_in (drop (i + 1) parts)) + 1
+  front-more p here is so = next_front p here is false so
+
+  pub front-over : length parts ≤ i → in_front state (parts_in (drop i parts)) ≡ 0
+  front-over all = at_drop_all (λ ps. in_front state (parts_in ps)) parts i all

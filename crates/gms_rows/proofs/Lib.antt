@@ -6,6 +6,8 @@ pub mod ColumnKeys
 pub mod Placing
 pub mod Faulting
 pub mod Having
+pub mod Joins
+pub mod OtherNodes
 pub mod Parts
 pub mod Naming
 pub mod IndexSets

@@ -5,13 +5,12 @@ use Rattle.gms_ast.specs.declared.expression.Index.{Index}
 use Rattle.gms_ast.specs.TreeView.{index_tree, indices_of}
 use Rattle.gms_store.specs.State.{State}
 use Rattle.gms_eval.specs.declared.stop.StopOrMemory.{StopOrMemory}
-use Rattle.gms_eval.specs.Answers.{in_order}
+use Rattle.gms_eval.specs.Nodes.{in_order}
 use Rattle.gms_eval.specs.Bindings.{Pairs}
 use Rattle.gms_eval.specs.Faults.{Answer, ◌and_then◌}
 use Rattle.gms_eval.specs.Gives.{Stops}
 use Rattle.gms_eval.specs.References.{tuple_of}
-use Rattle.gms_eval.specs.Value.{labels}
-use Rattle.gms_eval.specs.Walks.{label_answer}
+use Rattle.gms_eval.specs.Value.{labels, label_answer}
 use Rattle.gms_eval.proofs.Answering.{and_then_assoc, stops-then, stops-same}
 use Rattle.gms_eval.proofs.TreeValues.{labels-indices_of}
 use Rattle.lp_core.specs.declared.program.Sense.{Sense}

@@ -12,17 +12,17 @@ use Rattle.gms_tuple.specs.TupleOrder.{tuple_cmp, IsOrdered}
 use Rattle.gms_tuple.specs.OrderLaws.{tuple_cmp-total}
 use Rattle.gms_tuple.proofs.Ordered.{first-before, rest-ordered}
 use Rattle.gms_store.specs.State.{State}
-use Rattle.gms_eval.specs.Answers.{in_order}
+use Rattle.gms_eval.specs.Nodes.{in_order}
 use Rattle.gms_eval.specs.Bindings.{Pairs, label_of, paired}
 use Rattle.gms_eval.specs.Faults.{Answer, ◌and_then◌}
 use Rattle.gms_eval.specs.References.{all_there, tuple_of}
 use Rattle.gms_eval.specs.Value.{labels}
 use Rattle.lp_core.proofs.Points.{AllPairs-first, AllPairs-rest}
 use Rattle.lp_form.specs.declared.key.Key.{Key}
-use Rattle.gms_rows.specs.ElementRows.{sets_of, bound_to, tuple_at}
+use Rattle.gms_rows.specs.ElementRows.{sets_of, bound_to, tuple_at, AreInOrder}
 use Rattle.gms_rows.specs.Plain.{ArePlain}
 use Rattle.gms_rows.specs.Rows.{Definition, FormRow, each_once, sets_among, sense_of, those_there, row_form, rows_of}
-use Rattle.gms_rows.specs.Walks.{AreInOrder, HaveOrder}
+use Rattle.gms_rows.specs.InnerWalks.{HaveOrder}
 use Rattle.gms_rows.proofs.Domains.{given, only_value, All-each_once, plain-simple, domain-known}
 use Rattle.gms_rows.proofs.OneRow.{row_at}
 use Rattle.gms_rows.proofs.RowWalk.{row_of, domain_of, joined_rows}

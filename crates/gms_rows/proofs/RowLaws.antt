@@ -14,7 +14,7 @@ use Rattle.gms_tuple.specs.TupleSet.{has}
 use Rattle.gms_tuple.proofs.Members.{has-Contains}
 use Rattle.gms_tuple.proofs.Ordered.{first-before, rest-ordered, same_tuple-Decides, same_tuple_refl, same_tuple-Greater, tuple_cmp-flip}
 use Rattle.gms_store.specs.State.{State}
-use Rattle.gms_eval.specs.Answers.{in_order}
+use Rattle.gms_eval.specs.Nodes.{in_order}
 use Rattle.gms_eval.specs.Bindings.{controlled}
 use Rattle.gms_eval.specs.Domain.{elements, sized, those_where}
 use Rattle.gms_eval.specs.Faults.{Answer}

@@ -11,13 +11,14 @@ use Rattle.gms_ast.specs.TreeView.{tree_of}
 use Rattle.gms_ast.specs.Trees.{Tree}
 use Rattle.gms_store.specs.State.{State}
 use Rattle.gms_eval.specs.declared.stop.StopOrMemory.{StopOrMemory}
-use Rattle.gms_eval.specs.Answers.{in_order}
+use Rattle.gms_eval.specs.Nodes.{in_order}
 use Rattle.gms_eval.specs.Bindings.{Pairs, controlled}
 use Rattle.gms_eval.specs.Faults.{Answer, ◌and_then◌}
 use Rattle.gms_eval.specs.Gives.{Stops}
 use Rattle.gms_eval.specs.Value.{domain, control_over}
 use Rattle.gms_eval.proofs.Answering.{and_then_assoc, stops-along, stops-then, stops-same}
-use Rattle.gms_rows.specs.Walks.{AreInOrder, HaveOrder}
+use Rattle.gms_rows.specs.InnerWalks.{HaveOrder}
+use Rattle.gms_rows.specs.ElementRows.{AreInOrder}
 use Rattle.gms_rows.specs.Rows.{Definition, FormRow, each_once, sets_among, definition_of, those_there, row_under, rows_of}
 
 -- ---- elements

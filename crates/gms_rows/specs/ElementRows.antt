@@ -1,10 +1,12 @@
 -- The row of an element of the sets of a definition (GAMS User's Guide, "Equations", "Conditional Equations").
 use Rattle.std.specs.Prelude.{◌≡◌, ℕ, Bool, true, List, [], Option, Some, None, Ok}
+use Rattle.std.specs.List.{All}
 use Rattle.gq_number.specs.Number.{Number}
 use Rattle.gms_ast.specs.Trees.{Tree}
-use Rattle.gms_store.specs.State.{State}
+use Rattle.gms_store.specs.State.{State, members_of}
+use Rattle.gms_tuple.specs.TupleOrder.{IsOrdered}
 use Rattle.gms_tuple.specs.TupleSet.{has}
-use Rattle.gms_eval.specs.Answers.{in_order}
+use Rattle.gms_eval.specs.Nodes.{in_order}
 use Rattle.gms_eval.specs.Bindings.{Pairs, controlled}
 use Rattle.gms_eval.specs.Domain.{elements}
 use Rattle.gms_eval.specs.Faults.{Answer, ◌and_then◌}
@@ -13,7 +15,6 @@ use Rattle.gms_eval.specs.References.{tuple_of}
 use Rattle.gms_eval.specs.Value.{labels}
 use Rattle.gms_rows.specs.Plain.{ArePlain}
 use Rattle.gms_rows.specs.Rows.{Definition, FormRow, each_once, sets_among, sense_of, row_form}
-use Rattle.gms_rows.specs.Walks.{AreInOrder}
 
 -- the sets over which a definition goes
 abbrev pub sets_of : {F : Type 0} → Definition F → List ℕ
@@ -22,6 +23,10 @@ sets_of d = each_once (sets_among d.indices)
 -- the binding of an element
 abbrev pub bound_to : {F : Type 0} → Definition F → List ℕ → Pairs
 bound_to d element = controlled [] (sets_of d) element
+
+-- the members of sets are in order
+abbrev pub AreInOrder : State → List ℕ → Type 0
+AreInOrder state sets = All (λ set. IsOrdered (members_of state set)) sets
 
 -- the indices of a definition are labels and sets without lags, and the members of these sets are in order and have one label each
 pub record HasPlainSets {F : Type 0} (state : State) (d : Definition F) : Type 0 where

@@ -1,6 +1,6 @@
 -- Affine forms over exact numbers, and steps on them: on the constants, and on the numbers of each element (Chvatal, "Linear Programming",
 -- chapter 1).
-use Rattle.std.specs.Prelude.{ℕ, pos, Bool, not, List, [], ◌∷◌, ◌++◌, map, find, Option, Some, None, unwrap_or, Result, Ok, Err, if◌then◌else◌}
+use Rattle.std.specs.Prelude.{ℕ, pos, Bool, true, false, not, ◌==◌, List, [], ◌∷◌, ◌++◌, length, map, find, Option, Some, None, unwrap_or, Result, Ok, Err, if◌then◌else◌}
 use Rattle.std.specs.FinMap as finite
 use Rattle.gq_number.specs.Number.{Number, whole}
 use Rattle.gms_labels.specs.declared.place.Place.{Place}
@@ -8,7 +8,7 @@ use Rattle.gms_store.specs.State.{same_number}
 use Rattle.gq_extended.specs.Extended.{Extended, number}
 use Rattle.gms_eval.specs.Bindings.{Pairs}
 use Rattle.gms_eval.specs.Faults.{Answer, faulted}
-use Rattle.gms_eval.specs.declared.stop.StopKind.TheVariants.{Limit}
+use Rattle.gms_eval.specs.declared.stop.StopKind.TheVariants.{Limit, Divide}
 use Rattle.lp_form.specs.declared.key.Key.{Key}
 use Rattle.lp_form.specs.Keys.{key_cmp}
 use Rattle.lp_form.specs.Affine.{Affine}
@@ -34,6 +34,10 @@ form_in value form =
 abbrev pub constant_form : Number → Form
 constant_form x = record { constant = x; numbers = finite.empty }
 
+-- the form of 0
+abbrev pub zero_form : Form
+zero_form = constant_form (whole (pos 0))
+
 -- the form of one element of a variable
 abbrev pub column_form : Key → Form
 column_form key = record { constant = whole (pos 0); numbers = finite.insert finite.empty key (whole (pos 1)) }
@@ -41,6 +45,10 @@ column_form key = record { constant = whole (pos 0); numbers = finite.insert fin
 -- the number of an element, 0 where it is not there
 abbrev pub number_of_key : Form → Key → Number
 number_of_key form key = unwrap_or (finite.get form.numbers key) (whole (pos 0))
+
+-- whether a form is a number: no element stands in it
+abbrev pub is_number : Form → Bool
+is_number form = length (finite.keys form.numbers) == 0
 
 -- whether a number is not 0
 abbrev pub is_not_zero : Number → Bool
@@ -94,3 +102,15 @@ module _ (limit : ℕ) (at : Place) (binding : Pairs) where
   abbrev pub scaled : Bool → Form → Number → Answer Form
   scaled divides a x =
       where_fits at binding (entry_of a) (λ key. number x) (entries_by (if divides then quotient_step limit else product_step limit) a x)
+
+  -- a number times a form
+  abbrev pub multiple : Number → Form → Answer Form
+  multiple x a = where_fits at binding (λ key. number x) (entry_of a) (entries_by (product_step limit) a x)
+
+  -- the product of two forms, one of which is a number
+  abbrev pub product_of : Form → Form → Answer Form
+  product_of a b = if is_number b then scaled false a b.constant else multiple a.constant b
+
+  -- a form over a number; over 0 there is none
+  abbrev pub quotient_of : Form → Number → Answer Form
+  quotient_of a x = if is_not_zero x then scaled true a x else Err (faulted Divide at binding (number a.constant) (number x))

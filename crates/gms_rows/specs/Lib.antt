@@ -4,4 +4,4 @@ pub mod Forms
 pub mod Plain
 pub mod ProgramLp
 pub mod Rows
-pub mod Walks
+pub mod InnerWalks

@@ -3,7 +3,7 @@ ghost use Rattle.std.specs.Prelude.{◌≡◌, ℕ, List, ◌++◌, map, option_
 ghost use Rattle.gms_ast.specs.Trees.{no_index};
 ghost use Rattle.gms_ast.specs.TreeView.{index_tree, indices_of};
 ghost use Rattle.gms_rows.specs.Rows.{each_once, listed, found, declared_by, models_of, has_lag, defined_at, definition_of, definitions, equations_of};
-ghost use Rattle.gms_rows.specs.Walks.{with_once, found_in};
+ghost use Rattle.gms_rows.specs.InnerWalks.{with_once, found_in};
 
 use gms_ast::{Act, Decl, DeclKind, Expr, Index, ModelDecl, Program, Side, Stmt};
 use gms_labels::Place;

@@ -3,13 +3,13 @@ ghost use Rattle.std.specs.Prelude.{◌≢◌, [], ◌++◌, map, flat_map, IfOk
 ghost use Rattle.std.specs.List.{All, AllPairs};
 ghost use Rattle.lp_core.specs.WellFormed.{IsWellFormed};
 ghost use Rattle.lp_core.specs.Numbers.{lp_numbers};
-ghost use Rattle.gms_eval.specs.Answers.{in_order};
+ghost use Rattle.gms_eval.specs.Nodes.{in_order};
 ghost use Rattle.gms_eval.specs.Faults.{◌and_then◌};
 ghost use Rattle.gms_eval.specs.Gives.{Gives};
 ghost use Rattle.gms_rows.specs.Plain.{HasPlainDefinitions};
 ghost use Rattle.gms_rows.specs.ProgramLp.{program_lp, program_of, sized};
 ghost use Rattle.gms_rows.specs.Rows.{definitions, definition_of, equations_of, rows_of, rows_of_model};
-ghost use Rattle.gms_rows.specs.Walks.{form_row_in, HaveOrder};
+ghost use Rattle.gms_rows.specs.InnerWalks.{form_row_in, HaveOrder};
 
 use crate::columns::{columns_of, keys_of, place_of, placed_rows};
 use crate::equations::{equations_of, find_definition};

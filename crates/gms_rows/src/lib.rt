@@ -7,7 +7,6 @@ mod form_row;
 mod generation;
 mod laws;
 mod linear;
-mod operand;
 mod rows;
 mod size;
 mod steps;

@@ -1,18 +1,23 @@
 //! The affine form of an expression.
-ghost use Rattle.std.specs.Prelude.{map, ◌≡◌};
+ghost use Rattle.std.specs.Prelude.{map, option_map, Ok, ◌≡◌};
+ghost use Rattle.gq_extended.specs.Meaning.{extended};
 ghost use Rattle.gms_ast.specs.Trees.{signed};
 ghost use Rattle.gms_ast.specs.TreeView.{tree_of, control_tree, index_tree, indices_of};
-ghost use Rattle.gms_eval.specs.Bindings.{controlled};
+ghost use Rattle.gms_eval.specs.Faults.{◌and_then◌};
 ghost use Rattle.gms_eval.specs.Gives.{Gives};
-ghost use Rattle.gms_rows.specs.Affine.{affine, operand, plain_operand, variable_form, total, total_form, joined, plus_part, times_part, meant};
+ghost use Rattle.gms_eval.specs.Nodes.{in_order, signed_step};
+ghost use Rattle.gms_eval.specs.References.{tuple_of};
+ghost use Rattle.gms_eval.specs.Value.{value, labels};
+ghost use Rattle.gms_rows.specs.Affine.{affine, constant_at, element_form, form_of, front, with_next};
 ghost use Rattle.gms_rows.specs.Forms.{form_in};
-ghost use Rattle.gms_rows.specs.Walks.{operand_in, parts_in, part_meant};
+ghost use Rattle.gms_rows.specs.InnerWalks.{parts_in, added_at, chain_form, signed_join, total_form};
 
-use crate::operand::{Operand, formed, negated};
-use crate::steps::{add, add_to, finished, scale};
-use crate::variables::has_variables;
+use crate::steps::{add, add_to, divide, finished, multiply, scale};
+use crate::variables::{count_in_front, has_variables};
 use gms_ast::{Control, Expr, Index};
-use gms_eval::{Binding, StopOrMemory, all_hold, domain, tuple_of, value};
+use gms_eval::{
+    Binding, Signed, StopKind, StopOrMemory, all_hold, domain, signed_chain, tuple_of, value,
+};
 use gms_labels::Place;
 use gms_store::Store;
 use gms_tuple::Tuple;
@@ -25,10 +30,10 @@ use std::alloc::Global;
 /// The affine form of an expression in a state, where its controlled sets stand for the labels of a binding: a constant, and a number for
 /// each element of a variable.
 ///
-/// The expression is linear, and its first character stands at `at`. What has no variables has its value; where that is no number the stop
-/// is `Undefined` at its first character. All other steps are taken entry by entry, the constant first, and a stop is the first that does
-/// not fit. GAMS User's Guide, "Equations".
-#[cycle(operand)]
+/// The expression is linear, and its first character stands at `at`. What has no variables has its value, as have the parts of a sum or a
+/// product that stand in front of the first with variables; where that is no number the stop is `Undefined` at its first character. All
+/// other steps are taken entry by entry, the constant first, and a stop is the first that does not fit. GAMS User's Guide, "Equations".
+#[cycle(affine)]
 pub fn affine<F: ExactField>(
     alloc: Global,
     store: &Store<F>,
@@ -38,67 +43,67 @@ pub fn affine<F: ExactField>(
 ) -> Result<Form<F>, StopOrMemory<F>>
     ensures { Gives F.value (form_in F.value) result (affine F.value F.limit store.now at b.now (tree_of e.now)) }
 {
-    let operand = operand(alloc, store, e, at, b)?;
-    operand.into_form(alloc, at, b)
-}
-
-/// The value of an expression without variables.
-fn plain<F: ExactField>(
-    alloc: Global,
-    store: &Store<F>,
-    e: &Expr<F>,
-    b: &Binding,
-) -> Result<Operand<F>, StopOrMemory<F>>
-    ensures { Gives F.value (operand_in F.value) result (plain_operand F.value F.limit store.now b.now (tree_of e.now)) }
-{
-    Ok(Operand::Value(value(alloc, store, e, b)?))
-}
-
-/// What an operand means whose first character stands at a place.
-
-#[cycle(operand)]
-fn operand<F: ExactField>(
-    alloc: Global,
-    store: &Store<F>,
-    e: &Expr<F>,
-    at: Place,
-    b: &Binding,
-) -> Result<Operand<F>, StopOrMemory<F>>
-    ensures { Gives F.value (operand_in F.value) result (operand F.value F.limit store.now at b.now (tree_of e.now)) }
-{
     if !has_variables(store, e) {
-        return plain(alloc, store, e, b);
+        return constant(alloc, store, e, at, b);
     }
     match e {
-        Expr::Ref { name, indices, .. } => formed(variable(alloc, store, *name, indices, b)),
+        Expr::Ref { name, indices, .. } => variable(alloc, store, *name, indices, b),
         Expr::Fold {
             at,
             control,
             body,
             ..
-        } => formed(total(alloc, store, body, control, *at, b)),
-        Expr::Neg(inner) => {
-            let part = operand(alloc, store, inner, at, b)?;
-            formed(negated(alloc, part, at, b))
+        } => total(alloc, store, body, control, *at, b),
+        Expr::Neg(operand) => {
+            let form = affine(alloc, store, operand, at, b)?;
+            scale(alloc, &form, F::one().neg(), at, b)
         }
-        Expr::Plus(parts) => sum(alloc, store, parts, b),
-        Expr::Times(parts) => product(alloc, store, parts, b),
-        Expr::Guard {
-            operand: inner,
-            guards,
-        } => {
+        Expr::Plus(parts) => chain(alloc, store, Signed::Sum, parts, b),
+        Expr::Times(parts) => chain(alloc, store, Signed::Product, parts, b),
+        Expr::Guard { operand, guards } => {
             if all_hold(alloc, store, guards, b)? {
-                operand(alloc, store, inner, at, b)
+                affine(alloc, store, operand, at, b)
             } else {
-                Ok(Operand::Form(Form::constant(alloc, F::zero())))
+                Ok(Form::constant(alloc, F::zero()))
             }
         }
-        other => plain(alloc, store, other, b),
+        other => constant(alloc, store, other, at, b),
     }
 }
 
-/// The form of an element of a variable; 0 where a lag goes past the ends of its set.
+/// The form of a value. `Undefined` at a place where it is no number.
+fn number<F: ExactField>(
+    alloc: Global,
+    value: Ext<F>,
+    at: Place,
+    b: &Binding,
+) -> Result<Form<F>, StopOrMemory<F>>
+    ensures { Gives F.value (form_in F.value) result (form_of at b.now (extended F.value value)) }
+{
+    match value {
+        Ext::Number(x) => Ok(Form::constant(alloc, x)),
+        _ => {
+            let zero = Ext::Number(F::zero());
+            Err(StopOrMemory::at_step(alloc, StopKind::Undefined, at, value, zero, b))
+        }
+    }
+}
 
+/// The form of an expression without variables: its value.
+fn constant<F: ExactField>(
+    alloc: Global,
+    store: &Store<F>,
+    e: &Expr<F>,
+    at: Place,
+    b: &Binding,
+) -> Result<Form<F>, StopOrMemory<F>>
+    ensures { Gives F.value (form_in F.value) result (constant_at F.value F.limit store.now at b.now (tree_of e.now)) }
+{
+    let value = value(alloc, store, e, b)?;
+    number(alloc, value, at, b)
+}
+
+/// The form of an element of a variable; 0 where a lag goes past the ends of its set.
 fn variable<F: ExactField>(
     alloc: Global,
     store: &Store<F>,
@@ -106,7 +111,8 @@ fn variable<F: ExactField>(
     indices: &[Index<F>],
     b: &Binding,
 ) -> Result<Form<F>, StopOrMemory<F>>
-    ensures { Gives F.value (form_in F.value) result (variable_form F.value F.limit store.now b.now name (indices_of (map index_tree indices.now))) }
+    ensures { Gives F.value (form_in F.value) result
+        (in_order (labels F.value F.limit store.now b.now (indices_of (map index_tree indices.now))) and_then λ those. Ok (element_form name (tuple_of those))) }
 {
     match tuple_of(alloc, store, indices, b)? {
         Some(tuple) => Ok(Form::column(
@@ -121,8 +127,7 @@ fn variable<F: ExactField>(
 }
 
 /// The form of a sum over a domain.
-
-#[cycle(operand)]
+#[cycle(affine)]
 fn total<F: ExactField>(
     alloc: Global,
     store: &Store<F>,
@@ -152,7 +157,7 @@ fn total<F: ExactField>(
 }
 
 /// Adds the forms of an expression at elements, to whose labels these sets are bound behind those of a binding.
-#[cycle(operand)]
+#[cycle(affine)]
 fn add_elements<F: ExactField>(
     alloc: Global,
     store: &Store<F>,
@@ -165,7 +170,8 @@ fn add_elements<F: ExactField>(
     so_far: &mut FormSum<F>,
 ) -> Result<(), StopOrMemory<F>>
     requires { inner.old ≡ b.now }
-    ensures { Gives F.value (λ _. form_in F.value so_far.new) result (total F.limit at b.now (form_in F.value so_far.old) (map (λ element. affine F.value F.limit store.now at (controlled b.now sets.now element) (tree_of body.now)) elements.now)) }
+    ensures { Gives F.value (λ _. form_in F.value so_far.new) result
+        (added_at F.value F.limit store.now at b.now sets.now (tree_of body.now) (form_in F.value so_far.old) elements.now) }
 {
     for element in elements {
         inner.control(b.len(), sets, element.as_slice())?;
@@ -175,94 +181,74 @@ fn add_elements<F: ExactField>(
     Ok(())
 }
 
-/// What a sum means, from the left: a value while no part has variables.
-
-#[cycle(operand)]
-fn sum<F: ExactField>(
+/// The form of a sum or a product: the parts in front of the first with variables make one number, and each other part is one step on forms.
+#[cycle(affine)]
+fn chain<F: ExactField>(
     alloc: Global,
     store: &Store<F>,
+    kind: Signed,
     parts: &[(Place, bool, Expr<F>)],
     b: &Binding,
-) -> Result<Operand<F>, StopOrMemory<F>>
-    ensures { Gives F.value (operand_in F.value) result (joined (plus_part F.limit b.now) (meant F.value F.limit store.now b.now (parts_in parts.now))) }
+) -> Result<Form<F>, StopOrMemory<F>>
+    ensures { Gives F.value (form_in F.value) result (chain_form F.value F.limit store.now b.now kind (parts_in parts.now)) }
 {
-    let Some(((first, _, part), rest)) = parts.split_first() else {
-        return Ok(Operand::Value(Ext::Number(F::zero())));
-    };
-    let mut so_far = operand(alloc, store, part, *first, b)?;
-    for (at, subtracts, part) in rest {
-        so_far = plus_part(alloc, store, so_far, *first, *at, *subtracts, part, b)?;
+    let count = count_in_front(store, parts);
+    let (values, rest) = parts.split_at(count);
+    let mut so_far = front(alloc, store, kind, values, b)?;
+    for (at, inverse, part) in rest {
+        let form = affine(alloc, store, part, *at, b)?;
+        let next = join(alloc, kind, so_far, form, *at, *inverse, b)?;
+        so_far = Some(next);
     }
-    Ok(so_far)
+    match so_far {
+        Some(form) => Ok(form),
+        None => Ok(Form::constant(alloc, F::zero())),
+    }
 }
 
-/// A sum with the next part, where the first character of the sum stands at a place.
-
-#[cycle(operand)]
-fn plus_part<F: ExactField>(
+/// The form of the parts in front, none of which has variables: the number that they make. `Undefined` at the first where it is none.
+fn front<F: ExactField>(
     alloc: Global,
     store: &Store<F>,
-    so_far: Operand<F>,
-    first: Place,
-    at: Place,
-    subtracts: bool,
-    part: &Expr<F>,
-    b: &Binding,
-) -> Result<Operand<F>, StopOrMemory<F>>
-    ensures { Gives F.value (operand_in F.value) result (plus_part F.limit b.now first (operand_in F.value so_far) (part_meant F.value F.limit store.now b.now (signed at subtracts) (tree_of part.now))) }
-{
-    if !has_variables(store, part) {
-        let right = value(alloc, store, part, b)?;
-        return so_far.plus(alloc, right, subtracts, at, b);
-    }
-    let left = so_far.into_form(alloc, first, b)?;
-    let right = operand(alloc, store, part, at, b)?;
-    let right = right.into_form(alloc, at, b)?;
-    formed(add(alloc, left, &right, subtracts, at, b))
-}
-
-/// What a product means, from the left: a value while no part has variables.
-
-#[cycle(operand)]
-fn product<F: ExactField>(
-    alloc: Global,
-    store: &Store<F>,
+    kind: Signed,
     parts: &[(Place, bool, Expr<F>)],
     b: &Binding,
-) -> Result<Operand<F>, StopOrMemory<F>>
-    ensures { Gives F.value (operand_in F.value) result (joined (times_part F.limit b.now) (meant F.value F.limit store.now b.now (parts_in parts.now))) }
+) -> Result<Option<Form<F>>, StopOrMemory<F>>
+    ensures { Gives F.value (option_map (form_in F.value)) result (front b.now (signed_step F.limit b.now kind)
+        (map (λ part. (signed part.0 part.1, value F.value F.limit store.now b.now (tree_of part.2))) parts.now)) }
 {
-    let Some(((first, _, part), rest)) = parts.split_first() else {
-        return Ok(Operand::Value(Ext::Number(F::zero())));
+    let Some((first, _)) = parts.split_first() else {
+        return Ok(None);
     };
-    let mut so_far = operand(alloc, store, part, *first, b)?;
-    for (at, divides, part) in rest {
-        so_far = times_part(alloc, store, so_far, *first, *at, *divides, part, b)?;
-    }
-    Ok(so_far)
+    let value = signed_chain(alloc, store, kind, parts, b)?;
+    let form = number(alloc, value, first.0, b)?;
+    Ok(Some(form))
 }
 
-/// A product with the next part, where the first character of the product stands at a place.
-
-#[cycle(operand)]
-fn times_part<F: ExactField>(
+/// The form so far joined with that of the next part of a sum or a product; the first part makes it.
+fn join<F: ExactField>(
     alloc: Global,
-    store: &Store<F>,
-    so_far: Operand<F>,
-    first: Place,
+    kind: Signed,
+    so_far: Option<Form<F>>,
+    form: Form<F>,
     at: Place,
-    divides: bool,
-    part: &Expr<F>,
+    inverse: bool,
     b: &Binding,
-) -> Result<Operand<F>, StopOrMemory<F>>
-    ensures { Gives F.value (operand_in F.value) result (times_part F.limit b.now first (operand_in F.value so_far) (part_meant F.value F.limit store.now b.now (signed at divides) (tree_of part.now))) }
+) -> Result<Form<F>, StopOrMemory<F>>
+    ensures { Gives F.value (form_in F.value) result
+        (with_next (signed_join F.limit b.now kind) (signed at inverse) (option_map (form_in F.value) so_far) (form_in F.value form)) }
 {
-    if !has_variables(store, part) {
-        let right = value(alloc, store, part, b)?;
-        return so_far.times(alloc, right, divides, at, b);
+    let Some(left) = so_far else {
+        return Ok(form);
+    };
+    match kind {
+        Signed::Sum => add(alloc, left, &form, inverse, at, b),
+        Signed::Product => {
+            if inverse {
+                divide(alloc, &left, form.offset(), at, b)
+            } else {
+                multiply(alloc, &left, &form, at, b)
+            }
+        }
     }
-    let left = so_far.into_form(alloc, first, b)?;
-    let right = operand(alloc, store, part, at, b)?;
-    let right = right.into_form(alloc, at, b)?;
-    formed(scale(alloc, &right, left.offset(), at, b))
 }

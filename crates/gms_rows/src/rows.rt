@@ -4,7 +4,8 @@ ghost use Rattle.gms_ast.specs.TreeView.{index_tree, indices_of};
 ghost use Rattle.gms_eval.specs.Faults.{◌and_then◌};
 ghost use Rattle.gms_eval.specs.Gives.{Gives};
 ghost use Rattle.gms_rows.specs.Rows.{each_once, sets_among, sense_of, those_there, row_under, rows_of};
-ghost use Rattle.gms_rows.specs.Walks.{definition_in, form_row_in, AreInOrder, HaveOrder};
+ghost use Rattle.gms_rows.specs.InnerWalks.{definition_in, form_row_in, HaveOrder};
+ghost use Rattle.gms_rows.specs.ElementRows.{AreInOrder};
 
 use crate::equations::{Definition, push_once};
 use crate::form_row::FormRow;

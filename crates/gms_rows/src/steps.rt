@@ -1,13 +1,12 @@
 //! The steps on forms, with the faults of a run.
-ghost use Rattle.std.specs.Prelude.{◌≡◌, IfOk, OnErr, true, false, if◌then◌else◌};
+ghost use Rattle.std.specs.Prelude.{◌≡◌, IfOk, OnErr, false, if◌then◌else◌};
 ghost use Rattle.std.specs.Result.{result_map_both};
 ghost use Rattle.gq_extended.specs.Extended.{number};
 ghost use Rattle.gq_extended.specs.Meaning.{extended};
 ghost use Rattle.lp_form.specs.Forms.{sum_step, difference_step};
 ghost use Rattle.gms_eval.specs.Gives.{Gives};
-ghost use Rattle.gms_rows.specs.Affine.{times_number};
-ghost use Rattle.gms_rows.specs.Forms.{form_in, entry_of, entries_of_two, sum_of, scaled};
-ghost use Rattle.gms_rows.specs.Walks.{Told, ShowsFault};
+ghost use Rattle.gms_rows.specs.Forms.{form_in, entry_of, entries_of_two, sum_of, scaled, multiple, product_of, quotient_of};
+ghost use Rattle.gms_rows.specs.InnerWalks.{Told, ShowsFault};
 
 use gms_eval::{Binding, StopKind, StopOrMemory};
 use gms_labels::Place;
@@ -164,6 +163,40 @@ pub(crate) fn scale<F: ExactField>(
     }
 }
 
+/// A number times a form, entry by entry. `Limit` at the place where a product does not fit.
+fn multiple<F: ExactField>(
+    alloc: Global,
+    x: F,
+    form: &Form<F>,
+    at: Place,
+    b: &Binding,
+) -> Result<Form<F>, StopOrMemory<F>>
+    ensures { Gives F.value (form_in F.value) result (multiple F.limit at b.now (F.value x) (form_in F.value form.now)) }
+{
+    let _ = form.keys();
+    match form.scale(alloc, x) {
+        Ok(product) => Ok(product),
+        Err(fault) => Err(behind_number(alloc, fault, x, form, at, b)),
+    }
+}
+
+/// The product of two forms, one of which is a number, entry by entry. `Limit` at the place where a product does not fit.
+pub(crate) fn multiply<F: ExactField>(
+    alloc: Global,
+    left: &Form<F>,
+    right: &Form<F>,
+    at: Place,
+    b: &Binding,
+) -> Result<Form<F>, StopOrMemory<F>>
+    ensures { Gives F.value (form_in F.value) result (product_of F.limit at b.now (form_in F.value left.now) (form_in F.value right.now)) }
+{
+    if right.keys().is_empty() {
+        scale(alloc, left, right.offset(), at, b)
+    } else {
+        multiple(alloc, left.offset(), right, at, b)
+    }
+}
+
 /// A form over a number, entry by entry. `Divide` at the place where the number is 0, `Limit` where a quotient does not fit.
 pub(crate) fn divide<F: ExactField>(
     alloc: Global,
@@ -172,7 +205,7 @@ pub(crate) fn divide<F: ExactField>(
     at: Place,
     b: &Binding,
 ) -> Result<Form<F>, StopOrMemory<F>>
-    ensures { Gives F.value (form_in F.value) result (times_number F.limit b.now true at (form_in F.value form.now) (F.value x)) }
+    ensures { Gives F.value (form_in F.value) result (quotient_of F.limit at b.now (form_in F.value form.now) (F.value x)) }
 {
     if x.is_zero() {
         let left = Ext::Number(form.offset());
@@ -201,6 +234,26 @@ fn with_number<F: ExactField>(
         FormFault::Limit(key) => {
             let left = entry(form, &key);
             StopOrMemory::at_step(alloc, StopKind::Limit, at, left, Ext::Number(x), b)
+        }
+    }
+}
+
+/// The stop of a step on a number and a form that does not fit.
+fn behind_number<F: ExactField>(
+    alloc: Global,
+    fault: FormFault,
+    x: F,
+    form: &Form<F>,
+    at: Place,
+    b: &Binding,
+) -> StopOrMemory<F>
+    ensures { ShowsFault F.value at b.now (λ _. number (F.value x)) (entry_of (form_in F.value form.now)) fault result }
+{
+    match fault {
+        FormFault::Memory => StopOrMemory::Memory,
+        FormFault::Limit(key) => {
+            let right = entry(form, &key);
+            StopOrMemory::at_step(alloc, StopKind::Limit, at, Ext::Number(x), right, b)
         }
     }
 }

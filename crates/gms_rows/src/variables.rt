@@ -1,8 +1,8 @@
 //! Whether an expression has variables of an equation.
-ghost use Rattle.std.specs.Prelude.{◌≡◌};
+ghost use Rattle.std.specs.Prelude.{◌≡◌, ◌≤◌, length};
 ghost use Rattle.gms_ast.specs.TreeView.{tree_of};
-ghost use Rattle.gms_rows.specs.Affine.{has_variables, some_has_variables};
-ghost use Rattle.gms_rows.specs.Walks.{parts_in};
+ghost use Rattle.gms_rows.specs.Affine.{has_variables, some_has_variables, in_front};
+ghost use Rattle.gms_rows.specs.InnerWalks.{parts_in};
 
 use gms_ast::{Expr, Suffix};
 use gms_labels::Place;
@@ -39,4 +39,20 @@ fn some_has_variables<F: ExactField>(store: &Store<F>, parts: &[(Place, bool, Ex
         }
     }
     false
+}
+
+/// How many parts of a sum or a product stand in front of the first with variables.
+pub(crate) fn count_in_front<F: ExactField>(
+    store: &Store<F>,
+    parts: &[(Place, bool, Expr<F>)],
+) -> usize
+    ensures count { result ≡ in_front store.now (parts_in parts.now) }
+    ensures few { result ≤ length parts.now }
+{
+    for (place, (_, _, part)) in parts.iter().enumerate() {
+        if has_variables(store, part) {
+            return place;
+        }
+    }
+    parts.len()
 }

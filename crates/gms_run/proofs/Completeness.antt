@@ -8,7 +8,6 @@ use Rattle.gms_run.specs.declared.status.Status.{Status}
 use Rattle.gms_run.specs.declared.status.Status.TheVariants.{Done, Usage, Compile, Execution, ReadFault, WriteFault}
 use Rattle.gms_words.specs.CommandLine.{Asked, Origin, in_file, generated, request_of}
 use Rattle.gms_run.specs.Solving.{Solving, number_limit}
-use Rattle.gms_run.specs.Jobs.{status_code}
 use Rattle.gms_run.specs.Statuses.{CountsSo, EndsByNoFault, HasOrigin, IsReadyFor, IsRun, IsRunOf, IsSource, IsSourceOf, MeetsNoFault, NamesProgram}
 use Rattle.gms_parse.specs.Outcomes.{IsProgram}
 use Rattle.gms_run.proofs.OneReading.{program_or_fault}
@@ -42,8 +41,8 @@ not_refused solving old new words request run n same =
       | inr errors ↦ errors.some (n.no_error errors.program (subst (λ (s : List ℕ). IsProgram number_limit s frac_value errors.program) is errors.is_program))
     ]
 
--- What a run did that met no fault, for words that name a program: it ended with 0 or with 3.
-pub completes : (status : Status) (solving : Solving) (words : List (List ℕ)) (old new : Meaning) → IsRun status solving words old new → CountsSo status old.counts new.counts → (IsReadyFor old words → EndsByNoFault status) → NamesProgram solving.before.names old.outside words → MeetsNoFault old.counts new.counts → (status_code status ≡ 0) ⊎ (status_code status ≡ 3)
+-- What a run did that met no fault, for words that name a program: it is done, or an execution error stopped it.
+pub completes : (status : Status) (solving : Solving) (words : List (List ℕ)) (old new : Meaning) → IsRun status solving words old new → CountsSo status old.counts new.counts → (IsReadyFor old words → EndsByNoFault status) → NamesProgram solving.before.names old.outside words → MeetsNoFault old.counts new.counts → (status ≡ Done) ⊎ (status ≡ Execution)
 completes Done solving words old new run counts unmet n none = inl refl
 completes Execution solving words old new run counts unmet n none = inr refl
 completes Usage solving words old new run counts unmet n none = let z : ⊥ = (let e : None ≡ Some n.request = sym run.0 ∙ n.named in cc) in absurd z
@@ -54,21 +53,13 @@ completes WriteFault solving words old new run counts unmet n (inl reliable) = a
 completes WriteFault solving words old new run counts unmet n (inr none) = absurd (none.1 counts)
 
 -- the words are refused exactly where the status says so
-pub refused_so : (status : Status) (solving : Solving) (words : List (List ℕ)) (old new : Meaning) → IsRun status solving words old new → (status_code status ≡ 1) ↔ (request_of words ≡ None)
-refused_so status solving words old new run = (there status run, back status run)
+pub refused_so : (status : Status) (solving : Solving) (words : List (List ℕ)) (old new : Meaning) → IsRun status solving words old new → (status ≡ Usage) ↔ (request_of words ≡ None)
+refused_so status solving words old new run = (λ e. (subst (λ s. IsRun s solving words old new) e run).0, back status run)
   where
-    there : (s : Status) → IsRun s solving words old new → status_code s ≡ 1 → request_of words ≡ None
-    there Usage run e = run.0
-    there Done run e = let z : ⊥ = cc in absurd z
-    there Compile run e = let z : ⊥ = cc in absurd z
-    there Execution run e = let z : ⊥ = cc in absurd z
-    there ReadFault run e = let z : ⊥ = cc in absurd z
-    there WriteFault run e = let z : ⊥ = cc in absurd z
-
     asks : (request : Asked) → request_of words ≡ Some request → request_of words ≡ None → ⊥
     asks request named none = cc
 
-    back : (s : Status) → IsRun s solving words old new → request_of words ≡ None → status_code s ≡ 1
+    back : (s : Status) → IsRun s solving words old new → request_of words ≡ None → s ≡ Usage
     back Usage run none = refl
     back Done run none = absurd (asks run.0 run.1.0 none)
     back Compile run none = absurd (asks run.0 run.1.0 none)

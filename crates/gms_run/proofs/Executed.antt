@@ -19,13 +19,13 @@ use Rattle.lp_core.specs.declared.answer.Rule.{Rule}
 use Rattle.lp_core.specs.Numbers.{answer_numbers}
 use Rattle.gms_exec.specs.Run.{Course}
 use Rattle.gms_exec.specs.Standing.{IsStanding, ShowsStanding}
-use Rattle.gms_exec.specs.Walks.{Runs, Seen, come_to}
+use Rattle.gms_exec.specs.Stepping.{Runs, Seen, come_to}
 use Rattle.gms_exec.proofs.Behind.{behind}
 use Rattle.gms_list.specs.Conditions.{IsListable}
 use Rattle.gms_list.specs.ListingText.{event_text, events_text}
 use Rattle.gms_run.specs.Solving.{HaveGrown, number_limit}
 use Rattle.gms_run.proofs.Proved.{listable}
-use Rattle.gms_run.specs.InnerSteps.{Between, IsListed, course_at}
+use Rattle.gms_run.specs.InnerSteps.{Between, IsListed, course_at, programs_in}
 
 -- what was shown stands, where nothing was shown before
 pub all_stand : (rules : List Rule) (answers : List (Answer Frac)) (before events : List (OwnEvent Frac)) → before ≡ [] → ShowsStanding frac_value number_limit rules answers before events → All (IsStanding frac_value number_limit rules answers) events
@@ -55,9 +55,9 @@ module _ (program : Program Frac) (rules : List Rule) (does : Course → Course)
   behind_front front left = ap (λ es. does (course_at old es left None)) (sym (append-nil front)) ∙ is_behind front (come_to frac_value seen_old left)
 
   -- A statement that was executed goes on.
-  pub listed_on : {A : Type 0} (x : A) (none : List (OwnEvent Frac)) (before after : List ℕ) → none ≡ [] → Runs frac_value (let r : Result A (StopOrMemory Frac) = Ok x in r) does (seen_before none) seen_new → All (IsStanding frac_value number_limit rules new.answers) events → HaveGrown old.solvers new.solvers new.answers (events_in frac_value events) →
+  pub listed_on : {A : Type 0} (x : A) (none : List (OwnEvent Frac)) (before after : List ℕ) → none ≡ [] → Runs frac_value (let r : Result A (StopOrMemory Frac) = Ok x in r) does (seen_before none) seen_new → All (IsStanding frac_value number_limit rules new.answers) events → HaveGrown old.solvers new.solvers new.answers (events_in frac_value events) → new.programs ≡ old.programs ++ programs_in events →
       after ≡ before ++ events_text program.names program.labels number_limit numbers (events_in frac_value events) → IsListed true does program rules old new before after
-  listed_on {A} x none before after e given standing grown text =
+  listed_on {A} x none before after e given standing grown programs text =
       let runs : Runs frac_value (let r : Result A (StopOrMemory Frac) = Ok x in r) does seen_old seen_new = subst (λ es. Runs frac_value (let r : Result A (StopOrMemory Frac) = Ok x in r) does (seen_before es) seen_new) e given in
       record {
         shown = events;
@@ -65,6 +65,7 @@ module _ (program : Program Frac) (rules : List Rule) (does : Course → Course)
         end = refl;
         fresh = runs.fresh;
         answers = runs.answers;
+        programs = programs;
         standing = standing;
         grown = grown;
         comes = λ front more. behind_front front (map (answer_numbers frac_value) runs.fresh ++ more) ∙ ap (behind front) (runs.comes more);
@@ -72,10 +73,10 @@ module _ (program : Program Frac) (rules : List Rule) (does : Course → Course)
       }
 
   -- A statement that a stop ended is listed with its fault.
-  pub listed_stop : {A : Type 0} (stop : ExecStop Frac) (none : List (OwnEvent Frac)) (before middle after : List ℕ) → none ≡ [] → Runs frac_value (let r : Result A (StopOrMemory Frac) = Err (Stop stop) in r) does (seen_before none) seen_new → All (IsStanding frac_value number_limit rules new.answers) events → HaveGrown old.solvers new.solvers new.answers (events_in frac_value events) →
+  pub listed_stop : {A : Type 0} (stop : ExecStop Frac) (none : List (OwnEvent Frac)) (before middle after : List ℕ) → none ≡ [] → Runs frac_value (let r : Result A (StopOrMemory Frac) = Err (Stop stop) in r) does (seen_before none) seen_new → All (IsStanding frac_value number_limit rules new.answers) events → HaveGrown old.solvers new.solvers new.answers (events_in frac_value events) → new.programs ≡ old.programs ++ programs_in events →
       middle ≡ before ++ events_text program.names program.labels number_limit numbers (events_in frac_value events) →
       after ≡ middle ++ event_text program.names program.labels number_limit numbers (stops (fault_of frac_value stop)) → IsListed false does program rules old new before after
-  listed_stop {A} stop none before middle after e given standing grown text more =
+  listed_stop {A} stop none before middle after e given standing grown programs text more =
       let runs : Runs frac_value (let r : Result A (StopOrMemory Frac) = Err (Stop stop) in r) does seen_old seen_new = subst (λ es. Runs frac_value (let r : Result A (StopOrMemory Frac) = Err (Stop stop) in r) does (seen_before es) seen_new) e given in
       let fault = fault_of frac_value stop in
       let one : List Event → List ℕ = events_text program.names program.labels number_limit numbers in
@@ -86,6 +87,7 @@ module _ (program : Program Frac) (rules : List Rule) (does : Course → Course)
         end = (fault, refl);
         fresh = runs.fresh;
         answers = runs.answers;
+        programs = programs;
         standing = standing;
         grown = grown;
         comes = λ front left. behind_front front (map (answer_numbers frac_value) runs.fresh ++ left) ∙ ap (behind front) (runs.comes left);

@@ -14,9 +14,10 @@ use Rattle.gms_host.proofs.Counting.{all_done}
 use Rattle.gms_host.proofs.Fronts.{front_longer, output-both, passes_none, passes_on}
 use Rattle.lp_core.specs.declared.answer.Answer.{Answer}
 use Rattle.lp_core.specs.declared.answer.Rule.{Rule}
+use Rattle.lp_core.specs.declared.program.Lp.{Lp}
 use Rattle.gms_exec.specs.Run.{Course, one_after_another, of_statement, while_it_runs}
 use Rattle.gms_exec.specs.Dimensions.{AreOneDimensional}
-use Rattle.gms_exec.specs.Walks.{AreKept}
+use Rattle.gms_exec.specs.Stepping.{AreKept}
 use Rattle.gms_list.specs.ListingText.{echo_text}
 use Rattle.gms_run.specs.declared.status.Status.{Status}
 use Rattle.gms_run.specs.declared.status.Status.TheVariants.{Done, Execution}
@@ -30,17 +31,17 @@ use Rattle.gms_run.proofs.Rest.{Done_so, EndsWith, begin, comes_to_rest, ends_do
 pub alone : (goes_on : Bool) (does : Course → Course) (program : Program Frac) (rules : List Rule) (old new : Between) (before after : List ℕ) → IsListed goes_on does program rules old new before after →
     (text : List ℕ) × (after ≡ before ++ text) × IsListed goes_on does program rules old new [] text
 alone goes_on does program rules old new before after p =
-    (_, p.text, record { shown = p.shown; fault = p.fault; end = p.end; fresh = p.fresh; answers = p.answers; standing = p.standing; grown = p.grown; comes = p.comes; text = refl })
+    (_, p.text, record { shown = p.shown; fault = p.fault; end = p.end; fresh = p.fresh; answers = p.answers; programs = p.programs; standing = p.standing; grown = p.grown; comes = p.comes; text = refl })
 
 -- what is listed behind a text of its own
 onto : (goes_on : Bool) (does : Course → Course) (program : Program Frac) (rules : List Rule) (old new : Between) (before text : List ℕ) → IsListed goes_on does program rules old new [] text → IsListed goes_on does program rules old new before (before ++ text)
 onto goes_on does program rules old new before text p =
-    record { shown = p.shown; fault = p.fault; end = p.end; fresh = p.fresh; answers = p.answers; standing = p.standing; grown = p.grown; comes = p.comes; text = ap (λ t. before ++ t) p.text }
+    record { shown = p.shown; fault = p.fault; end = p.end; fresh = p.fresh; answers = p.answers; programs = p.programs; standing = p.standing; grown = p.grown; comes = p.comes; text = ap (λ t. before ++ t) p.text }
 
 -- the same for what does the same
 pub same_listed : (goes_on : Bool) (f h : Course → Course) (program : Program Frac) (rules : List Rule) (old new : Between) (before after : List ℕ) → ((c : Course) → h c ≡ f c) → IsListed goes_on f program rules old new before after → IsListed goes_on h program rules old new before after
 same_listed goes_on f h program rules old new before after same p =
-    record { shown = p.shown; fault = p.fault; end = p.end; fresh = p.fresh; answers = p.answers; standing = p.standing; grown = p.grown; comes = λ events more. same _ ∙ p.comes events more; text = p.text }
+    record { shown = p.shown; fault = p.fault; end = p.end; fresh = p.fresh; answers = p.answers; programs = p.programs; standing = p.standing; grown = p.grown; comes = λ events more. same _ ∙ p.comes events more; text = p.text }
 
 module _ (job : Job) (before : Solvers) where
   -- nothing was executed
@@ -81,13 +82,14 @@ module _ (job : Job) (before : Solvers) (old : Outside) (due : List ℕ) where
   Come now i at left = HasCome job before old now due i at left
 
   -- before the first statement
-  pub come_start : (answers : List (Answer Frac)) → answers ≡ [] → Come old 0 (record { state = job.state; answers = answers; solvers = before }) due
-  come_start answers none =
-      subst (λ (given : List (Answer Frac)). Come old 0 (record { state = job.state; answers = given; solvers = before }) due) (sym none) (record {
+  pub come_start : (answers : List (Answer Frac)) (programs : List (Lp Frac)) → answers ≡ [] → programs ≡ [] → Come old 0 (record { state = job.state; answers = answers; programs = programs; solvers = before }) due
+  come_start answers programs none unsolved =
+      subst (λ (given : List (Answer Frac)). Come old 0 (record { state = job.state; answers = given; programs = programs; solvers = before }) due) (sym none)
+      (subst (λ (kept : List (Lp Frac)). Come old 0 (record { state = job.state; answers = []; programs = kept; solvers = before }) due) (sym unsolved) (record {
         text = [];
         done = done_none job before;
         passes = subst (λ d. Passes old old d due) (sym (append-nil due)) (passes_none old due);
-      })
+      }))
 
   -- One statement more was executed, whose listing stands behind what is left.
   pub record Executes (mid : Outside) (goes_on : Bool) (i : ℕ) (next : Between) (left : List ℕ) : Type 0 where
@@ -136,15 +138,15 @@ module _ (job : Job) (before : Solvers) (old : Outside) (due : List ℕ) where
 
   -- ---- the end
 
-  ended : (new : Outside) (status : Status) (at : Between) (text left : List ℕ) → EndsWith job before status at text → Passes old new (due ++ text) left → length left ≤ 4096 → EndsBehind status job (solving_with job before at) at.state old new due left
+  ended : (new : Outside) (status : Status) (at : Between) (text left : List ℕ) → EndsWith job before status at text → Passes old new (due ++ text) left → length left ≤ 4096 → EndsBehind status job (solving_with job before at) at.state at.programs old new due left
   ended new status at text left e passes room = record { ends = e.ends; passes = subst (λ t. Passes old new (due ++ t) left) (sym e.shown) passes; room = room }
 
   -- behind the last statement
-  pub came_done : (new : Outside) (i : ℕ) (at : Between) (left : List ℕ) (xs : List (Stmt Frac)) → Come new i at left → length left ≤ 4096 → xs ≡ job.statements → length xs ≤ i → EndsBehind Done job (solving_with job before at) at.state old new due left
+  pub came_done : (new : Outside) (i : ℕ) (at : Between) (left : List ℕ) (xs : List (Stmt Frac)) → Come new i at left → length left ≤ 4096 → xs ≡ job.statements → length xs ≤ i → EndsBehind Done job (solving_with job before at) at.state at.programs old new due left
   came_done new i at left xs h room same all = ended new Done at h.text left (ends_done job before i at h.text (subst (λ ys. length ys ≤ i) same all) h.done) h.passes room
 
   -- behind a statement that a fault stopped
-  pub came_stopped : (mid new : Outside) (i : ℕ) (at : Between) (left spool rest : List ℕ) → Executes mid false i at left → Passes mid new left spool → length spool ≤ 4096 → rest ≡ [] → EndsBehind Execution job (solving_with job before at) at.state old new due (spool ++ rest)
+  pub came_stopped : (mid new : Outside) (i : ℕ) (at : Between) (left spool rest : List ℕ) → Executes mid false i at left → Passes mid new left spool → length spool ≤ 4096 → rest ≡ [] → EndsBehind Execution job (solving_with job before at) at.state at.programs old new due (spool ++ rest)
   came_stopped mid new i at left spool rest h q room none =
       ended new Execution at h.text (spool ++ rest) (ends_stopped job before (i + 1) at h.text h.done) (subst (Passes old new (due ++ h.text)) (sym (ap (λ t. spool ++ t) none ∙ append-nil spool)) (passes_on old mid new (due ++ h.text) left spool h.passes q)) (room_behind spool rest room none)
 
@@ -203,12 +205,12 @@ module _ (source : List ℕ) (program : Program Frac) (old mid : Outside) (due s
       ∙ ap (λ t. first.bytes ++ (t ++ shown)) (sym (ap (λ t. spool ++ t) none ∙ append-nil spool)) ∙ ap (λ t. first.bytes ++ t) split ∙ sym (append_assoc first.bytes bytes lost)
 
   -- The statements came to their end behind the echo.
-  pub ends_echoed : (status : Status) (solving : Solving) (state last : State) (new : Outside) (pending : List ℕ) → state ≡ loaded frac_value program →
-      EndsBehind status (work program state program.statements.items) solving last mid new (spool ++ rest) pending → EndsJob status (job_of source program) solving last old new pending
-  ends_echoed status solving state last new pending same e =
-      let r = subst (λ st. EndsBehind status (work program st program.statements.items) solving last mid new (spool ++ rest) pending) same e in
+  pub ends_echoed : (status : Status) (solving : Solving) (state last : State) (programs : List (Lp Frac)) (new : Outside) (pending : List ℕ) → state ≡ loaded frac_value program →
+      EndsBehind status (work program state program.statements.items) solving last programs mid new (spool ++ rest) pending → EndsJob status (job_of source program) solving last programs old new pending
+  ends_echoed status solving state last programs new pending same e =
+      let r = subst (λ st. EndsBehind status (work program st program.statements.items) solving last programs mid new (spool ++ rest) pending) same e in
       record {
-        ends = record { solved = echoed state solving same e.ends.solved; halts = r.ends.halts; comes = r.ends.comes };
+        ends = record { solved = echoed state solving same e.ends.solved; halts = r.ends.halts; comes = r.ends.comes; kept = r.ends.kept };
         passes = record { bytes = first.bytes ++ r.passes.bytes; written = output-both old mid new first.bytes r.passes.bytes first.written r.passes.written; split = in_front _ r.passes.bytes pending r.passes.split };
         room = e.room;
       }

@@ -18,7 +18,7 @@ use Rattle.gms_set.specs.Expansion.{Given, expanded}
 use Rattle.gms_known.specs.Data.{given_to, with_datum}
 use Rattle.gms_check.specs.Loaded.{loaded, sound}
 use Rattle.gms_check.specs.Past.{Past, after_act, after_statement, with_data, with_item, with_name}
-use Rattle.gms_exec.specs.Walks.{AreKept}
+use Rattle.gms_exec.specs.Stepping.{AreKept}
 
 -- ---- declarations
 

@@ -5,8 +5,10 @@ pub mod Executing
 pub mod FirstSettings
 pub mod Growing
 pub mod Joined
+pub mod Kept
 pub mod Listed
 pub mod Loading
+pub mod Numbered
 pub mod OneReading
 pub mod Paths
 pub mod Proved

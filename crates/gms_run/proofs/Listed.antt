@@ -24,7 +24,8 @@ use Rattle.gms_exec.proofs.Standing.{answered_by_standing}
 use Rattle.gms_list.specs.ListingText.{event_text, events_text}
 use Rattle.gms_list.specs.SolveText.{solve_text}
 use Rattle.gms_run.specs.Solving.{HaveGrown, number_limit}
-use Rattle.gms_run.specs.InnerSteps.{Between, IsListed, course_at}
+use Rattle.gms_run.specs.InnerSteps.{Between, IsListed, course_at, programs_in}
+use Rattle.gms_run.proofs.Kept.{programs-append}
 use Rattle.gms_run.proofs.Paths.{grown_none, grown_more, stands-more}
 
 module _ (rules : List Rule) where
@@ -84,6 +85,7 @@ listed_none program rules now text =
       end = refl;
       fresh = [];
       answers = sym (append-nil now.answers);
+      programs = sym (append-nil now.programs);
       standing = All-nil (IsStanding frac_value number_limit rules now.answers);
       grown = grown_none now.solvers now.answers;
       comes = λ events more. ap (λ es. course_at now es more None) (sym (append-nil events));
@@ -100,6 +102,9 @@ listed_more program rules goes_on first next a b c x y z p q =
       end = q.end;
       fresh = p.fresh ++ q.fresh;
       answers = q.answers ∙ ap (λ given. given ++ q.fresh) p.answers ∙ append_assoc a.answers p.fresh q.fresh;
+      programs =
+          q.programs ∙ ap (λ kept. kept ++ programs_in q.shown) p.programs ∙ append_assoc a.programs (programs_in p.shown) (programs_in q.shown)
+          ∙ ap (λ kept. a.programs ++ kept) (sym (programs-append p.shown q.shown));
       standing = All-append (IsStanding frac_value number_limit rules c.answers) p.shown q.shown (subst (λ given. All (IsStanding frac_value number_limit rules given) p.shown) (sym q.answers) (all_standing-more rules b.answers q.fresh p.shown p.standing)) q.standing;
       grown = grown;
       comes = comes;

@@ -13,7 +13,8 @@ use Rattle.lp_core.specs.declared.answer.Answer.{Answer}
 use Rattle.lp_core.specs.declared.answer.Pivot.{Pivot}
 use Rattle.lp_core.specs.declared.answer.Rule.{Rule}
 use Rattle.gms_exec.specs.Answering.{AreAnswered, IsAnswered}
-use Rattle.gms_exec.specs.Walks.{Answered, paths_taken}
+use Rattle.gms_store.specs.State.{State}
+use Rattle.gms_exec.specs.Stepping.{Answered, paths_taken}
 use Rattle.gms_exec.proofs.Quiet.{IsNoSolve}
 use Rattle.gms_run.specs.Solving.{Solvers, HaveGrown, number_limit, paths_of, seen}
 
@@ -108,8 +109,8 @@ grew_quiet old new answers es more quiet p = λ k.
     p k ∙ ap (λ taken. option_map (λ before. before ++ taken) (slice_get old k)) (sym (paths_both k answers es more ∙ ap (λ ps. paths_of k answers es ++ ps) (paths_quiet k answers more quiet) ∙ append-nil (paths_of k answers es)))
 
 -- What a statement says of its solvers, where nothing was shown before it.
-pub grew_answered : {S : Type 0} (name : S → List ℕ) (rule : S → Rule) (paths : S → List (List Pivot)) (old new : List S) (answers : List (Answer Frac)) (none events : List (OwnEvent Frac)) → none ≡ [] →
-    Answered frac_value number_limit name rule paths old new answers none events → Grew (map paths old) (map paths new) answers (events_in frac_value events)
+pub grew_answered : {S : Type 0} {before after : State} {given : List (Answer Frac)} (name : S → List ℕ) (rule : S → Rule) (paths : S → List (List Pivot)) (old new : List S) (answers : List (Answer Frac)) (none events : List (OwnEvent Frac)) → none ≡ [] →
+    Answered frac_value number_limit name rule paths old new (record { state = before; events = none; answers = given }) (record { state = after; events = events; answers = answers }) → Grew (map paths old) (map paths new) answers (events_in frac_value events)
 grew_answered name rule paths old new answers none events empty a = λ k.
     let shown : events ≡ a.shown = a.events ∙ ap (λ es. es ++ a.shown) empty in
     a.grown k
@@ -132,7 +133,7 @@ pub grown_quiet : (old new : Solvers) (answers : List (Answer Frac)) (es more : 
 grown_quiet old new answers es more quiet p = record { names = p.names; rules = p.rules; paths = grew_quiet old.paths new.paths answers es more quiet p.paths }
 
 -- What a statement says of its solvers, where nothing was shown before it.
-pub grown_answered : {S : Type 0} (name : S → List ℕ) (rule : S → Rule) (paths : S → List (List Pivot)) (old new : List S) (answers : List (Answer Frac)) (none events : List (OwnEvent Frac)) → none ≡ [] →
-    Answered frac_value number_limit name rule paths old new answers none events → HaveGrown (seen name rule paths old) (seen name rule paths new) answers (events_in frac_value events)
+pub grown_answered : {S : Type 0} {before after : State} {given : List (Answer Frac)} (name : S → List ℕ) (rule : S → Rule) (paths : S → List (List Pivot)) (old new : List S) (answers : List (Answer Frac)) (none events : List (OwnEvent Frac)) → none ≡ [] →
+    Answered frac_value number_limit name rule paths old new (record { state = before; events = none; answers = given }) (record { state = after; events = events; answers = answers }) → HaveGrown (seen name rule paths old) (seen name rule paths new) answers (events_in frac_value events)
 grown_answered name rule paths old new answers none events empty a =
     record { names = a.names; rules = a.rules; paths = grew_answered name rule paths old new answers none events empty a }

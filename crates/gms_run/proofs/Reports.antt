@@ -22,6 +22,7 @@ use Rattle.gms_parse.specs.Outcomes.{IsProgram, IsFault}
 use Rattle.gms_check.specs.declared.error.CompileError.{CompileError}
 use Rattle.gms_check.specs.CompileErrors.{compile_errors}
 use Rattle.gms_exec.specs.Run.{Halt}
+use Rattle.lp_core.specs.declared.program.Lp.{Lp}
 use Rattle.gms_list.specs.ListingText.{echo_text, end_text, refused_echo, source_error_text, compile_errors_text}
 use Rattle.gms_run.specs.declared.status.Status.{Status}
 use Rattle.gms_run.specs.declared.status.Status.TheVariants.{Done, Usage, Compile, Execution, ReadFault, WriteFault}
@@ -33,7 +34,7 @@ use Rattle.gms_run.specs.Jobs.{HaltsSo, IsCutOff, IsSolved, Job, body_of, course
 use Rattle.gms_run.specs.Listings.{AreClosing, IsAccepted, IsExecuted, IsFront, IsListing, IsModelLine, TellsModel, TellsRun, TellsSize}
 use Rattle.gms_run.specs.Statuses.{IsUnwritten}
 use Rattle.gms_run.specs.InnerReports.{IsTold, KeepsLast, KeepsRun, Lists, Prepares}
-use Rattle.gms_run.specs.InnerSteps.{BreaksJob, EndsJob}
+use Rattle.gms_run.specs.InnerSteps.{BreaksJob, Ends, EndsJob}
 
 -- what stands behind a spool and a text that are both empty
 pub behind_nothing : (spool before text : List ℕ) → spool ++ before ≡ [] → spool ++ (before ++ text) ≡ text
@@ -111,9 +112,9 @@ listed_job status solving source program accepted solved halts = by status halts
     by WriteFault h = absurd h
 
 -- The listing of a job that came to its end.
-pub prepares_job : (status : Status) (solving : Solving) (old new : Outside) (source left : List ℕ) (program : Program Frac) (last : State) → IsProgram number_limit source frac_value program → compile_errors frac_value program solving.before.names ≡ [] →
-    EndsJob status (job_of source program) solving last old new left → Prepares status solving old new source left
-prepares_job status solving old new source left program last is_program no_error e =
+pub prepares_job : (status : Status) (solving : Solving) (old new : Outside) (source left : List ℕ) (program : Program Frac) (last : State) (programs : List (Lp Frac)) → IsProgram number_limit source frac_value program → compile_errors frac_value program solving.before.names ≡ [] →
+    EndsJob status (job_of source program) solving last programs old new left → Prepares status solving old new source left
+prepares_job status solving old new source left program last programs is_program no_error e =
     record {
       body = body_of (job_of source program) solving;
       listing = listed_job status solving source program (record { is_program = is_program; no_error = no_error }) e.ends.solved e.ends.halts;
@@ -121,18 +122,14 @@ prepares_job status solving old new source left program last is_program no_error
       room = inr e.room;
     }
 
--- The program of a run that ended and its last state were kept.
-pub keeps_run : (status : Status) (solving : Solving) (source : List ℕ) (program : Program Frac) (store : State) → IsProgram number_limit source frac_value program → HaltsSo status (course_of (job_of source program) solving).halted → (course_of (job_of source program) solving).state ≡ store →
-    KeepsLast status solving source (let kept : Option Last = Some (record { program = program; store = store }) in kept)
-keeps_run status solving source program store is_program halts last = by status halts
+-- The program of a run that ended, its last state and the programs of its solves were kept.
+pub keeps_run : (status : Status) (solving : Solving) (source : List ℕ) (last : Last) → IsProgram number_limit source frac_value last.program → Ends status (job_of source last.program) solving last.store last.solved.items → KeepsLast status solving source (Some last)
+keeps_run status solving source last is_program ends = by status ends.halts
   where
-    kept : Option Last
-    kept = Some (record { program = program; store = store })
+    run : KeepsRun solving source (Some last)
+    run = record { last = last; is = refl; is_program = is_program; state = sym ends.comes; solved = ends.kept }
 
-    run : KeepsRun solving source kept
-    run = record { last = record { program = program; store = store }; is = refl; is_program = is_program; state = sym last }
-
-    by : (s : Status) → HaltsSo s (course_of (job_of source program) solving).halted → KeepsLast s solving source kept
+    by : (s : Status) → HaltsSo s (course_of (job_of source last.program) solving).halted → KeepsLast s solving source (Some last)
     by Done h = run
     by Execution h = run
     by Usage h = absurd h

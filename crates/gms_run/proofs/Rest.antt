@@ -21,8 +21,10 @@ use Rattle.gms_run.specs.declared.status.Status.{Status}
 use Rattle.gms_run.specs.declared.status.Status.TheVariants.{Done, Execution}
 use Rattle.gms_run.specs.Solving.{HaveGrown, Solvers, Solving, number_limit}
 use Rattle.gms_run.specs.Jobs.{IsSolved, Job, course_of, first_of, shown_by}
-use Rattle.gms_run.specs.InnerSteps.{Between, Ends, IsListed, course_at}
+use Rattle.gms_run.specs.InnerSteps.{Between, Ends, IsListed, KeepsPrograms, course_at}
+use Rattle.gms_run.proofs.Kept.{keeps_programs}
 use Rattle.gms_run.proofs.Listed.{halted_stays, in_two, texts-more}
+use Rattle.gms_run.proofs.Numbered.{numbered_job}
 use Rattle.gms_run.proofs.Paths.{grown_quiet}
 use Rattle.gms_run.proofs.Settled.{AreSettled, settled_by_standing, settled_more}
 
@@ -34,7 +36,7 @@ module _ (job : Job) (before : Solvers) where
   statements = map statement_of job.statements
 
   abbrev pub begin : Between
-  begin = record { state = job.state; answers = []; solvers = before }
+  begin = record { state = job.state; answers = []; programs = []; solvers = before }
 
   abbrev pub solving_with : Between → Solving
   solving_with at = record { before = before; after = at.solvers; answers = at.answers }
@@ -107,6 +109,13 @@ module _ (job : Job) (before : Solvers) where
     settled_here : AreSettled before.rules now.answers (events_in frac_value p.shown)
     settled_here = settled_by_standing before.rules now.answers p.shown p.standing
 
+    -- where the job shows no more than these, the programs of its solves were kept
+    kept_as : (course : Course) → course_of job (solving_with now) ≡ course → course.events ≡ events_in frac_value p.shown → course.taken ≡ length now.answers →
+        KeepsPrograms before.rules now.answers now.programs (course_of job (solving_with now)).events
+    kept_as course is same taken =
+        subst (λ programs. KeepsPrograms before.rules now.answers programs (course_of job (solving_with now)).events) (sym p.programs)
+        (keeps_programs before.rules now.answers (course_of job (solving_with now)) p.shown (numbered_job job (solving_with now)) (ap (λ c. c.events) is ∙ same) (ap (λ c. c.taken) is ∙ taken) p.standing)
+
   -- What the first statements show stays where more answers are given.
   pub shown_by_first : (i : ℕ) (now next : Between) (fresh : List (Answer Frac)) (text : List ℕ) → next.answers ≡ now.answers ++ fresh → Done_so true i now text → shown_by (first_of i job) (solving_with next) ≡ text
   shown_by_first i now next fresh text same p =
@@ -124,7 +133,7 @@ module _ (job : Job) (before : Solvers) where
   -- What a job that has come to its end shows.
   pub record EndsWith (status : Status) (at : Between) (text : List ℕ) : Type 0 where
     pub shown : shown_by job (solving_with at) ≡ text
-    pub ends : Ends status job (solving_with at) at.state
+    pub ends : Ends status job (solving_with at) at.state at.programs
 
   -- Where a fault stopped the last of the statements that were executed, the job ends there.
   pub ends_stopped : (i : ℕ) (now : Between) (text : List ℕ) → Done_so false i now text → EndsWith Execution now text
@@ -136,7 +145,7 @@ module _ (job : Job) (before : Solvers) where
       after_all false now text i p ∙ ap (λ f. one_after_another (drop i statements) [] (course_at now es [] f)) p.end.1 ∙ halted_stays (drop i statements) [] here (stopped fault) refl in
       record {
         shown = ap (λ c. texts now.answers (all_events c)) is ∙ sym (p.text ∙ ap (λ f. texts now.answers (es ++ last_event (option_map stopped f))) p.end.1);
-        ends = record { solved = solved_as now here is refl (settled_here false now text i p) p.grown; halts = (fault, ap (λ c. c.halted) is); comes = ap (λ c. c.state) is };
+        ends = record { solved = solved_as now here is refl (settled_here false now text i p) p.grown; halts = (fault, ap (λ c. c.halted) is); comes = ap (λ c. c.state) is; kept = kept_as false now text i p here is refl refl };
       }
 
   -- Where all statements were executed, the job is done.
@@ -149,7 +158,7 @@ module _ (job : Job) (before : Solvers) where
       after_all true now text i p ∙ ap (λ ss. one_after_another ss [] (course_at now es [] p.fault)) none ∙ ap (course_at now es []) p.end in
       record {
         shown = ap (λ c. texts now.answers (all_events c)) is ∙ sym (p.text ∙ ap (λ f. texts now.answers (es ++ last_event (option_map stopped f))) p.end);
-        ends = record { solved = solved_as now here is refl (settled_here true now text i p) p.grown; halts = ap (λ c. c.halted) is; comes = ap (λ c. c.state) is };
+        ends = record { solved = solved_as now here is refl (settled_here true now text i p) p.grown; halts = ap (λ c. c.halted) is; comes = ap (λ c. c.state) is; kept = kept_as true now text i p here is refl refl };
       }
 
   -- What the job shows behind the text of its first statements, with the answers that these took: where a fault stopped it, nothing, and else what

@@ -19,6 +19,7 @@ use Rattle.gms_run.specs.declared.report.Last.{Last}
 use Rattle.gms_run.specs.Solving.{Solving, number_limit}
 use Rattle.gms_run.specs.Jobs.{job_of, course_of, status_code}
 use Rattle.gms_run.specs.Listings.{IsListing, IsModelLine}
+use Rattle.gms_run.specs.InnerSteps.{KeepsPrograms}
 use Rattle.gms_run.specs.Statuses.{CountsSo, EndsByNoFault, IsSource, IsUnread, with_source}
 
 -- ---- transfers
@@ -55,12 +56,13 @@ pub record Lists (status : Status) (solving : Solving) (old new : Outside) (sour
   pub listing : IsListing status solving source text
   pub written : new ≡ with_output old text
 
--- The program that was run and its last state were kept.
+-- The program that was run, its last state and the linear programs of its solves were kept.
 pub record KeepsRun (solving : Solving) (source : List ℕ) (kept : Option Last) : Type 0 where
   pub last : Last
   pub is : kept ≡ Some last
   pub is_program : IsProgram number_limit source frac_value last.program
   pub state : last.store ≡ (course_of (job_of source last.program) solving).state
+  pub solved : KeepsPrograms solving.before.rules solving.answers last.solved.items (course_of (job_of source last.program) solving).events
 
 -- of a source that was run they were kept, and of another nothing was
 abbrev pub KeepsLast : Status → Solving → List ℕ → Option Last → Type 0

@@ -1,6 +1,6 @@
 -- What the pieces that execute a job promise each other.
-use Rattle.std.specs.Prelude.{◌≡◌, ℕ, ◌+◌, ◌≤◌, Bool, true, false, List, [], ◌++◌, length, Option, Some, None, option_map, Result, Ok, Err}
-use Rattle.std.specs.List.{All}
+use Rattle.std.specs.Prelude.{◌≡◌, ℕ, ◌+◌, ◌≤◌, Bool, true, false, List, [], ◌∷◌, ◌++◌, length, map, flat_map, slice_get, Option, Some, None, option_map, IfSome, Result, Ok, Err}
+use Rattle.std.specs.List.{All, range_with_len}
 use Rattle.gq_frac.specs.declared.frac.Frac.{Frac}
 use Rattle.gq_frac.specs.Frac.{frac_value}
 use Rattle.gq_number.specs.Number.{Number}
@@ -11,15 +11,19 @@ use Rattle.gms_host.specs.Spooling.{Passes, WritesFront}
 use Rattle.gms_ast.specs.declared.program.Program.{Program}
 use Rattle.gms_ast.specs.declared.program.Stmt.{Stmt}
 use Rattle.gms_store.specs.State.{State}
+use Rattle.gms_store.specs.declared.settings.Settings.{Settings}
 use Rattle.gms_eval.specs.Faults.{Fault}
 use Rattle.gms_event.specs.declared.event.Event.{Event as OwnEvent}
-use Rattle.gms_event.specs.Events.{Event}
+use Rattle.gms_event.specs.declared.event.Event.TheVariants as own
+use Rattle.gms_event.specs.Events.{Event, Solved, solves}
 use Rattle.gms_event.specs.EventView.{events_in}
 use Rattle.lp_core.specs.declared.answer.Answer.{Answer}
 use Rattle.lp_core.specs.declared.answer.Pivot.{Pivot}
 use Rattle.lp_core.specs.declared.answer.Rule.{Rule}
+use Rattle.lp_core.specs.declared.program.Lp.{Lp}
+use Rattle.lp_core.specs.Numbers.{lp_numbers}
 use Rattle.gms_exec.specs.Run.{Course, stopped, last_event}
-use Rattle.gms_exec.specs.Standing.{IsStanding}
+use Rattle.gms_exec.specs.Standing.{IsStanding, IsStandingSolve}
 use Rattle.gms_list.specs.ListingText.{events_text}
 use Rattle.gms_run.specs.declared.status.Status.{Status}
 use Rattle.gms_run.specs.Solving.{Solvers, Solving, HaveGrown, number_limit, numbers_of, seen}
@@ -31,17 +35,51 @@ ComesTo (Ok x) Done Broken = Done x
 ComesTo (Err FailedSo) Done Broken = Broken
 ComesTo (Err Memory) Done Broken = Unit {0}
 
+-- ---- the programs of solves
+
+-- the solve that an event is, if it is one
+abbrev pub solve_of : Event → List Solved
+solve_of (solves solved) = solved ∷ []
+solve_of event = []
+
+-- the solves among events, in order
+abbrev pub solves_in : List Event → List Solved
+solves_in events = flat_map solve_of events
+
+-- the places at which these solves have their answers
+abbrev pub places_of : List Solved → List ℕ
+places_of all = map (λ (solved : Solved). solved.answer) all
+
+-- the answer at a place is one of a program, by settings that held at a solve
+abbrev pub IsAnsweredAt : List Rule → List (Answer Frac) → ℕ → Lp Frac → Type 0
+IsAnsweredAt rules answers place lp = (settings : Settings) × IsStandingSolve frac_value number_limit rules answers lp place settings
+
+-- The programs of the solves among events are kept, in order: they are those that the solves show, there is one for each answer, and the answer at
+-- the place of each is one of it.
+pub record KeepsPrograms (rules : List Rule) (answers : List (Answer Frac)) (programs : List (Lp Frac)) (events : List Event) : Type 0 where
+  pub shown : map (lp_numbers frac_value) programs ≡ map (λ (solved : Solved). solved.lp) (solves_in events)
+  pub in_order : places_of (solves_in events) ≡ range_with_len 0 (length answers)
+  pub answered : (place : ℕ) → IfSome (slice_get programs place) (IsAnsweredAt rules answers place)
+
+-- the programs of the solves that were shown, in order
+abbrev pub programs_in : List (OwnEvent Frac) → List (Lp Frac)
+programs_in [] = []
+programs_in (own.Solve line model equations lp answer solver settings level ∷ events) = lp ∷ programs_in events
+programs_in (other ∷ events) = programs_in events
+
 -- ---- between statements
 
--- What is seen of a run between statements: its state, its answers, and its solvers.
+-- What is seen of a run between statements: its state, its answers, the programs that these are of, and its solvers.
 pub record Between : Type 0 where
   pub state : State
   pub answers : List (Answer Frac)
+  pub programs : List (Lp Frac)
   pub solvers : Solvers
 
 -- the same, by what each solver tells
-abbrev pub between : {S : Type 0} → (S → List ℕ) → (S → Rule) → (S → List (List Pivot)) → State → List (Answer Frac) → List S → Between
-between name rule paths state answers solvers = record { state = state; answers = answers; solvers = seen name rule paths solvers }
+abbrev pub between : {S : Type 0} → (S → List ℕ) → (S → Rule) → (S → List (List Pivot)) → State → List (Answer Frac) → List (Lp Frac) → List S → Between
+between name rule paths state answers programs solvers =
+    record { state = state; answers = answers; programs = programs; solvers = seen name rule paths solvers }
 
 -- where a run stands that shows these events, and has these answers left
 abbrev pub course_at : Between → List Event → List (Answer Number) → Option Fault → Course
@@ -55,13 +93,14 @@ GoesOn false fault = (stop : Fault) × (fault ≡ Some stop)
 
 -- Statements were executed: they showed events and took answers behind those that were there, and the run came to the state and the end that
 -- they come to with these answers. The text of what they showed, and of the fault that stopped them, stands behind the text before. Each solve is
--- answered, and the pivots of its answer stand behind the paths of its solver.
+-- answered, its program is kept behind those that were there, and the pivots of its answer stand behind the paths of its solver.
 pub record IsListed (goes_on : Bool) (does : Course → Course) (program : Program Frac) (rules : List Rule) (old new : Between) (before after : List ℕ) : Type 0 where
   pub shown : List (OwnEvent Frac)
   pub fault : Option Fault
   pub end : GoesOn goes_on fault
   pub fresh : List (Answer Frac)
   pub answers : new.answers ≡ old.answers ++ fresh
+  pub programs : new.programs ≡ old.programs ++ programs_in shown
   pub standing : All (IsStanding frac_value number_limit rules new.answers) shown
   pub grown : HaveGrown old.solvers new.solvers new.answers (events_in frac_value shown)
   pub comes : (events : List Event) (more : List (Answer Number)) →
@@ -74,15 +113,16 @@ pub record IsListed (goes_on : Bool) (does : Course → Course) (program : Progr
 abbrev pub work : Program Frac → State → List (Stmt Frac) → Job
 work program state statements = record { program = program; state = state; statements = statements; source = []; line = 0 }
 
--- A job came to its end, so that the run ends with this status, in this state.
-pub record Ends (status : Status) (job : Job) (solving : Solving) (last : State) : Type 0 where
+-- A job came to its end, so that the run ends with this status, in this state, and the programs of its solves were kept.
+pub record Ends (status : Status) (job : Job) (solving : Solving) (last : State) (programs : List (Lp Frac)) : Type 0 where
   pub solved : IsSolved job solving
   pub halts : HaltsSo status (course_of job solving).halted
   pub comes : (course_of job solving).state ≡ last
+  pub kept : KeepsPrograms solving.before.rules solving.answers programs (course_of job solving).events
 
 -- The statements of a job came to their end, and what they show is on its way out behind a text that is due.
-pub record EndsBehind (status : Status) (job : Job) (solving : Solving) (last : State) (old new : Outside) (due pending : List ℕ) : Type 0 where
-  pub ends : Ends status job solving last
+pub record EndsBehind (status : Status) (job : Job) (solving : Solving) (last : State) (programs : List (Lp Frac)) (old new : Outside) (due pending : List ℕ) : Type 0 where
+  pub ends : Ends status job solving last programs
   pub passes : Passes old new (due ++ shown_by job solving) pending
   pub room : length pending ≤ 4096
 
@@ -95,8 +135,8 @@ pub record BreaksBehind (job : Job) (solving : Solving) (old new : Outside) (due
   pub pending : length (due ++ shown_by (first_of last job) solving) ≤ length front.1.bytes + 4096
 
 -- A job came to its end, and its listing as far as the last line is on its way out.
-pub record EndsJob (status : Status) (job : Job) (solving : Solving) (last : State) (old new : Outside) (pending : List ℕ) : Type 0 where
-  pub ends : Ends status job solving last
+pub record EndsJob (status : Status) (job : Job) (solving : Solving) (last : State) (programs : List (Lp Frac)) (old new : Outside) (pending : List ℕ) : Type 0 where
+  pub ends : Ends status job solving last programs
   pub passes : Passes old new (body_of job solving) pending
   pub room : length pending ≤ 4096
 

@@ -3,6 +3,6 @@ pub mod Searches
 pub mod Jobs
 pub mod Listings
 pub mod Statuses
+pub mod Laws
 pub mod InnerSteps
 pub mod InnerReports
-pub mod Laws

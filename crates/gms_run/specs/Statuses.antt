@@ -15,7 +15,6 @@ use Rattle.gms_words.specs.CommandLine.{Asked, Origin, in_file, generated, reque
 use Rattle.gms_run.specs.declared.status.Status.{Status}
 use Rattle.gms_run.specs.declared.status.Status.TheVariants.{Done, Usage, Compile, Execution, ReadFault, WriteFault}
 use Rattle.gms_run.specs.Solving.{Solving, SolvesNothing, number_limit}
-use Rattle.gms_run.specs.Jobs.{status_code}
 use Rattle.gms_run.specs.Listings.{IsListing, IsFront, AreClosing}
 
 -- ---- the source
@@ -127,10 +126,6 @@ OfRequest status solving old new request = IsRunOf status solving old.outside ne
 abbrev pub IsRun : Status → Solving → List (List ℕ) → Meaning → Meaning → Type 0
 IsRun Usage solving words old new = (request_of words ≡ None) × (SaysLine old new old.outside usage_line × SolvesNothing solving)
 IsRun status solving words old new = (request : Asked) × ((request_of words ≡ Some request) × OfRequest status solving old new request)
-
--- a number is that of a status of which this holds
-abbrev pub OfStatus : ℕ → (Status → Type 0) → Type 0
-OfStatus number P = (status : Status) × ((number ≡ status_code status) × P status)
 
 -- ---- the counts of faults
 

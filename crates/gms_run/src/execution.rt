@@ -1,16 +1,16 @@
 //! The execution of a program, whose listing goes out statement by statement.
-ghost use Rattle.std.specs.Prelude.{◌≡◌, ◌<◌, ◌≤◌, ◌^◌, ◌++◌, [], true, length, map, IfOk, OnOk};
+ghost use Rattle.std.specs.Prelude.{◌≡◌, ◌<◌, ◌≤◌, ◌^◌, ◌∷◌, ◌++◌, [], true, length, map, option_to_list, IfOk, OnOk};
 ghost use Rattle.std.specs.List.{All};
 ghost use Rattle.gq_frac.specs.Frac.{frac_value};
 ghost use Rattle.gms_event.specs.EventView.{events_in};
 ghost use Rattle.gms_exec.specs.Dimensions.{AreOneDimensional};
 ghost use Rattle.gms_exec.specs.Run.{of_statement};
-ghost use Rattle.gms_exec.specs.Walks.{AreKept};
+ghost use Rattle.gms_exec.specs.Stepping.{AreKept};
 ghost use Rattle.gms_list.specs.Conditions.{IsListable};
 ghost use Rattle.gms_list.specs.ListingText.{events_text};
 ghost use Rattle.gms_check.specs.CompileErrors.{compile_errors};
 ghost use Rattle.gms_host.specs.Rules.{CountsWriting};
-ghost use Rattle.gms_run.specs.InnerSteps.{BreaksBehind, BreaksJob, ComesTo, EndsBehind, EndsJob, IsListed, between, work};
+ghost use Rattle.gms_run.specs.InnerSteps.{BreaksBehind, BreaksJob, ComesTo, EndsBehind, EndsJob, IsListed, between, programs_in, work};
 ghost use Rattle.gms_run.specs.Jobs.{job_of};
 ghost use Rattle.gms_run.specs.Solving.{number_limit, numbers_of, solving};
 
@@ -25,7 +25,7 @@ use gms_host::{Failed, Host};
 use gms_list::Listing;
 use gms_store::Store;
 use gq_frac::Frac;
-use lp_core::Answer;
+use lp_core::{Answer, Lp};
 use lp_slot::LpSolver;
 use std::alloc::{AllocError, Global};
 
@@ -36,6 +36,8 @@ pub(crate) struct Finish {
     pub(crate) status: Status,
     /// Its last state.
     pub(crate) store: Store<Frac>,
+    /// The linear programs of its solves, in order.
+    pub(crate) solved: Vec<Lp<Frac>>,
 }
 
 /// Lists what a statement showed.
@@ -55,6 +57,45 @@ fn list_events(
     Ok(())
 }
 
+/// The linear program of an event that is a solve.
+fn program_of(event: Event<Frac>) -> Option<Lp<Frac>>
+    ensures { option_to_list result ≡ programs_in (event ∷ []) }
+{
+    match event {
+        Event::Solve { lp, .. } => Some(lp),
+        _ => None,
+    }
+}
+
+/// Keeps the linear programs of the solves that a statement showed.
+fn keep_programs(events: Vec<Event<Frac>>, solved: &mut Vec<Lp<Frac>>) -> Result<(), AllocError>
+    ensures { OnOk result (solved.new.items ≡ solved.old.items ++ programs_in events.items) }
+{
+    for event in events {
+        if let Some(lp) = program_of(event) {
+            solved.push(lp)?;
+        }
+    }
+    Ok(())
+}
+
+/// Lists what a statement showed, and keeps the linear programs of its solves.
+fn show(
+    alloc: Global,
+    program: &Program<Frac>,
+    events: Vec<Event<Frac>>,
+    answers: &[Answer<Frac>],
+    solved: &mut Vec<Lp<Frac>>,
+    listing: &mut Listing,
+) -> Result<(), AllocError>
+    requires { All (IsListable frac_value answers.now) events.items }
+    ensures listed { OnOk result (listing.new ≡ listing.old ++ events_text program.now.names program.now.labels number_limit (numbers_of answers.now) (events_in frac_value events.items)) }
+    ensures kept { OnOk result (solved.new.items ≡ solved.old.items ++ programs_in events.items) }
+{
+    list_events(alloc, program, &events, answers, listing)?;
+    keep_programs(events, solved)
+}
+
 /// Executes a statement that no loop holds, and lists what it shows and the fault that stops it. Answers whether the run goes on.
 fn statement(
     alloc: Global,
@@ -63,13 +104,14 @@ fn statement(
     s: &Stmt<Frac>,
     solvers: &mut Vec<Box<dyn LpSolver>>,
     answers: &mut Vec<Answer<Frac>>,
+    solved: &mut Vec<Lp<Frac>>,
     listing: &mut Listing,
 ) -> Result<bool, AllocError>
     requires few { length solvers.old.items < 2 ^ 32 }
     requires settings { AreKept (length solvers.old.items) store.old.settings }
     requires plain { AreOneDimensional store.old program.now.statements.items }
     ensures listed { IfOk result (λ goes_on. IsListed goes_on (of_statement frac_value number_limit (record { program = program.now; solvers = map name solvers.old.items }) s.now []) program.now (map rule solvers.old.items)
-        (between name rule paths store.old answers.old.items solvers.old.items) (between name rule paths store.new answers.new.items solvers.new.items) listing.old listing.new) }
+        (between name rule paths store.old answers.old.items solved.old.items solvers.old.items) (between name rule paths store.new answers.new.items solved.new.items solvers.new.items) listing.old listing.new) }
     ensures settings { OnOk result (AreKept (length solvers.old.items) store.new.settings) }
     ensures plain { OnOk result (AreOneDimensional store.new program.now.statements.items) }
 {
@@ -86,12 +128,12 @@ fn statement(
         &mut events,
     ) {
         Ok(()) => {
-            list_events(alloc, program, &events, answers, listing)?;
+            show(alloc, program, events, answers, solved, listing)?;
             Ok(true)
         }
         Err(StopOrMemory::Memory) => Err(AllocError),
         Err(StopOrMemory::Stop(stop)) => {
-            list_events(alloc, program, &events, answers, listing)?;
+            show(alloc, program, events, answers, solved, listing)?;
             listing.event(alloc, program, &Event::Fault(stop), answers)?;
             Ok(false)
         }
@@ -107,6 +149,7 @@ fn statements<H: Host>(
     program: &Program<Frac>,
     solvers: &mut Vec<Box<dyn LpSolver>>,
     answers: &mut Vec<Answer<Frac>>,
+    solved: &mut Vec<Lp<Frac>>,
     outlet: &mut Outlet,
 ) -> Result<Status, Failed>
     requires open { (H.meaning host.old).outside.writing ≡ true }
@@ -114,14 +157,15 @@ fn statements<H: Host>(
     requires settings { AreKept (length solvers.old.items) store.old.settings }
     requires plain { AreOneDimensional store.old program.now.statements.items }
     requires none { answers.old.items ≡ [] }
+    requires unsolved { solved.old.items ≡ [] }
     requires room { length (outlet.old.spool ++ outlet.old.listing) ≤ 4096 }
-    ensures outside { ComesTo result (λ status. EndsBehind status (work program.now store.old program.now.statements.items) (solving name rule paths solvers.old.items solvers.new.items answers.new.items) store.new (H.meaning host.old).outside (H.meaning host.new).outside (outlet.old.spool ++ outlet.old.listing) (outlet.new.spool ++ outlet.new.listing))
+    ensures outside { ComesTo result (λ status. EndsBehind status (work program.now store.old program.now.statements.items) (solving name rule paths solvers.old.items solvers.new.items answers.new.items) store.new solved.new.items (H.meaning host.old).outside (H.meaning host.new).outside (outlet.old.spool ++ outlet.old.listing) (outlet.new.spool ++ outlet.new.listing))
         (BreaksBehind (work program.now store.old program.now.statements.items) (solving name rule paths solvers.old.items solvers.new.items answers.new.items) (H.meaning host.old).outside (H.meaning host.new).outside (outlet.old.spool ++ outlet.old.listing)) }
     ensures counts { CountsWriting result (H.meaning host.old).counts (H.meaning host.new).counts }
 {
     for s in &program.statements {
         let listing = &mut outlet.listing;
-        let goes_on = statement(alloc, store, program, s, solvers, answers, listing)?;
+        let goes_on = statement(alloc, store, program, s, solvers, answers, solved, listing)?;
         outlet.pass(host)?;
         if !goes_on {
             return Ok(Status::Execution);
@@ -146,13 +190,27 @@ pub(crate) fn execute<H: Host>(
     requires accepted { compile_errors frac_value program.now (map name solvers.old.items) ≡ [] }
     requires none { answers.old.items ≡ [] }
     requires empty { outlet.old.spool ++ outlet.old.listing ≡ [] }
-    ensures outside { ComesTo result (λ finish. EndsJob finish.status (job_of source.now program.now) (solving name rule paths solvers.old.items solvers.new.items answers.new.items) finish.store (H.meaning host.old).outside (H.meaning host.new).outside (outlet.new.spool ++ outlet.new.listing))
+    ensures outside { ComesTo result (λ finish. EndsJob finish.status (job_of source.now program.now) (solving name rule paths solvers.old.items solvers.new.items answers.new.items) finish.store finish.solved.items (H.meaning host.old).outside (H.meaning host.new).outside (outlet.new.spool ++ outlet.new.listing))
         (BreaksJob (job_of source.now program.now) (solving name rule paths solvers.old.items solvers.new.items answers.new.items) (H.meaning host.old).outside (H.meaning host.new).outside) }
     ensures counts { CountsWriting result (H.meaning host.old).counts (H.meaning host.new).counts }
 {
     outlet.listing.echo(alloc, source)?;
     outlet.pass(host)?;
     let mut store = load(alloc, program)?;
-    let status = statements(alloc, host, &mut store, program, solvers, answers, outlet)?;
-    Ok(Finish { status, store })
+    let mut solved = Vec::new(alloc);
+    let status = statements(
+        alloc,
+        host,
+        &mut store,
+        program,
+        solvers,
+        answers,
+        &mut solved,
+        outlet,
+    )?;
+    Ok(Finish {
+        status,
+        store,
+        solved,
+    })
 }

@@ -11,4 +11,5 @@ mod top_call;
 mod transfer;
 
 pub use laws::run_laws;
+pub use status::Status;
 pub use top_call::{Ended, run};

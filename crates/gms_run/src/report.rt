@@ -16,7 +16,7 @@ use gms_host::{Failed, Host};
 use gms_parse::{SourceError, SourceFault, SourceFaultOrMemory, parse};
 use gms_store::Store;
 use gq_frac::Frac;
-use lp_core::Answer;
+use lp_core::{Answer, Lp};
 use lp_slot::LpSolver;
 use std::alloc::{AllocError, Global};
 
@@ -27,6 +27,8 @@ pub(crate) struct Last {
     pub(crate) program: Program<Frac>,
     /// The last state of its run.
     pub(crate) store: Store<Frac>,
+    /// The linear programs of its solves, in order: one for each answer.
+    pub(crate) solved: Vec<Lp<Frac>>,
 }
 
 /// What became of a source.
@@ -34,7 +36,7 @@ pub(crate) struct Last {
 pub(crate) struct Outcome {
     /// How its run ends.
     pub(crate) status: Status,
-    /// The program and its last state, where it was run.
+    /// The program, its last state and what was solved, where it was run.
     pub(crate) last: Option<Last>,
 }
 
@@ -107,6 +109,7 @@ fn listed<H: Host>(
         let last = Last {
             program,
             store: finish.store,
+            solved: finish.solved,
         };
         Ok(Outcome {
             status: finish.status,

@@ -3,8 +3,11 @@ ghost use Rattle.std.specs.Prelude.{◌≡◌};
 ghost use Rattle.gms_run.specs.Jobs.{status_code};
 
 /// How a run ends.
-#[derive(Clone, Copy)]
-pub(crate) enum Status {
+///
+/// The numbers are those of `code`. After Usage and ReadFault no output was asked for; after Done, Compile and Execution the listing stands in it
+/// whole; after WriteFault the front of it may.
+#[derive(Clone, Copy, Debug, PartialEq, Eq)]
+pub enum Status {
     /// Every statement was executed, and the whole listing was written.
     Done,
     /// The words are refused.
@@ -20,8 +23,8 @@ pub(crate) enum Status {
 }
 
 impl Status {
-    /// The exit status of the program.
-    pub(crate) fn code(self) -> u8
+    /// The exit status of the program: 0 done, 1 usage, 2 compile, 3 execution, 4 read fault, 5 write fault.
+    pub fn code(self) -> u8
         ensures { result ≡ status_code self }
     {
         match self {

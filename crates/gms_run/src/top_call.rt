@@ -5,7 +5,7 @@ ghost use Rattle.gms_words.specs.CommandLine.{texts, request_of, asked_by, in_fi
 ghost use Rattle.gms_run.specs.InnerReports.{CountsMention, CountsRun, ReadsFile};
 ghost use Rattle.gms_run.specs.InnerSteps.{ComesTo};
 ghost use Rattle.gms_run.specs.Solving.{solving};
-ghost use Rattle.gms_run.specs.Statuses.{CountsSo, EndsByNoFault, HasOrigin, IsReadyFor, IsReported, IsRun, IsWriteFault, MeetsNoFault, NamesProgram, OfRequest, OfStatus, RanSo, SaysLine};
+ghost use Rattle.gms_run.specs.Statuses.{CountsSo, EndsByNoFault, HasOrigin, IsReadyFor, IsReported, IsRun, IsWriteFault, MeetsNoFault, NamesProgram, OfRequest, RanSo, SaysLine};
 
 use crate::closing::closing_lines;
 use crate::report::report;
@@ -22,8 +22,8 @@ use std::alloc::{AllocError, Global};
 /// How a run ended.
 #[derive(Drop)]
 pub struct Ended {
-    /// The exit status: 0 done, 1 usage, 2 compile, 3 execution, 4 read fault, 5 write fault.
-    pub status: u8,
+    /// Its status.
+    pub status: Status,
     /// The answers of the solvers, in the order of the solves.
     pub answers: Vec<Answer<Frac>>,
 }
@@ -200,11 +200,11 @@ fn run_words<H: Host>(
 /// (docs/LISTING.md). `AllocError` comes where memory was wanting, here or in the host; the output may then hold the front of a listing.
 ///
 /// What a run did is one statement, by its status, and holds over every host, whatever it tells: there is a source, which is what the
-/// host has at the name where it tells its files, and what the answers are to it, and what stands outside. 0 and 3: the source is accepted, its
-/// run takes all answers, each of which is one of its linear program, and the listing is the text of that run. 2: it is refused, and the listing
-/// says why. 1: the words ask for no source. 4: the file was not read. 5: how far the run came, and that no more was executed than was
-/// written, but for 4,096 bytes. The solvers stay, with their names and rules, and the pivots of each answer stand behind the paths of the
-/// one that gave it; with 1, 2 and 4 nothing is solved.
+/// host has at the name where it tells its files, and what the answers are to it, and what stands outside. Done and Execution: the source is
+/// accepted, its run takes all answers, each of which is one of its linear program, and the listing is the text of that run. Compile: it is
+/// refused, and the listing says why. Usage: the words ask for no source. ReadFault: the file was not read. WriteFault: how far the run came, and
+/// that no more was executed than was written, but for 4,096 bytes. The solvers stay, with their names and rules, and the pivots of each answer
+/// stand behind the paths of the one that gave it; with Usage, Compile and ReadFault nothing is solved.
 pub fn run<H: Host>(
     alloc: Global,
     words: &[String],
@@ -212,21 +212,18 @@ pub fn run<H: Host>(
     solvers: &mut Vec<Box<dyn LpSolver>>,
 ) -> Result<Ended, AllocError>
     requires { length solvers.old.items < 2 ^ 32 }
-    ensures run { IfOk result (λ ended. OfStatus ended.status (λ status. IsRun status (solving name rule paths solvers.old.items solvers.new.items ended.answers.items) (texts words.now) (H.meaning host.old) (H.meaning host.new))) }
+    ensures run { IfOk result (λ ended. IsRun ended.status (solving name rule paths solvers.old.items solvers.new.items ended.answers.items) (texts words.now) (H.meaning host.old) (H.meaning host.new)) }
 
     // A fault is answered only where one of its kind was counted, and a ready host counts none and ends by none.
-    ensures counts { IfOk result (λ ended. OfStatus ended.status (λ status. CountsSo status (H.meaning host.old).counts (H.meaning host.new).counts)) }
+    ensures counts { IfOk result (λ ended. CountsSo ended.status (H.meaning host.old).counts (H.meaning host.new).counts) }
     ensures steady { IsReadyFor (H.meaning host.old) (texts words.now) → (H.meaning host.new).counts ≡ (H.meaning host.old).counts }
-    ensures no_fault { IsReadyFor (H.meaning host.old) (texts words.now) → IfOk result (λ ended. OfStatus ended.status EndsByNoFault) }
+    ensures no_fault { IsReadyFor (H.meaning host.old) (texts words.now) → IfOk result (λ ended. EndsByNoFault ended.status) }
 
     // The words are refused exactly where they ask for no source, and where no fault is met a program is run.
-    ensures usage { IfOk result (λ ended. (ended.status ≡ 1) ↔ (request_of (texts words.now) ≡ None)) }
-    ensures complete { NamesProgram (map name solvers.old.items) (H.meaning host.old).outside (texts words.now) → MeetsNoFault (H.meaning host.old).counts (H.meaning host.new).counts → IfOk result (λ ended. (ended.status ≡ 0) ⊎ (ended.status ≡ 3)) }
+    ensures usage { IfOk result (λ ended. (ended.status ≡ Status.Usage) ↔ (request_of (texts words.now) ≡ None)) }
+    ensures complete { NamesProgram (map name solvers.old.items) (H.meaning host.old).outside (texts words.now) → MeetsNoFault (H.meaning host.old).counts (H.meaning host.new).counts → IfOk result (λ ended. (ended.status ≡ Status.Done) ⊎ (ended.status ≡ Status.Execution)) }
 {
     let mut answers = Vec::new(alloc);
     let status = run_words(alloc, words, host, solvers, &mut answers)?;
-    Ok(Ended {
-        status: status.code(),
-        answers,
-    })
+    Ok(Ended { status, answers })
 }

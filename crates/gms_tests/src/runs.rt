@@ -6,6 +6,7 @@ use gq_field::ExactField;
 use gq_frac::Frac;
 use lp_bland::Bland;
 use lp_core::{Answer, End};
+use lp_dantzig::Dantzig;
 use lp_slot::LpSolver;
 use std::alloc::Global;
 use std::process::Abort;
@@ -49,12 +50,14 @@ pub(crate) fn host_of(
     }
 }
 
-/// The solvers of these names, `bland` and `greatest`.
+/// The solvers of these names, `bland`, `dantzig` and `greatest`.
 fn lent(rt: &impl Abort, alloc: Global, names: &[&str]) -> Vec<Box<dyn LpSolver>> {
     let mut solvers: Vec<Box<dyn LpSolver>> = Vec::new(alloc);
     for name in names {
         let solver: Box<dyn LpSolver> = if *name == "bland" {
             Box::new(alloc, Bland::new(alloc)).expect(rt, "memory")
+        } else if *name == "dantzig" {
+            Box::new(alloc, Dantzig::new(alloc)).expect(rt, "memory")
         } else {
             Box::new(alloc, GreatestFirst::new(alloc)).expect(rt, "memory")
         };
@@ -117,7 +120,7 @@ fn ran(
     for answer in &ended.answers {
         tell_ray(rt, alloc, answer, &mut text);
     }
-    (ended.status, text)
+    (ended.status.code(), text)
 }
 
 /// The text of these bytes.

@@ -1,5 +1,6 @@
 pub mod Combined
 pub mod Forks
+pub mod Lines
 pub mod Members
 pub mod Ordered
 pub mod Spans

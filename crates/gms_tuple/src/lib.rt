@@ -1,6 +1,7 @@
 //! Floor 3, state and checks. Tuples of labels in their one order, and sets of tuples as ordered lists.
 #![tactic(auto)]
 
+mod line;
 mod merge;
 mod set;
 mod tree;

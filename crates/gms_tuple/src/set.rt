@@ -4,8 +4,8 @@ ghost use Rattle.gms_tuple.specs.TupleOrder.{same_tuple, IsOrdered};
 ghost use Rattle.gms_tuple.specs.TupleSet.{has, place_of, inserted, removed, difference, intersection, count_before, count_with, those_with};
 ghost use Rattle.gms_tuple.specs.Operations.{takes};
 
+use crate::line::Line;
 use crate::merge::{Operation, combined};
-use crate::tree::{Fork, Tree};
 use crate::tuple::Tuple;
 use std::alloc::{AllocError, Global};
 use std::marker::Model;
@@ -13,10 +13,10 @@ use std::marker::Model;
 /// A set of tuples, seen as the list of its members: distinct, and in the order of tuples.
 ///
 /// A member is found, put in and taken out, by its labels or by its place, in as many steps as the logarithm of their
-/// number.
+/// number; one that comes behind all others is put in without a search.
 #[derive(Drop)]
 pub struct TupleSet {
-    tree: Tree,
+    line: Line,
 }
 
 impl Model for TupleSet {
@@ -25,17 +25,19 @@ impl Model for TupleSet {
 
     ghost Value = { List (List ℕ) };
 
-    ghost view = { λ s. s.tree };
+    ghost view = { λ s. s.line };
 
-    ghost invariant = { λ s. IsOrdered s.tree };
+    ghost invariant = { λ s. IsOrdered s.line };
 }
 
 impl TupleSet {
     /// The set of no tuples.
-    pub fn new(_alloc: Global) -> TupleSet
+    pub fn new(alloc: Global) -> TupleSet
         ensures { result ≡ [] }
     {
-        TupleSet { tree: Tree::new() }
+        TupleSet {
+            line: Line::new(alloc),
+        }
     }
 
     /// How many members there are.
@@ -43,14 +45,14 @@ impl TupleSet {
         ensures len { result ≡ length self.now }
         ensures ordered { IsOrdered self.now }
     {
-        self.tree.len()
+        self.line.len()
     }
 
     /// Whether there is no member.
     pub fn is_empty(&self) -> bool
         ensures { IsTrue result ↔ (self.now ≡ []) }
     {
-        self.tree.len() == 0
+        self.line.len() == 0
     }
 
     /// The member at a place of the order.
@@ -58,7 +60,7 @@ impl TupleSet {
         requires { n < length self.now }
         ensures { slice_get self.now n ≡ Some result.now }
     {
-        self.tree.get(n)
+        self.line.get(n)
     }
 
     /// Whether the tuple is a member.
@@ -85,11 +87,10 @@ impl TupleSet {
         let Err(place) = self.place(&t) else {
             return Ok(false);
         };
-        if self.tree.len() == usize::MAX {
+        if self.line.len() == usize::MAX {
             return Err(AllocError);
         }
-        let fork = Fork::single(alloc, t)?;
-        self.tree.insert(place, fork);
+        self.line.insert(alloc, place, t)?;
         Ok(true)
     }
 
@@ -105,7 +106,7 @@ impl TupleSet {
         let Ok(place) = self.place(t) else {
             return false;
         };
-        self.tree.remove(place);
+        self.line.remove(place);
         true
     }
 
@@ -119,8 +120,8 @@ impl TupleSet {
         ensures range { slice_range self.now result.0 result.1 ≡ those_with self.now prefix.now }
     {
         (
-            self.tree.count(prefix, false),
-            self.tree.count(prefix, true),
+            self.line.count(prefix, false),
+            self.line.count(prefix, true),
         )
     }
 
@@ -130,8 +131,8 @@ impl TupleSet {
         ensures absent { IfErr result (λ place. (has self.now t.now ≡ false) × (place ≡ count_before self.now t.now)) }
         ensures ordered { IsOrdered self.now }
     {
-        let place = self.tree.count(t, false);
-        if place < self.tree.len() && self.tree.get(place) == t {
+        let place = self.line.count(t, false);
+        if place < self.line.len() && self.line.get(place) == t {
             Ok(place)
         } else {
             Err(place)
@@ -177,7 +178,7 @@ impl TupleSet {
         ensures ordered { IsOrdered self.now }
     {
         Ok(TupleSet {
-            tree: self.tree.copy(alloc)?,
+            line: self.line.copy(alloc)?,
         })
     }
 
@@ -198,7 +199,7 @@ impl TupleSet {
         let mut made = combined(alloc, operation, &first, &second)?;
         let size = made.len();
         Ok(TupleSet {
-            tree: Tree::build(alloc, &mut made, size)?,
+            line: Line::build(alloc, &mut made, size)?,
         })
     }
 
@@ -207,8 +208,8 @@ impl TupleSet {
         ensures value { IfOk result (λ members. members.items ≡ self.now) }
         ensures ordered { IsOrdered self.now }
     {
-        let mut members = Vec::with_capacity(alloc, self.tree.len())?;
-        self.tree.push_all(alloc, &mut members)?;
+        let mut members = Vec::with_capacity(alloc, self.line.len())?;
+        self.line.push_all(alloc, &mut members)?;
         Ok(members)
     }
 }

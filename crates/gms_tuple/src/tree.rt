@@ -259,6 +259,44 @@ impl Tree {
         Ok(Tree::of(Box::new(alloc, fork)?))
     }
 
+    /// Equal tuples in a tree.
+    pub fn copied(alloc: Global, tuples: &[Tuple]) -> Result<Tree, AllocError>
+        ensures { IfOk result (λ tree. tree ≡ tuples.now) }
+    {
+        let size = tuples.len();
+        if size == 0 {
+            return Ok(Tree::new());
+        }
+        let before = size / 2;
+        let fork = Fork {
+            left: Tree::copied(alloc, &tuples[..before])?,
+            tuple: tuples[before].copy(alloc)?,
+            right: Tree::copied(alloc, &tuples[before + 1..])?,
+            size,
+        };
+        Ok(Tree::of(Box::new(alloc, fork)?))
+    }
+
+    /// Puts the tuples of another tree behind all others.
+    pub fn append(&mut self, behind: Tree)
+        requires { length self.old + length behind < 2 ^ 64 }
+        ensures { self.new ≡ self.old ++ behind }
+    {
+        let size = self.len() + behind.len();
+        let Node::Fork(mut fork) = self.take().into_node() else {
+            *self = behind;
+            return;
+        };
+        if fork.size / 2 < behind.len() {
+            *self = Tree::joined(Tree::of(fork), behind, size);
+            return;
+        }
+        fork.right.append(behind);
+        fork.size = size;
+        fork.balance();
+        *self = Tree::of(fork);
+    }
+
     /// Turns the right side of the tree up where it is the longer one, and else the left one where that is longer.
     fn lean(&mut self, to_left: bool)
         ensures { self.new ≡ self.old }

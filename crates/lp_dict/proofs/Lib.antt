@@ -5,3 +5,4 @@ pub mod Parts
 pub mod Filled
 pub mod Finals
 pub mod Opens
+pub mod Readings

@@ -1,5 +1,5 @@
 //! The dictionary and what is read from it.
-ghost use Rattle.std.specs.Prelude.{◌≡◌, ◌<◌, ◌≤◌, ◌+◌, ◌-◌, ◌^◌, ◌↔◌, ℕ, pos, min, List, map, slice_get, IsTrue, Some, Contains, MatchOption, IfOk, IfErr};
+ghost use Rattle.std.specs.Prelude.{◌≡◌, ◌<◌, ◌≤◌, ◌+◌, ◌-◌, ◌^◌, ◌↔◌, ℕ, pos, min, List, map, slice_get, IsTrue, Some, Contains, MatchOption, IfOk, IfErr, length};
 ghost use Rattle.gq_number.specs.Number.{Number, whole};
 ghost use Rattle.lp_core.specs.Sums.{number_of};
 ghost use Rattle.lp_core.specs.Dictionary.{constant_at, entry_at, OpeningIsDue, IsPriced, Improves, IsOpening, IsBland, IsLegal, Meets, first_dictionary, exchanged};
@@ -12,10 +12,12 @@ ghost use Rattle.lp_core.specs.StandardForm.{Standard as StandardNumbers, standa
 ghost use Rattle.lp_std.specs.Meaning.{standard_value};
 ghost use Rattle.lp_std.specs.Last.{IsDictionaryOf, IsReadFrom};
 ghost use Rattle.lp_exact.specs.Reading.{IsDone, EndsBy, RayIs};
-ghost use Rattle.lp_exact.specs.Pivots.{IsLeaving, IsLimit, StopsAt};
+ghost use Rattle.lp_exact.specs.Pivots.{IsProper, IsLeaving, IsLimit, StopsAt};
+ghost use Rattle.lp_exact.specs.Tableau.{IsPlace};
 ghost use Rattle.lp_dict.specs.Tableau.{dictionary};
 
 use crate::body::Body;
+use crate::number::number_at;
 use crate::turning::{begun, pivoted};
 use crate::{last, reading};
 use gq_field::ExactField;
@@ -75,6 +77,51 @@ impl<F: ExactField> Dict<F> {
         match &self.body {
             Body::Whole(rows, _) => reading::is_basic(rows, v),
             Body::Exact(dict) => dict.is_basic(v),
+        }
+    }
+
+    /// What each dictionary keeps, a law: it is one of a program, has no more rows than variables, and few variables.
+    pub fn keeps(&self)
+        ensures proper { IsProper (dictionary F.value self.now) }
+        ensures few { length self.now.basic ≤ self.now.variables }
+        ensures sized { self.now.variables + 2 < 2 ^ 32 }
+    {
+        match &self.body {
+            Body::Whole(rows, _) => rows.keeps(),
+            Body::Exact(dict) => dict.keeps(),
+        }
+    }
+
+    /// How many rows there are, without the objective.
+    pub fn len(&self) -> usize
+        ensures { result ≡ length self.now.basic }
+    {
+        match &self.body {
+            Body::Whole(rows, _) => rows.basic().len(),
+            Body::Exact(dict) => dict.basic().len(),
+        }
+    }
+
+    /// The row in which a variable is basic, from 0; none where it is not basic.
+    pub fn row_of(&self, v: u32) -> Option<usize>
+        ensures { IsPlace self.now.basic v result }
+    {
+        match &self.body {
+            Body::Whole(rows, _) => rows.place_of(v),
+            Body::Exact(dict) => reading::place_among(dict.basic(), v),
+        }
+    }
+
+    /// The number of a row, or behind the rows of the objective, at a column: column 0 is the constant, and variable v is column
+    /// v + 1. It walks neither the rows nor the columns: a row of fractions is bisected.
+    pub fn number(&self, row: usize, column: usize) -> F
+        requires row { row ≤ length self.now.basic }
+        requires column { column ≤ self.now.variables + 1 }
+        ensures { F.value result ≡ (dictionary F.value self.now).numbers row column }
+    {
+        match &self.body {
+            Body::Whole(rows, _) => number_at(rows, row, column),
+            Body::Exact(dict) => reading::number_of(dict, row, column),
         }
     }
 

@@ -1,13 +1,62 @@
-//! What is read from rows of whole numbers.
-ghost use Rattle.std.specs.Prelude.{◌≡◌, ◌*◌, ◌≤◌, ◌<◌, ◌↔◌, ℕ, pos, length, slice_get, Some, Contains, IsTrue};
+//! What is read from rows of whole numbers, and from those of fractions.
+ghost use Rattle.std.specs.Prelude.{◌≡◌, ◌+◌, ◌*◌, ◌≤◌, ◌<◌, ◌↔◌, ℕ, pos, length, slice_get, Some, Contains, IsTrue};
 ghost use Rattle.gq_number.specs.Number.{whole};
 ghost use Rattle.lp_core.specs.Dictionary.{constant_at, entry_at, IsPriced};
 ghost use Rattle.lp_core.specs.Answers.{priced_row};
+ghost use Rattle.lp_exact.specs.Rows.{IsRow, number_in};
+ghost use Rattle.lp_exact.specs.Tableau as exact;
+ghost use Rattle.lp_exact.specs.Tableau.{IsPlace};
 ghost use Rattle.lp_whole.specs.Whole.{dictionary as dictionary_of};
 
 use crate::number::number_at;
 use gq_field::ExactField;
+use lp_exact::{Entry, ExactDict};
 use lp_whole::Whole;
+use std::cmp::Ordering;
+
+/// The place of a variable among the basic ones.
+pub(crate) fn place_among(basic: &[u32], variable: u32) -> Option<usize>
+    ensures { IsPlace basic.now variable result }
+{
+    for (i, other) in basic.iter().enumerate() {
+        if *other == variable {
+            return Some(i);
+        }
+    }
+    None
+}
+
+/// The number of a row of fractions at a column, found by bisection; 0 where no entry has that column.
+fn number_in_row<F: ExactField>(row: &[Entry<F>], column: usize) -> F
+    requires { (high : ℕ) × IsRow F.value 0 high row.now }
+    ensures { F.value result ≡ number_in F.value row.now column }
+{
+    let mut rest = row;
+    loop {
+        let (front, back) = rest.split_at(rest.len() / 2);
+        let Some((entry, after)) = back.split_first() else {
+            return F::zero();
+        };
+        let here = entry.column as usize;
+        match here.cmp(&column) {
+            Ordering::Less => rest = after,
+            Ordering::Equal => return entry.number,
+            Ordering::Greater => rest = front,
+        }
+    }
+}
+
+/// The number of a row of fractions, or behind the rows of the objective, at a column.
+pub(crate) fn number_of<F: ExactField>(dict: &ExactDict<F>, row: usize, column: usize) -> F
+    ensures { F.value result ≡ (exact.dictionary F.value dict.now).numbers row column }
+{
+    dict.keeps();
+    let rows = dict.rows();
+    if row < rows.len() {
+        return number_in_row(rows[row].as_slice(), column);
+    }
+    number_in_row(dict.objective(), column)
+}
 
 /// Whether a variable is basic.
 pub(crate) fn is_basic(rows: &Whole, v: u32) -> bool

@@ -6,15 +6,14 @@ use Rattle.gms_ast.specs.declared.expression.Expr.{size-Expr}
 use Rattle.gms_ast.specs.declared.expression.Index.{Set, size-Index}
 use Rattle.gms_ast.specs.TreeView.{tree_of, control_tree}
 use Rattle.gms_ast.specs.Trees.{plain, signed, placed, related, chosen}
-use Rattle.gms_eval.specs.Answers.{chain, sum_step, product_step, power_step, relation_step, all_step, one_step, in_order, each_holds, fold_step, called, counted, is_so, truth}
+use Rattle.gms_eval.specs.Nodes.{chain, sum_step, product_step, power_step, relation_step, all_step, one_step, in_order, each_holds, fold_step, called, counted, is_so, truth, signed_step}
 use Rattle.gms_eval.specs.Bindings.{controlled}
 use Rattle.gms_eval.specs.Domain.{elements}
 use Rattle.gms_eval.specs.Faults.{nothing, faulted, ◌and_then◌}
 use Rattle.gms_eval.specs.Holds.{holds}
 use Rattle.gms_eval.specs.References.{tuple_of, entry_of}
-use Rattle.gms_eval.specs.Steps.{signed_step}
-use Rattle.gms_eval.specs.Value.{value, domain}
-use Rattle.gms_eval.specs.Walks.{those_of, label_answer}
+use Rattle.gms_eval.specs.Value.{value, domain, label_answer}
+use Rattle.gms_eval.specs.InnerWalks.{those_of}
 use Rattle.gms_eval.specs.declared.stop.StopKind.TheVariants.{EmptyExtreme}
 use Rattle.std.proofs.lemmas.List.{map_push}
 use Rattle.gms_eval.proofs.Answering.{stops-same, stops-then, stops-along, handed_on, gives-same, then-value, going_on, going_on-start, going_on-more, going_on-fault, going_on-end}

@@ -2,15 +2,14 @@ use Rattle.std.proofs.Common.{◌≡◌, map, drop, take, length, option_map, No
 use Rattle.gq_extended.specs.Meaning.{extended}
 use Rattle.gms_ast.specs.TreeView.{tree_of}
 use Rattle.gms_ast.specs.Trees.{plain}
-use Rattle.gms_eval.specs.Answers.{power_step, relation_step, all_step, one_step, in_order, folded, fold_step}
+use Rattle.gms_eval.specs.Nodes.{power_step, relation_step, all_step, one_step, in_order, folded, fold_step, signed_step}
 use Rattle.gms_eval.specs.Bindings.{controlled}
 use Rattle.gms_eval.specs.Domain.{those_where}
 use Rattle.gms_eval.specs.Faults.{nothing, faulted, ◌and_then◌}
 use Rattle.gms_eval.specs.Holds.{holds}
 use Rattle.gms_eval.specs.References.{tuple_of}
-use Rattle.gms_eval.specs.Steps.{signed_step}
-use Rattle.gms_eval.specs.Value.{value}
-use Rattle.gms_eval.specs.Walks.{those_of, label_answer}
+use Rattle.gms_eval.specs.Value.{value, label_answer}
+use Rattle.gms_eval.specs.InnerWalks.{those_of}
 use Rattle.gms_eval.specs.declared.stop.StopKind.TheVariants.{EmptyExtreme}
 use Rattle.gms_eval.proofs.Answering.{going_on}
 use Rattle.gms_eval.proofs.Chains.{from_here}

@@ -1,7 +1,7 @@
 use Rattle.std.proofs.Common.{◌∙◌, ap, sym, refl, ◌+◌, map, drop}
 use Rattle.gq_extended.specs.Meaning.{extended}
 use Rattle.gq_extended.specs.ExtendedOrder.{lesser}
-use Rattle.gms_eval.specs.Answers.{extreme}
+use Rattle.gms_eval.specs.Nodes.{extreme}
 use Rattle.gms_eval.proofs.Bests.{best_from, best-more, best-end}
 use Rattle.gms_eval.proofs.functions.least.Goals as goal
 

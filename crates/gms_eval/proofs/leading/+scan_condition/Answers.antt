@@ -1,6 +1,6 @@
 use Rattle.std.proofs.Common.{drop, take, arith}
 use Rattle.std.proofs.lemmas.Bool.{not-true, not-false}
-use Rattle.gms_eval.specs.Leading.{expression_holds, all_hold_in_turn, guards_hold}
+use Rattle.gms_eval.specs.InnerLeading.{expression_holds, all_hold_in_turn, guards_hold}
 use Rattle.gms_eval.proofs.Factors.{known-Ref, known-And, known-Guard, known-Guard_unsafe}
 use Rattle.gms_eval.proofs.Scanning.{scan-part, scan-parts_unsafe, scan-guard, scan-guards_unsafe}
 use Rattle.gms_eval.proofs.leading.+scan_condition.Goals as goal

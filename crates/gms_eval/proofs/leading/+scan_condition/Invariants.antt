@@ -1,5 +1,5 @@
 use Rattle.std.proofs.Common.{take, drop}
-use Rattle.gms_eval.specs.Leading.{IsScan, all_hold_in_turn, guards_hold}
+use Rattle.gms_eval.specs.InnerLeading.{IsScan, all_hold_in_turn, guards_hold}
 use Rattle.gms_eval.proofs.leading.+scan_condition.Given as goal
 
 abbrev pub invariant-scan_parts-loop-part : goal.invariant-scan_parts-loop-part

@@ -4,7 +4,7 @@ use Rattle.std.proofs.lemmas.List.{take_all}
 use Rattle.std.proofs.lemmas.List.Elements.{All-more, All-weaker}
 use Rattle.gms_store.specs.State.{State}
 use Rattle.gms_eval.specs.Bindings.{Pairs}
-use Rattle.gms_eval.specs.Walks.{label_answer}
+use Rattle.gms_eval.specs.Value.{label_answer}
 use Rattle.gms_eval.proofs.Entries.{plain-indices}
 use Rattle.gms_eval.proofs.leading.are_plain.Goals as goal
 

@@ -2,7 +2,7 @@ use Rattle.std.proofs.Common.{take, IsOk}
 use Rattle.std.specs.List.{All}
 use Rattle.gms_store.specs.State.{State}
 use Rattle.gms_eval.specs.Bindings.{Pairs}
-use Rattle.gms_eval.specs.Walks.{label_answer}
+use Rattle.gms_eval.specs.Value.{label_answer}
 use Rattle.gms_eval.proofs.leading.are_plain.Given as goal
 
 abbrev pub invariant-loop-index : goal.invariant-loop-index

@@ -3,7 +3,7 @@ use Rattle.gms_ast.specs.TreeView.{tree_of}
 use Rattle.gms_eval.specs.Bindings.{controlled}
 use Rattle.gms_eval.specs.Domain.{those_where}
 use Rattle.gms_eval.specs.Holds.{holds}
-use Rattle.gms_eval.specs.Leading.{Leads, expression_holds}
+use Rattle.gms_eval.specs.InnerLeading.{Leads, expression_holds}
 use Rattle.gms_eval.proofs.Entries.{at-some}
 use Rattle.gms_eval.proofs.Factors.{led}
 use Rattle.gms_eval.proofs.leading.candidates.Goals as goal

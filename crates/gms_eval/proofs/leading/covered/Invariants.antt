@@ -3,7 +3,7 @@ use Rattle.gms_tuple.specs.TupleSet.{has}
 use Rattle.gms_store.specs.State.{State}
 use Rattle.gms_eval.specs.Bindings.{controlled}
 use Rattle.gms_eval.specs.Domain.{elements}
-use Rattle.gms_eval.specs.Leading.{tuple_answer}
+use Rattle.gms_eval.specs.InnerLeading.{tuple_answer}
 use Rattle.gms_eval.proofs.Simple.{Freed}
 use Rattle.gms_eval.proofs.leading.covered.Given as goal
 

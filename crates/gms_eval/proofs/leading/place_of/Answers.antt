@@ -1,6 +1,6 @@
 use Rattle.std.proofs.Common.{◌∙◌, ap, sym, Ok, None}
 use Rattle.std.proofs.lemmas.List.{get_or-map}
-use Rattle.gms_eval.specs.Walks.{label_answer}
+use Rattle.gms_eval.specs.Value.{label_answer}
 use Rattle.gms_eval.proofs.leading.place_of.Goals as goal
 
 pub returns-then-is_set-clause-label : goal.returns-then-is_set-clause-label

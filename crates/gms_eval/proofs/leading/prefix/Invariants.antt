@@ -1,7 +1,7 @@
 use Rattle.std.proofs.Common.{◌≡◌, ◌++◌, ℕ, List, take, length, Some, Ok}
 use Rattle.gms_store.specs.State.{State}
 use Rattle.gms_eval.specs.Bindings.{Pairs}
-use Rattle.gms_eval.specs.Leading.{tuple_answer}
+use Rattle.gms_eval.specs.InnerLeading.{tuple_answer}
 use Rattle.gms_eval.proofs.leading.prefix.Given as goal
 
 abbrev pub invariant-loop-index : goal.invariant-loop-index

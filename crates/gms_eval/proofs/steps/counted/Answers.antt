@@ -2,7 +2,7 @@ use Rattle.std.proofs.Common.{◌≡◌, ap, sym, ◌∙◌, pos, Err, to_z, ari
 use Rattle.std.proofs.lemmas.Int.{ints}
 use mir.Syntax.{w128}
 use Rattle.gq_extended.specs.Meaning.{extended}
-use Rattle.gms_eval.specs.Answers.{counted}
+use Rattle.gms_eval.specs.Nodes.{counted}
 use Rattle.gms_eval.specs.Faults.{nothing, faulted}
 use Rattle.gms_eval.specs.declared.stop.StopKind.TheVariants.{Limit}
 use Rattle.gms_eval.proofs.Counts.{counted-fits, counted-over}

@@ -1,6 +1,6 @@
 use Rattle.std.proofs.Common.{◌∙◌, ap, sym, not}
 use Rattle.gq_extended.specs.Meaning.{extended}
-use Rattle.gms_eval.specs.Answers.{is_so}
+use Rattle.gms_eval.specs.Nodes.{is_so}
 use Rattle.gms_eval.proofs.Zeros.{zero_told}
 use Rattle.gms_eval.proofs.steps.is_so.Goals as goal
 

@@ -3,7 +3,7 @@ use Rattle.std.specs.List.{flat_map}
 use Rattle.gms_tuple.specs.TupleSet.{has}
 use Rattle.gms_store.specs.State.{given_of}
 use Rattle.gms_eval.specs.Domain.{elements}
-use Rattle.gms_eval.specs.Leading.{spread_over}
+use Rattle.gms_eval.specs.InnerLeading.{spread_over}
 use Rattle.gms_eval.proofs.Gathering.{range-end, gathered-more}
 use Rattle.gms_eval.proofs.walk.gathered.Goals as goal
 

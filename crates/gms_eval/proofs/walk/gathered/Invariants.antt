@@ -4,7 +4,7 @@ use Rattle.gms_tuple.specs.TupleOrder.{IsOrdered}
 use Rattle.gms_tuple.specs.TupleSet.{has}
 use Rattle.gms_store.specs.State.{given_of}
 use Rattle.gms_eval.specs.Domain.{elements}
-use Rattle.gms_eval.specs.Leading.{spread_over}
+use Rattle.gms_eval.specs.InnerLeading.{spread_over}
 use Rattle.gms_eval.proofs.walk.gathered.Given as goal
 
 abbrev pub invariant-loop-place : goal.invariant-loop-place

@@ -1,5 +1,5 @@
 use Rattle.std.proofs.Common.{◌≡◌, ◌++◌, take, length}
-use Rattle.gms_eval.specs.Leading.{picked}
+use Rattle.gms_eval.specs.InnerLeading.{picked}
 use Rattle.gms_eval.proofs.walk.picked.Given as goal
 
 abbrev pub invariant-loop-place : goal.invariant-loop-place

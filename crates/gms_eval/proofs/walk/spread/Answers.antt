@@ -2,7 +2,7 @@ use Rattle.std.proofs.Common.{◌≡◌, ◌∙◌, ap, sym, ℕ, ◌+◌, ◌++
 use Rattle.std.proofs.lemmas.List.{map_more, take_all}
 use Rattle.gms_tuple.specs.TupleSet.{has}
 use Rattle.gms_eval.specs.Domain.{elements}
-use Rattle.gms_eval.specs.Leading.{picked}
+use Rattle.gms_eval.specs.InnerLeading.{picked}
 use Rattle.gms_eval.proofs.Gathering.{gathered-none, gathered-in, gathered-out}
 use Rattle.gms_eval.proofs.walk.spread.Goals as goal
 

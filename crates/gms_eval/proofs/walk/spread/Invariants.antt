@@ -2,7 +2,7 @@ use Rattle.std.proofs.Common.{◌≡◌, ◌++◌, ◌||◌, ◌&&◌, ℕ, List
 use Rattle.gms_tuple.specs.TupleOrder.{IsOrdered}
 use Rattle.gms_tuple.specs.TupleSet.{has}
 use Rattle.gms_eval.specs.Domain.{elements}
-use Rattle.gms_eval.specs.Leading.{picked}
+use Rattle.gms_eval.specs.InnerLeading.{picked}
 use Rattle.gms_eval.proofs.walk.spread.Given as goal
 
 abbrev pub invariant-loop-number : goal.invariant-loop-number

@@ -1,6 +1,6 @@
 use Rattle.std.proofs.Common.{◌≡◌, ◌∙◌, ap, sym, refl, ◌&&◌, true, false, not, Ok, map, if◌then◌else◌}
 use Rattle.gms_ast.specs.Trees.{signed}
-use Rattle.gms_eval.specs.Answers.{each_holds}
+use Rattle.gms_eval.specs.Nodes.{each_holds}
 use Rattle.gms_eval.specs.Faults.{◌and_then◌}
 use Rattle.gms_eval.proofs.Answering.{stops-same, stops-then, handed_on, gives-same, then-value}
 use Rattle.gms_eval.proofs.Marks.{signed_mark}

@@ -1,4 +1,4 @@
-use Rattle.std.proofs.Common.{◌≡◌, ◌∙◌, ℕ, List, [], true, false, ap, sym, map, unwrap_or}
+use Rattle.std.proofs.Common.{◌≡◌, ◌∙◌, [], true, false, ap, sym, map, unwrap_or}
 use Rattle.gms_exec.specs.Options.{is_word, solver_set}
 use Rattle.gms_exec.proofs.Chosen.{fails-more, first-there, first-nowhere}
 use Rattle.gms_exec.proofs.options.chosen.Goals as goal

@@ -1,4 +1,4 @@
-use Rattle.std.proofs.Common.{◌≡◌, ◌<◌, ℕ, List, [], false, length, map, get_or}
+use Rattle.std.proofs.Common.{◌≡◌, ◌<◌, ℕ, [], false, map, get_or}
 use Rattle.gms_exec.specs.Options.{is_word}
 use Rattle.gms_exec.proofs.options.chosen.Given as goal
 

@@ -3,7 +3,7 @@ use Rattle.std.proofs.lemmas.List.{get_or-map}
 use Rattle.std.proofs.lemmas.Result.{IfOk-weaker}
 use Rattle.gq_frac.specs.Frac.{frac_value}
 use Rattle.lp_core.specs.Answers.{IsAnswer}
-use Rattle.gms_exec.specs.Walks.{AnswersAt, path_at}
+use Rattle.gms_exec.specs.InnerSolving.{AnswersAt, path_at}
 use Rattle.gms_exec.proofs.OneSolver.{map-set, get-reading, paths-set}
 use Rattle.gms_exec.proofs.solving.solve_at.Goals as goal
 

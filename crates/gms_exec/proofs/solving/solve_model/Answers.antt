@@ -1,4 +1,4 @@
-use Rattle.std.proofs.Common.{◌^◌, ◌-◌, ◌∙◌, List, map, ap, sym, refl, Err}
+use Rattle.std.proofs.Common.{◌^◌, ◌-◌, ◌∙◌, map, ap, sym, refl, Err}
 use Rattle.std.proofs.lemmas.Result.{err_from_is_err_and}
 use Rattle.gq_frac.specs.Frac.{frac_value}
 use Rattle.gq_frac.specs.declared.frac.Frac.{Frac}
@@ -6,10 +6,9 @@ use Rattle.gms_eval.specs.Faults.{faulted, nothing}
 use Rattle.gms_eval.specs.declared.stop.StopKind.TheVariants.{NoSolver}
 use Rattle.gms_rows.specs.ProgramLp.{program_lp}
 use Rattle.gms_rows.specs.Rows.{equations_of}
-use Rattle.lp_core.specs.Numbers.{lp_numbers}
 use Rattle.gms_exec.specs.Run.{with_value, answered, solve}
 use Rattle.gms_exec.specs.Standing.{ShowsStanding}
-use Rattle.gms_exec.specs.Walks.{Seen, Answered, come_to}
+use Rattle.gms_exec.specs.Stepping.{Seen, Answered, come_to}
 use Rattle.gms_exec.proofs.Arms.{runs-value_stops, unless-any}
 use Rattle.gms_exec.proofs.Joining.{answered-nothing}
 use Rattle.gms_exec.proofs.SolveRuns.{runs-fault, runs-grown, solve-does, solve-none, solves-runs, solves-answered, solves-standing, is-none, is-some, some-there}
@@ -65,9 +64,8 @@ returns-in_err-solve_program-clause-runs g c =
 pub returns-then-is_empty-clause-solvers : goal.returns-then-is_empty-clause-solvers
 returns-then-is_empty-clause-solvers g c =
     let xs = c.args.solvers.now.items in
-    let answers = c.args.answers.now.items in
-    let events = c.args.events.now.items in
-    unless-any {F = Frac} {A = Unit {0}} (Err c.stopped.result) (Answered frac_value (2 ^ 127 - 1) (λ b. (goal.LpSolver-dyn g (b.vtable, b.value)).name b.value) (λ b. (goal.LpSolver-dyn g (b.vtable, b.value)).rule b.value) (λ b. (goal.LpSolver-dyn g (b.vtable, b.value)).paths b.value) xs xs answers events events) (answered-nothing frac_value (2 ^ 127 - 1) (λ b. (goal.LpSolver-dyn g (b.vtable, b.value)).name b.value) (λ b. (goal.LpSolver-dyn g (b.vtable, b.value)).rule b.value) (λ b. (goal.LpSolver-dyn g (b.vtable, b.value)).paths b.value) xs answers events)
+    let seen : Seen Frac = record { state = c.args.store.now; events = c.args.events.now.items; answers = c.args.answers.now.items } in
+    unless-any {F = Frac} {A = Unit {0}} (Err c.stopped.result) (Answered frac_value (2 ^ 127 - 1) (λ b. (goal.LpSolver-dyn g (b.vtable, b.value)).name b.value) (λ b. (goal.LpSolver-dyn g (b.vtable, b.value)).rule b.value) (λ b. (goal.LpSolver-dyn g (b.vtable, b.value)).paths b.value) xs xs seen seen) (answered-nothing frac_value (2 ^ 127 - 1) (λ b. (goal.LpSolver-dyn g (b.vtable, b.value)).name b.value) (λ b. (goal.LpSolver-dyn g (b.vtable, b.value)).rule b.value) (λ b. (goal.LpSolver-dyn g (b.vtable, b.value)).paths b.value) xs seen)
 
 pub returns-then-is_empty-clause-standing : goal.returns-then-is_empty-clause-standing
 returns-then-is_empty-clause-standing g c =
@@ -79,9 +77,8 @@ returns-then-is_empty-clause-standing g c =
 pub returns-in_err-lp-clause-solvers : goal.returns-in_err-lp-clause-solvers
 returns-in_err-lp-clause-solvers g c =
     let xs = c.args.solvers.now.items in
-    let answers = c.args.answers.now.items in
-    let events = c.args.events.now.items in
-    unless-any {F = Frac} {A = Unit {0}} (c.from_residual.result) (Answered frac_value (2 ^ 127 - 1) (λ b. (goal.LpSolver-dyn g (b.vtable, b.value)).name b.value) (λ b. (goal.LpSolver-dyn g (b.vtable, b.value)).rule b.value) (λ b. (goal.LpSolver-dyn g (b.vtable, b.value)).paths b.value) xs xs answers events events) (answered-nothing frac_value (2 ^ 127 - 1) (λ b. (goal.LpSolver-dyn g (b.vtable, b.value)).name b.value) (λ b. (goal.LpSolver-dyn g (b.vtable, b.value)).rule b.value) (λ b. (goal.LpSolver-dyn g (b.vtable, b.value)).paths b.value) xs answers events)
+    let seen : Seen Frac = record { state = c.args.store.now; events = c.args.events.now.items; answers = c.args.answers.now.items } in
+    unless-any {F = Frac} {A = Unit {0}} (c.from_residual.result) (Answered frac_value (2 ^ 127 - 1) (λ b. (goal.LpSolver-dyn g (b.vtable, b.value)).name b.value) (λ b. (goal.LpSolver-dyn g (b.vtable, b.value)).rule b.value) (λ b. (goal.LpSolver-dyn g (b.vtable, b.value)).paths b.value) xs xs seen seen) (answered-nothing frac_value (2 ^ 127 - 1) (λ b. (goal.LpSolver-dyn g (b.vtable, b.value)).name b.value) (λ b. (goal.LpSolver-dyn g (b.vtable, b.value)).rule b.value) (λ b. (goal.LpSolver-dyn g (b.vtable, b.value)).paths b.value) xs seen)
 
 pub returns-in_err-lp-clause-standing : goal.returns-in_err-lp-clause-standing
 returns-in_err-lp-clause-standing g c =

@@ -8,7 +8,7 @@ use Rattle.gms_eval.proofs.Shapes.{tree-sets}
 use Rattle.gms_eval.specs.Bindings.{controlled}
 use Rattle.gms_eval.specs.Value.{domain, sets_of}
 use Rattle.gms_exec.specs.Run.{with_value, for_each}
-use Rattle.gms_exec.specs.Walks.{Seen, come_to}
+use Rattle.gms_exec.specs.Stepping.{Seen, come_to}
 use Rattle.gms_exec.proofs.ActSteps.{on-Loop}
 use Rattle.gms_exec.proofs.Arms.{runs-value_stops, runs-memory}
 use Rattle.gms_exec.proofs.Joining.{reaches-memory}

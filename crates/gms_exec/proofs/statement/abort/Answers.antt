@@ -4,7 +4,7 @@ use Rattle.gms_eval.specs.declared.stop.StopKind.TheVariants.{Aborted}
 use Rattle.gms_event.specs.Events.{aborts}
 use Rattle.gms_event.specs.declared.event.Event.TheVariants as event
 use Rattle.gms_exec.specs.Run.{with_value, with_event, stopped_by, abort}
-use Rattle.gms_exec.specs.Walks.{come_to}
+use Rattle.gms_exec.specs.Stepping.{come_to}
 use Rattle.std.proofs.lemmas.Result.{err_from_is_err_and}
 use Rattle.gms_exec.specs.Showing.{all_shown}
 use Rattle.gms_exec.proofs.Arms.{runs-event_stopped, runs-value_stops, runs-memory, no-solve_nothing}

@@ -1,10 +1,10 @@
-use Rattle.std.proofs.Common.{◌≡◌, ◌∙◌, List, ap, refl, if◌then◌else◌, option_map}
+use Rattle.std.proofs.Common.{◌∙◌, ap, refl, if◌then◌else◌, option_map}
 use Rattle.std.specs.Prelude.{option_copied}
 use Rattle.std.proofs.lemmas.Result.{err_from_is_err_and}
 use Rattle.gms_ast.specs.TreeView.{tree_of}
 use Rattle.gms_eval.specs.Holds.{holds}
 use Rattle.gms_exec.specs.Run.{with_value, abort, abort_where}
-use Rattle.gms_exec.specs.Walks.{come_to}
+use Rattle.gms_exec.specs.Stepping.{come_to}
 use Rattle.gms_exec.proofs.Arms.{runs-alike, runs-nothing, runs-value_stops}
 use Rattle.gms_exec.proofs.Standings.{standing-nothing}
 use Rattle.gms_exec.proofs.statement.abort_where.Goals as goal

@@ -1,8 +1,8 @@
-use Rattle.std.proofs.Common.{◌^◌, ◌-◌, List, map}
+use Rattle.std.proofs.Common.{◌^◌, ◌-◌, map}
 use Rattle.gq_frac.specs.Frac.{frac_value}
 use Rattle.gq_frac.specs.declared.frac.Frac.{Frac}
 use Rattle.gms_exec.specs.Standing.{ShowsStanding}
-use Rattle.gms_exec.specs.Walks.{Seen, Answered}
+use Rattle.gms_exec.specs.Stepping.{Seen, Answered}
 use Rattle.gms_exec.proofs.Acts.{ran-Solve, lent-runs, kept-settings, kept-plain}
 use Rattle.gms_exec.proofs.Arms.{unless-any, answered-quiet}
 use Rattle.gms_exec.proofs.statement.once.Goals as goal
@@ -19,9 +19,9 @@ pub returns-in_default-clause-solvers : goal.returns-in_default-clause-solvers
 returns-in_default-clause-solvers g c =
     let xs = c.args.solvers.now.items in
     let answers = c.args.answers.now.items in
-    let old = c.args.events.now.items in
-    let new = c.without_solving.new.events.items in
-    unless-any {F = Frac} {A = Unit {0}} c.without_solving.result (Answered frac_value (2 ^ 127 - 1) (λ b. (goal.LpSolver-dyn g (b.vtable, b.value)).name b.value) (λ b. (goal.LpSolver-dyn g (b.vtable, b.value)).rule b.value) (λ b. (goal.LpSolver-dyn g (b.vtable, b.value)).paths b.value) xs xs answers old new) (answered-quiet frac_value (2 ^ 127 - 1) (λ b. (goal.LpSolver-dyn g (b.vtable, b.value)).name b.value) (λ b. (goal.LpSolver-dyn g (b.vtable, b.value)).rule b.value) (λ b. (goal.LpSolver-dyn g (b.vtable, b.value)).paths b.value) xs answers old new c.without_solving.ensures.quiet)
+    let old : Seen Frac = record { state = c.args.store.now; events = c.args.events.now.items; answers = answers } in
+    let new : Seen Frac = record { state = c.without_solving.new.store; events = c.without_solving.new.events.items; answers = answers } in
+    unless-any {F = Frac} {A = Unit {0}} c.without_solving.result (Answered frac_value (2 ^ 127 - 1) (λ b. (goal.LpSolver-dyn g (b.vtable, b.value)).name b.value) (λ b. (goal.LpSolver-dyn g (b.vtable, b.value)).rule b.value) (λ b. (goal.LpSolver-dyn g (b.vtable, b.value)).paths b.value) xs xs old new) (answered-quiet frac_value (2 ^ 127 - 1) (λ b. (goal.LpSolver-dyn g (b.vtable, b.value)).name b.value) (λ b. (goal.LpSolver-dyn g (b.vtable, b.value)).rule b.value) (λ b. (goal.LpSolver-dyn g (b.vtable, b.value)).paths b.value) xs old new c.without_solving.ensures.quiet)
 
 pub returns-in_default-clause-standing : goal.returns-in_default-clause-standing
 returns-in_default-clause-standing g c =

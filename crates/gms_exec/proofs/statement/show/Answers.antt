@@ -2,7 +2,7 @@ use Rattle.std.proofs.Common.{◌∷◌, [], ap, refl, sym, append-nil}
 use Rattle.gms_event.specs.Events.{displays}
 use Rattle.gms_event.specs.declared.event.Event.TheVariants as event
 use Rattle.gms_exec.specs.Run.{with_value, with_event, display}
-use Rattle.gms_exec.specs.Walks.{come_to}
+use Rattle.gms_exec.specs.Stepping.{come_to}
 use Rattle.std.proofs.lemmas.Result.{err_from_is_err_and}
 use Rattle.gms_exec.specs.Showing.{all_shown}
 use Rattle.gms_exec.proofs.Arms.{runs-event, runs-value_stops, runs-memory, no-solve_nothing}

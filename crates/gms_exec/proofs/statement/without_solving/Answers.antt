@@ -1,4 +1,4 @@
-use Rattle.std.proofs.Common.{List, map, refl}
+use Rattle.std.proofs.Common.{map, refl}
 use Rattle.gms_exec.proofs.Acts.{ran-Assign, ran-Display, ran-Options, ran-Abort, ran-nothing}
 use Rattle.gms_exec.proofs.Arms.{no-solve_nothing}
 use Rattle.gms_exec.proofs.Standings.{standing-nothing}

@@ -1,6 +1,6 @@
 use Rattle.std.proofs.Common.{◌∙◌, sym, ap}
 use Rattle.gms_rows.specs.Rows.{definitions, definition_of}
-use Rattle.gms_rows.specs.Walks.{definition_in}
+use Rattle.gms_rows.specs.InnerWalks.{definition_in}
 use Rattle.gms_rows.proofs.Naming.{defined-here, defined-later, defined-nowhere}
 use Rattle.gms_rows.proofs.equations.find_definition.Goals as goal
 

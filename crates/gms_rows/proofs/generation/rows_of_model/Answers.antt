@@ -4,7 +4,7 @@ use Rattle.std.proofs.lemmas.List.{take_all}
 use Rattle.std.proofs.lemmas.List.Elements.{All-nil, All-more}
 use Rattle.gms_eval.proofs.Answering.{handed_on}
 use Rattle.gms_rows.specs.Rows.{definitions, definition_of, rows_of_model}
-use Rattle.gms_rows.specs.Walks.{form_row_in, HaveOrder}
+use Rattle.gms_rows.specs.InnerWalks.{form_row_in, HaveOrder}
 use Rattle.gms_rows.proofs.RowWalk.{model_from, model-more, model-stops, model-end}
 use Rattle.gms_rows.proofs.generation.rows_of_model.Goals as goal
 

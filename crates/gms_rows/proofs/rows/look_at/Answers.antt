@@ -3,7 +3,7 @@ use Rattle.std.proofs.lemmas.List.{take_all}
 use Rattle.std.proofs.lemmas.List.Elements.{All-more}
 use Rattle.gms_tuple.specs.TupleOrder.{IsOrdered}
 use Rattle.gms_store.specs.State.{members_of}
-use Rattle.gms_rows.specs.Walks.{AreInOrder}
+use Rattle.gms_rows.specs.ElementRows.{AreInOrder}
 use Rattle.gms_rows.proofs.rows.look_at.Goals as goal
 
 pub loop-set-preserved : goal.loop-set-preserved

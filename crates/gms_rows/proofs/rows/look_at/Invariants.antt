@@ -1,5 +1,5 @@
 use Rattle.std.proofs.Common.{take}
-use Rattle.gms_rows.specs.Walks.{AreInOrder}
+use Rattle.gms_rows.specs.ElementRows.{AreInOrder}
 use Rattle.gms_rows.proofs.rows.look_at.Given as goal
 
 abbrev pub invariant-loop-set : goal.invariant-loop-set

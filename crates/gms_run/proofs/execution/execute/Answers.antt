@@ -3,7 +3,7 @@ use Rattle.std.proofs.lemmas.Result.{err_from_is_err_and}
 use Rattle.gq_frac.specs.Frac.{frac_value}
 use Rattle.gms_check.proofs.Soundness.{checked-program}
 use Rattle.gms_exec.specs.Dimensions.{AreOneDimensional}
-use Rattle.gms_exec.specs.Walks.{AreKept}
+use Rattle.gms_exec.specs.Stepping.{AreKept}
 use Rattle.gms_host.specs.Meaning.{Outside}
 use Rattle.gms_host.proofs.Counting.{writing_done, writing_more}
 use Rattle.gms_list.specs.ListingText.{echo_text}
@@ -83,7 +83,7 @@ pub returns-clause-outside : goal.returns-clause-outside
 returns-clause-outside g c =
     let echo : c.args.outlet.now.spool ++ c.echo.new.self ≡ echo_text 1 c.args.source.now = ap (λ t. c.args.outlet.now.spool ++ t) c.in_ok-echo.ensures ∙ behind_nothing c.args.outlet.now.spool c.args.outlet.now.listing (echo_text 1 c.args.source.now) c.requires.empty in
     ends_echoed c.args.source.now c.args.program.now (g.H.Host.meaning c.args.host.now).outside (g.H.Host.meaning c.pass.new.host).outside (c.args.outlet.now.spool ++ c.echo.new.self) c.pass.new.self.spool c.pass.new.self.listing c.in_ok-pass.ensures.outside c.in_ok-pass.ensures.none echo
-    c.in_ok-status.status (solving (λ b. (goal.LpSolver-dyn g (b.vtable, b.value)).name b.value) (λ b. (goal.LpSolver-dyn g (b.vtable, b.value)).rule b.value) (λ b. (goal.LpSolver-dyn g (b.vtable, b.value)).paths b.value) c.args.solvers.now.items c.statements.new.solvers.items c.statements.new.answers.items) c.in_ok-store.store c.statements.new.store (g.H.Host.meaning c.statements.new.host).outside _ c.in_ok-store.ensures c.in_ok-status.ensures.outside
+    c.in_ok-status.status (solving (λ b. (goal.LpSolver-dyn g (b.vtable, b.value)).name b.value) (λ b. (goal.LpSolver-dyn g (b.vtable, b.value)).rule b.value) (λ b. (goal.LpSolver-dyn g (b.vtable, b.value)).paths b.value) c.args.solvers.now.items c.statements.new.solvers.items c.statements.new.answers.items) c.in_ok-store.store c.statements.new.store c.statements.new.solved.items (g.H.Host.meaning c.statements.new.host).outside _ c.in_ok-store.ensures c.in_ok-status.ensures.outside
 
 pub returns-clause-counts : goal.returns-clause-counts
 returns-clause-counts g c = writing_more _ c.in_ok-pass.ensures.counts (writing_done _ _ c.in_ok-status.ensures.counts)

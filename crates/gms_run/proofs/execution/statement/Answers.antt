@@ -9,7 +9,7 @@ use Rattle.gms_event.specs.EventView.{events_in}
 use Rattle.lp_core.specs.Numbers.{answer_numbers}
 use Rattle.gms_exec.proofs.Behind.{behind_statement}
 use Rattle.gms_exec.specs.Run.{of_statement}
-use Rattle.gms_exec.specs.Walks.{Runs}
+use Rattle.gms_exec.specs.Stepping.{Runs}
 use Rattle.gms_list.specs.ListingText.{event_text, events_text}
 use Rattle.gms_run.specs.InnerSteps.{between}
 use Rattle.gms_run.specs.Solving.{number_limit}
@@ -17,10 +17,10 @@ use Rattle.gms_run.proofs.Executed.{all_stand, all_listable, listed_on, listed_s
 use Rattle.gms_run.proofs.Paths.{grown_answered}
 use Rattle.gms_run.proofs.execution.statement.Goals as goal
 
-pub list_events-requires : goal.list_events-requires
-list_events-requires g c =
+pub show-requires : goal.show-requires
+show-requires g c =
     let rules = map (λ b. (goal.LpSolver-dyn g (b.vtable, b.value)).rule b.value) c.args.solvers.now.items in
-    rw (c.deref.ensures.value, c.deref-in-Ok.ensures.value)
+    rw c.deref.ensures.value
     (all_listable rules c.step.new.answers.items c.step.new.events.items (all_stand rules c.step.new.answers.items c.new-events.result.items c.step.new.events.items c.new-events.ensures.items c.in-Ok.ensures.standing))
 
 pub returns-in-Ok-clause-listed : goal.returns-in-Ok-clause-listed
@@ -31,17 +31,16 @@ returns-in-Ok-clause-listed g c =
     let answers = c.step.new.answers.items in
     let events = c.step.new.events.items in
     let before = c.args.listing.now in
-    listed_on program rules (of_statement frac_value number_limit (record { program = program; solvers = names }) c.args.s.now []) (between (λ b. (goal.LpSolver-dyn g (b.vtable, b.value)).name b.value) (λ b. (goal.LpSolver-dyn g (b.vtable, b.value)).rule b.value) (λ b. (goal.LpSolver-dyn g (b.vtable, b.value)).paths b.value) c.args.store.now c.args.answers.now.items c.args.solvers.now.items)
-    (between (λ b. (goal.LpSolver-dyn g (b.vtable, b.value)).name b.value) (λ b. (goal.LpSolver-dyn g (b.vtable, b.value)).rule b.value) (λ b. (goal.LpSolver-dyn g (b.vtable, b.value)).paths b.value) c.step.new.store answers c.step.new.solvers.items) events
+    listed_on program rules (of_statement frac_value number_limit (record { program = program; solvers = names }) c.args.s.now []) (between (λ b. (goal.LpSolver-dyn g (b.vtable, b.value)).name b.value) (λ b. (goal.LpSolver-dyn g (b.vtable, b.value)).rule b.value) (λ b. (goal.LpSolver-dyn g (b.vtable, b.value)).paths b.value) c.args.store.now c.args.answers.now.items c.args.solved.now.items c.args.solvers.now.items)
+    (between (λ b. (goal.LpSolver-dyn g (b.vtable, b.value)).name b.value) (λ b. (goal.LpSolver-dyn g (b.vtable, b.value)).rule b.value) (λ b. (goal.LpSolver-dyn g (b.vtable, b.value)).paths b.value) c.step.new.store answers c.show.new.solved.items c.step.new.solvers.items) events
     (λ front course. behind_statement frac_value number_limit (record { program = program; solvers = names }) c.args.s.now front [] course)
-    c.in-Ok.field-0 c.new-events.result.items before c.list_events.new.listing c.new-events.ensures.items
+    c.in-Ok.field-0 c.new-events.result.items before c.show.new.listing c.new-events.ensures.items
     (subst (λ b. Runs frac_value (let r : Result (Unit {0}) (StopOrMemory Frac) = Ok c.in-Ok.field-0 in r) (of_statement frac_value number_limit (record { program = program; solvers = names }) c.args.s.now b) (record { state = c.args.store.now; events = c.new-events.result.items; answers = c.args.answers.now.items }) (record { state = c.step.new.store; events = events; answers = answers })) c.new-none.ensures c.in-Ok.ensures.runs)
     (all_stand rules answers c.new-events.result.items events c.new-events.ensures.items c.in-Ok.ensures.standing)
     (grown_answered (λ b. (goal.LpSolver-dyn g (b.vtable, b.value)).name b.value) (λ b. (goal.LpSolver-dyn g (b.vtable, b.value)).rule b.value) (λ b. (goal.LpSolver-dyn g (b.vtable, b.value)).paths b.value) c.args.solvers.now.items c.step.new.solvers.items answers
     c.new-events.result.items events c.new-events.ensures.items c.in-Ok.ensures.solvers)
-    (c.in_ok-list_events-in-Ok.ensures
-    ∙ ap (λ es. before ++ events_text program.names program.labels number_limit (map (answer_numbers frac_value) c.deref-in-Ok.result.now) (events_in frac_value es)) c.deref.ensures.value
-    ∙ ap (λ all. before ++ events_text program.names program.labels number_limit (map (answer_numbers frac_value) all) (events_in frac_value events)) c.deref-in-Ok.ensures.value)
+    c.in_ok-show-in-Ok.ensures.kept
+    (c.in_ok-show-in-Ok.ensures.listed ∙ ap (λ all. before ++ events_text program.names program.labels number_limit (map (answer_numbers frac_value) all) (events_in frac_value events)) c.deref.ensures.value)
 
 pub returns-in-Ok-clause-settings : goal.returns-in-Ok-clause-settings
 returns-in-Ok-clause-settings g c = c.in-Ok.ensures.settings
@@ -49,11 +48,10 @@ returns-in-Ok-clause-settings g c = c.in-Ok.ensures.settings
 pub returns-in-Ok-clause-plain : goal.returns-in-Ok-clause-plain
 returns-in-Ok-clause-plain g c = c.in-Ok.ensures.plain
 
--- the arm of a stop: the names `field-0-is`, `deref-in-Err-Stop`, `deref-in-Err-Stop-2`, `deref-in-Err-Stop-3`, `list_events-in-Err-Stop` and `event` in it were not seen
-pub list_events-requires-in-Err-Stop : goal.list_events-requires-in-Err-Stop
-list_events-requires-in-Err-Stop g c =
+pub show-requires-in-Err-Stop : goal.show-requires-in-Err-Stop
+show-requires-in-Err-Stop g c =
     let rules = map (λ b. (goal.LpSolver-dyn g (b.vtable, b.value)).rule b.value) c.args.solvers.now.items in
-    rw (c.deref-in-Err-Stop.ensures.value, c.deref-in-Err-Stop-2.ensures.value)
+    rw c.deref-in-Err-Stop.ensures.value
     (all_listable rules c.step.new.answers.items c.step.new.events.items (all_stand rules c.step.new.answers.items c.new-events.result.items c.step.new.events.items c.new-events.ensures.items (rw c.in-Err-Stop.field-0-is at c.in-Err-Stop.ensures.standing)))
 
 pub returns-clause-listed : goal.returns-clause-listed
@@ -64,19 +62,19 @@ returns-clause-listed g c =
     let answers = c.step.new.answers.items in
     let events = c.step.new.events.items in
     let before = c.args.listing.now in
-    listed_stop program rules (of_statement frac_value number_limit (record { program = program; solvers = names }) c.args.s.now []) (between (λ b. (goal.LpSolver-dyn g (b.vtable, b.value)).name b.value) (λ b. (goal.LpSolver-dyn g (b.vtable, b.value)).rule b.value) (λ b. (goal.LpSolver-dyn g (b.vtable, b.value)).paths b.value) c.args.store.now c.args.answers.now.items c.args.solvers.now.items)
-    (between (λ b. (goal.LpSolver-dyn g (b.vtable, b.value)).name b.value) (λ b. (goal.LpSolver-dyn g (b.vtable, b.value)).rule b.value) (λ b. (goal.LpSolver-dyn g (b.vtable, b.value)).paths b.value) c.step.new.store answers c.step.new.solvers.items) events
+    listed_stop program rules (of_statement frac_value number_limit (record { program = program; solvers = names }) c.args.s.now []) (between (λ b. (goal.LpSolver-dyn g (b.vtable, b.value)).name b.value) (λ b. (goal.LpSolver-dyn g (b.vtable, b.value)).rule b.value) (λ b. (goal.LpSolver-dyn g (b.vtable, b.value)).paths b.value) c.args.store.now c.args.answers.now.items c.args.solved.now.items c.args.solvers.now.items)
+    (between (λ b. (goal.LpSolver-dyn g (b.vtable, b.value)).name b.value) (λ b. (goal.LpSolver-dyn g (b.vtable, b.value)).rule b.value) (λ b. (goal.LpSolver-dyn g (b.vtable, b.value)).paths b.value) c.step.new.store answers c.show-in-Err-Stop.new.solved.items c.step.new.solvers.items) events
     (λ front course. behind_statement frac_value number_limit (record { program = program; solvers = names }) c.args.s.now front [] course)
-    c.in-Err-Stop.stop c.new-events.result.items before c.list_events-in-Err-Stop.new.listing c.event.new.self c.new-events.ensures.items
+    c.in-Err-Stop.stop c.new-events.result.items before c.show-in-Err-Stop.new.listing c.event.new.self c.new-events.ensures.items
     (subst (λ b. Runs frac_value (let r : Result (Unit {0}) (StopOrMemory Frac) = Err (Stop c.in-Err-Stop.stop) in r) (of_statement frac_value number_limit (record { program = program; solvers = names }) c.args.s.now b) (record { state = c.args.store.now; events = c.new-events.result.items; answers = c.args.answers.now.items }) (record { state = c.step.new.store; events = events; answers = answers })) c.new-none.ensures (rw c.in-Err-Stop.field-0-is at c.in-Err-Stop.ensures.runs))
     (all_stand rules answers c.new-events.result.items events c.new-events.ensures.items (rw c.in-Err-Stop.field-0-is at c.in-Err-Stop.ensures.standing))
     (grown_answered (λ b. (goal.LpSolver-dyn g (b.vtable, b.value)).name b.value) (λ b. (goal.LpSolver-dyn g (b.vtable, b.value)).rule b.value) (λ b. (goal.LpSolver-dyn g (b.vtable, b.value)).paths b.value) c.args.solvers.now.items c.step.new.solvers.items answers
     c.new-events.result.items events c.new-events.ensures.items (rw c.in-Err-Stop.field-0-is at c.in-Err-Stop.ensures.solvers))
-    (c.in_ok-list_events-in-Err-Stop.ensures
-    ∙ ap (λ es. before ++ events_text program.names program.labels number_limit (map (answer_numbers frac_value) c.deref-in-Err-Stop-2.result.now) (events_in frac_value es)) c.deref-in-Err-Stop.ensures.value
-    ∙ ap (λ all. before ++ events_text program.names program.labels number_limit (map (answer_numbers frac_value) all) (events_in frac_value events)) c.deref-in-Err-Stop-2.ensures.value)
+    c.in_ok-show-in-Err-Stop.ensures.kept
+    (c.in_ok-show-in-Err-Stop.ensures.listed
+    ∙ ap (λ all. before ++ events_text program.names program.labels number_limit (map (answer_numbers frac_value) all) (events_in frac_value events)) c.deref-in-Err-Stop.ensures.value)
     (c.in_ok-event-in-Err-Stop.ensures
-    ∙ ap (λ all. c.list_events-in-Err-Stop.new.listing ++ event_text program.names program.labels number_limit (map (answer_numbers frac_value) all) (stops (fault_of frac_value c.in-Err-Stop.stop))) c.deref-in-Err-Stop-3.ensures.value)
+    ∙ ap (λ all. c.show-in-Err-Stop.new.listing ++ event_text program.names program.labels number_limit (map (answer_numbers frac_value) all) (stops (fault_of frac_value c.in-Err-Stop.stop))) c.deref-in-Err-Stop-2.ensures.value)
 
 pub returns-clause-settings : goal.returns-clause-settings
 returns-clause-settings g c = rw c.in-Err-Stop.field-0-is at c.in-Err-Stop.ensures.settings

@@ -1,6 +1,6 @@
 use Rattle.std.proofs.Common.{◌<◌, ◌++◌, ◌∙◌, ◌^◌, ap, subst, sym}
 use Rattle.std.proofs.lemmas.Result.{err_from_is_err_and}
-use Rattle.gms_exec.specs.Walks.{AreKept}
+use Rattle.gms_exec.specs.Stepping.{AreKept}
 use Rattle.gms_host.specs.Meaning.{Outside}
 use Rattle.gms_host.proofs.Counting.{writing_done, writing_more, writing_none}
 use Rattle.gms_run.specs.InnerSteps.{between, work}
@@ -12,7 +12,7 @@ use Rattle.gms_run.proofs.execution.statements.Goals as goal
 pub loop-s-init : goal.loop-s-init
 loop-s-init g c =
     record {
-      come = come_start (work c.args.program.now c.args.store.now c.args.program.now.statements.items) (seen (λ b. (goal.LpSolver-dyn g (b.vtable, b.value)).name b.value) (λ b. (goal.LpSolver-dyn g (b.vtable, b.value)).rule b.value) (λ b. (goal.LpSolver-dyn g (b.vtable, b.value)).paths b.value) c.args.solvers.now.items) _ _ c.args.answers.now.items c.requires.none;
+      come = come_start (work c.args.program.now c.args.store.now c.args.program.now.statements.items) (seen (λ b. (goal.LpSolver-dyn g (b.vtable, b.value)).name b.value) (λ b. (goal.LpSolver-dyn g (b.vtable, b.value)).rule b.value) (λ b. (goal.LpSolver-dyn g (b.vtable, b.value)).paths b.value) c.args.solvers.now.items) _ _ c.args.answers.now.items c.args.solved.now.items c.requires.none c.requires.unsolved;
       room = c.requires.room;
       settings = c.requires.settings;
       plain = c.requires.plain;
@@ -48,8 +48,8 @@ returns-in_err-pass-clause-outside g c =
     let old = (g.H.Host.meaning c.args.host.now).outside in
     let mid = (g.H.Host.meaning c.loop-s.host).outside in
     let due = c.args.outlet.now.spool ++ c.args.outlet.now.listing in
-    let now = between (λ b. (goal.LpSolver-dyn g (b.vtable, b.value)).name b.value) (λ b. (goal.LpSolver-dyn g (b.vtable, b.value)).rule b.value) (λ b. (goal.LpSolver-dyn g (b.vtable, b.value)).paths b.value) c.loop-s.store c.loop-s.answers.items c.loop-s.solvers.items in
-    let next = between (λ b. (goal.LpSolver-dyn g (b.vtable, b.value)).name b.value) (λ b. (goal.LpSolver-dyn g (b.vtable, b.value)).rule b.value) (λ b. (goal.LpSolver-dyn g (b.vtable, b.value)).paths b.value) c.statement.new.store c.statement.new.answers.items c.statement.new.solvers.items in
+    let now = between (λ b. (goal.LpSolver-dyn g (b.vtable, b.value)).name b.value) (λ b. (goal.LpSolver-dyn g (b.vtable, b.value)).rule b.value) (λ b. (goal.LpSolver-dyn g (b.vtable, b.value)).paths b.value) c.loop-s.store c.loop-s.answers.items c.loop-s.solved.items c.loop-s.solvers.items in
+    let next = between (λ b. (goal.LpSolver-dyn g (b.vtable, b.value)).name b.value) (λ b. (goal.LpSolver-dyn g (b.vtable, b.value)).rule b.value) (λ b. (goal.LpSolver-dyn g (b.vtable, b.value)).paths b.value) c.statement.new.store c.statement.new.answers.items c.statement.new.solved.items c.statement.new.solvers.items in
     let at = c.loop-s.invariant in
     let executes =
     executes_next job before old due mid c.in_ok-goes_on.goes_on c.loop-s.s-index c.s-item.result now next c.loop-s.outlet.spool c.loop-s.outlet.listing c.statement.new.listing c.deref-s-items.result.now
@@ -69,8 +69,8 @@ returns-then-not-goes_on-clause-outside g c =
     let old = (g.H.Host.meaning c.args.host.now).outside in
     let mid = (g.H.Host.meaning c.loop-s.host).outside in
     let due = c.args.outlet.now.spool ++ c.args.outlet.now.listing in
-    let now = between (λ b. (goal.LpSolver-dyn g (b.vtable, b.value)).name b.value) (λ b. (goal.LpSolver-dyn g (b.vtable, b.value)).rule b.value) (λ b. (goal.LpSolver-dyn g (b.vtable, b.value)).paths b.value) c.loop-s.store c.loop-s.answers.items c.loop-s.solvers.items in
-    let next = between (λ b. (goal.LpSolver-dyn g (b.vtable, b.value)).name b.value) (λ b. (goal.LpSolver-dyn g (b.vtable, b.value)).rule b.value) (λ b. (goal.LpSolver-dyn g (b.vtable, b.value)).paths b.value) c.statement.new.store c.statement.new.answers.items c.statement.new.solvers.items in
+    let now = between (λ b. (goal.LpSolver-dyn g (b.vtable, b.value)).name b.value) (λ b. (goal.LpSolver-dyn g (b.vtable, b.value)).rule b.value) (λ b. (goal.LpSolver-dyn g (b.vtable, b.value)).paths b.value) c.loop-s.store c.loop-s.answers.items c.loop-s.solved.items c.loop-s.solvers.items in
+    let next = between (λ b. (goal.LpSolver-dyn g (b.vtable, b.value)).name b.value) (λ b. (goal.LpSolver-dyn g (b.vtable, b.value)).rule b.value) (λ b. (goal.LpSolver-dyn g (b.vtable, b.value)).paths b.value) c.statement.new.store c.statement.new.answers.items c.statement.new.solved.items c.statement.new.solvers.items in
     let at = c.loop-s.invariant in
     let executes =
     executes_next job before old due mid c.in_ok-goes_on.goes_on c.loop-s.s-index c.s-item.result now next c.loop-s.outlet.spool c.loop-s.outlet.listing c.statement.new.listing c.deref-s-items.result.now
@@ -89,8 +89,8 @@ loop-s-preserved g c =
     let old = (g.H.Host.meaning c.args.host.now).outside in
     let mid = (g.H.Host.meaning c.loop-s.host).outside in
     let due = c.args.outlet.now.spool ++ c.args.outlet.now.listing in
-    let now = between (λ b. (goal.LpSolver-dyn g (b.vtable, b.value)).name b.value) (λ b. (goal.LpSolver-dyn g (b.vtable, b.value)).rule b.value) (λ b. (goal.LpSolver-dyn g (b.vtable, b.value)).paths b.value) c.loop-s.store c.loop-s.answers.items c.loop-s.solvers.items in
-    let next = between (λ b. (goal.LpSolver-dyn g (b.vtable, b.value)).name b.value) (λ b. (goal.LpSolver-dyn g (b.vtable, b.value)).rule b.value) (λ b. (goal.LpSolver-dyn g (b.vtable, b.value)).paths b.value) c.statement.new.store c.statement.new.answers.items c.statement.new.solvers.items in
+    let now = between (λ b. (goal.LpSolver-dyn g (b.vtable, b.value)).name b.value) (λ b. (goal.LpSolver-dyn g (b.vtable, b.value)).rule b.value) (λ b. (goal.LpSolver-dyn g (b.vtable, b.value)).paths b.value) c.loop-s.store c.loop-s.answers.items c.loop-s.solved.items c.loop-s.solvers.items in
+    let next = between (λ b. (goal.LpSolver-dyn g (b.vtable, b.value)).name b.value) (λ b. (goal.LpSolver-dyn g (b.vtable, b.value)).rule b.value) (λ b. (goal.LpSolver-dyn g (b.vtable, b.value)).paths b.value) c.statement.new.store c.statement.new.answers.items c.statement.new.solved.items c.statement.new.solvers.items in
     let at = c.loop-s.invariant in
     let executes =
     executes_next job before old due mid c.in_ok-goes_on.goes_on c.loop-s.s-index c.s-item.result now next c.loop-s.outlet.spool c.loop-s.outlet.listing c.statement.new.listing c.deref-s-items.result.now
@@ -108,7 +108,7 @@ loop-s-preserved g c =
 pub returns-clause-outside : goal.returns-clause-outside
 returns-clause-outside g c =
     came_done (work c.args.program.now c.args.store.now c.args.program.now.statements.items) (seen (λ b. (goal.LpSolver-dyn g (b.vtable, b.value)).name b.value) (λ b. (goal.LpSolver-dyn g (b.vtable, b.value)).rule b.value) (λ b. (goal.LpSolver-dyn g (b.vtable, b.value)).paths b.value) c.args.solvers.now.items) (g.H.Host.meaning c.args.host.now).outside (c.args.outlet.now.spool ++ c.args.outlet.now.listing) (g.H.Host.meaning c.loop-s.host).outside c.loop-s.s-index
-    (between (λ b. (goal.LpSolver-dyn g (b.vtable, b.value)).name b.value) (λ b. (goal.LpSolver-dyn g (b.vtable, b.value)).rule b.value) (λ b. (goal.LpSolver-dyn g (b.vtable, b.value)).paths b.value) c.loop-s.store c.loop-s.answers.items c.loop-s.solvers.items) (c.loop-s.outlet.spool ++ c.loop-s.outlet.listing) c.deref-s-items.result.now
+    (between (λ b. (goal.LpSolver-dyn g (b.vtable, b.value)).name b.value) (λ b. (goal.LpSolver-dyn g (b.vtable, b.value)).rule b.value) (λ b. (goal.LpSolver-dyn g (b.vtable, b.value)).paths b.value) c.loop-s.store c.loop-s.answers.items c.loop-s.solved.items c.loop-s.solvers.items) (c.loop-s.outlet.spool ++ c.loop-s.outlet.listing) c.deref-s-items.result.now
     c.loop-s.invariant.come c.loop-s.invariant.room c.deref-s-items.ensures.value c.loop-s-test.false
 
 pub returns-clause-counts : goal.returns-clause-counts

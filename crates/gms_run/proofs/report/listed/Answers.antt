@@ -42,10 +42,12 @@ pub returns-in_ok-finish-clause-outside : goal.returns-in_ok-finish-clause-outsi
 returns-in_ok-finish-clause-outside g c =
     let found = errors_are (λ b. (goal.LpSolver-dyn g (b.vtable, b.value)).name b.value) c.in-Ok.program c.in_ok-errors.errors.items c.deref.result.now c.in_ok-names.names.items c.as_slice.result.now c.args.solvers.now.items c.in_ok-errors.ensures c.deref.ensures.value c.in_ok-names.ensures c.as_slice.ensures.value in
     let none = sym found ∙ emptied c.in_ok-errors.errors (sym c.is_empty.ensures ∙ c.if-is_empty.true) in
-    prepares_job c.in_ok-finish.finish.status (solving (λ b. (goal.LpSolver-dyn g (b.vtable, b.value)).name b.value) (λ b. (goal.LpSolver-dyn g (b.vtable, b.value)).rule b.value) (λ b. (goal.LpSolver-dyn g (b.vtable, b.value)).paths b.value) c.args.solvers.now.items c.execute.new.solvers.items c.execute.new.answers.items) (g.H.Host.meaning c.args.host.now).outside (g.H.Host.meaning c.execute.new.host).outside c.args.source.now _ c.in-Ok.program c.in_ok-finish.finish.store c.in-Ok.ensures none c.in_ok-finish.ensures.outside
+    prepares_job c.in_ok-finish.finish.status (solving (λ b. (goal.LpSolver-dyn g (b.vtable, b.value)).name b.value) (λ b. (goal.LpSolver-dyn g (b.vtable, b.value)).rule b.value) (λ b. (goal.LpSolver-dyn g (b.vtable, b.value)).paths b.value) c.args.solvers.now.items c.execute.new.solvers.items c.execute.new.answers.items) (g.H.Host.meaning c.args.host.now).outside (g.H.Host.meaning c.execute.new.host).outside c.args.source.now _ c.in-Ok.program c.in_ok-finish.finish.store c.in_ok-finish.finish.solved.items c.in-Ok.ensures none c.in_ok-finish.ensures.outside
 
 pub returns-in_ok-finish-clause-last : goal.returns-in_ok-finish-clause-last
-returns-in_ok-finish-clause-last g c = keeps_run c.in_ok-finish.finish.status (solving (λ b. (goal.LpSolver-dyn g (b.vtable, b.value)).name b.value) (λ b. (goal.LpSolver-dyn g (b.vtable, b.value)).rule b.value) (λ b. (goal.LpSolver-dyn g (b.vtable, b.value)).paths b.value) c.args.solvers.now.items c.execute.new.solvers.items c.execute.new.answers.items) _ _ _ c.in-Ok.ensures c.in_ok-finish.ensures.outside.ends.halts c.in_ok-finish.ensures.outside.ends.comes
+returns-in_ok-finish-clause-last g c =
+    keeps_run c.in_ok-finish.finish.status (solving (λ b. (goal.LpSolver-dyn g (b.vtable, b.value)).name b.value) (λ b. (goal.LpSolver-dyn g (b.vtable, b.value)).rule b.value) (λ b. (goal.LpSolver-dyn g (b.vtable, b.value)).paths b.value) c.args.solvers.now.items c.execute.new.solvers.items c.execute.new.answers.items) c.args.source.now
+    (record { program = c.in-Ok.program; store = c.in_ok-finish.finish.store; solved = c.in_ok-finish.finish.solved }) c.in-Ok.ensures c.in_ok-finish.ensures.outside.ends
 
 pub returns-in_ok-finish-clause-counts : goal.returns-in_ok-finish-clause-counts
 returns-in_ok-finish-clause-counts g c = writing_done _ _ c.in_ok-finish.ensures.counts

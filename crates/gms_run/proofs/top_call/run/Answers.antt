@@ -5,19 +5,19 @@ pub returns-in_err-status-clause-steady : goal.returns-in_err-status-clause-stea
 returns-in_err-status-clause-steady g c = λ ready. c.in_err-status.ensures.counts.stay ready
 
 pub returns-clause-run : goal.returns-clause-run
-returns-clause-run g c = (c.in_ok-status.status, (c.code.ensures, c.in_ok-status.ensures.ran))
+returns-clause-run g c = c.in_ok-status.ensures.ran
 
 pub returns-clause-counts : goal.returns-clause-counts
-returns-clause-counts g c = (c.in_ok-status.status, (c.code.ensures, c.in_ok-status.ensures.counts.said))
+returns-clause-counts g c = c.in_ok-status.ensures.counts.said
 
 pub returns-clause-steady : goal.returns-clause-steady
 returns-clause-steady g c = λ ready. c.in_ok-status.ensures.counts.stay ready
 
 pub returns-clause-no_fault : goal.returns-clause-no_fault
-returns-clause-no_fault g c = λ ready. (c.in_ok-status.status, (c.code.ensures, c.in_ok-status.ensures.counts.unmet ready))
+returns-clause-no_fault g c = λ ready. c.in_ok-status.ensures.counts.unmet ready
 
 pub returns-clause-usage : goal.returns-clause-usage
-returns-clause-usage g c = rw c.code.ensures (refused_so c.in_ok-status.status _ _ _ _ c.in_ok-status.ensures.ran)
+returns-clause-usage g c = refused_so c.in_ok-status.status _ _ _ _ c.in_ok-status.ensures.ran
 
 pub returns-clause-complete : goal.returns-clause-complete
-returns-clause-complete g c = rw c.code.ensures (completes c.in_ok-status.status _ _ _ _ c.in_ok-status.ensures.ran c.in_ok-status.ensures.counts.said c.in_ok-status.ensures.counts.unmet)
+returns-clause-complete g c = completes c.in_ok-status.status _ _ _ _ c.in_ok-status.ensures.ran c.in_ok-status.ensures.counts.said c.in_ok-status.ensures.counts.unmet

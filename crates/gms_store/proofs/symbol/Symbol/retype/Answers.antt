@@ -10,7 +10,3 @@ invariant_of-self-in-Variable-3 g c =
 pub invariant_of-self-in-Variable-5 : goal.invariant_of-self-in-Variable-5
 invariant_of-self-in-Variable-5 g c =
     subst (IsKept (length c.self.inside.domain)) (sym c.declared-later.ensures) (kept-content_of (length c.self.inside.domain) c.args.kind)
-
-pub invariant_of-self-in-Variable-6 : goal.invariant_of-self-in-Variable-6
-invariant_of-self-in-Variable-6 g c =
-    subst (IsKept (length c.self.inside.domain)) (sym c.declared-later.ensures) (kept-content_of (length c.self.inside.domain) c.args.kind)

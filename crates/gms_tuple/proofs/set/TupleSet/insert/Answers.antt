@@ -1,5 +1,6 @@
-use Rattle.std.proofs.Common.{◌≡◌, ◌∙◌, ap, not, sym, insert}
-use Rattle.gms_tuple.specs.TupleSet.{has, count_before}
+use Rattle.std.proofs.Common.{◌∙◌, ap, not, sym, subst, insert}
+use Rattle.gms_tuple.specs.TupleOrder.{IsOrdered}
+use Rattle.gms_tuple.specs.TupleSet.{has}
 use Rattle.gms_tuple.proofs.Members.{has-place, inserted-known, has-inserted, insert-counted, IsOrdered-inserted}
 use Rattle.gms_tuple.proofs.set.TupleSet.insert.Goals as goal
 
@@ -15,16 +16,17 @@ returns-in_default-clause-members c = λ other. ap (λ xs. has xs other) (return
 
 pub returns-clause-ok : goal.returns-clause-ok
 returns-clause-ok c =
-    let t = c.in_ok-fork.fork.value.tuple in
-    let same : t ≡ c.args.t = c.in_ok-fork.ensures.1 in
-    c.insert.ensures ∙ ap (λ xs. insert xs c.in-Err.place t) c.self.view_is ∙ ap (λ n. insert c.args.self.now n t) c.in-Err.ensures.absent.1
-    ∙ ap (insert c.args.self.now (count_before c.args.self.now c.args.t)) same ∙ insert-counted c.args.self.now c.args.t c.in-Err.ensures.ordered c.in-Err.ensures.absent.0
+    c.in_ok-insert.ensures.ok ∙ ap (λ xs. insert xs c.in-Err.place c.args.t) c.self.view_is ∙ ap (λ n. insert c.args.self.now n c.args.t) c.in-Err.ensures.absent.1
+    ∙ insert-counted c.args.self.now c.args.t c.in-Err.ensures.ordered c.in-Err.ensures.absent.0
 
 pub invariant_of-self : goal.invariant_of-self
-invariant_of-self c = rw (returns-clause-ok c) (IsOrdered-inserted c.args.self.now c.args.t c.in-Err.ensures.ordered)
+invariant_of-self c = subst IsOrdered (sym (c.in_err-insert.ensures.err ∙ c.self.view_is)) c.in-Err.ensures.ordered
+
+pub invariant_of-self-2 : goal.invariant_of-self-2
+invariant_of-self-2 c = rw (returns-clause-ok c) (IsOrdered-inserted c.args.self.now c.args.t c.in-Err.ensures.ordered)
 
 pub returns-clause-members : goal.returns-clause-members
 returns-clause-members c = λ other. rw (returns-clause-ok c) (has-inserted c.args.self.now c.args.t other)
 
 pub returns-clause-ordered : goal.returns-clause-ordered
-returns-clause-ordered c = invariant_of-self c
+returns-clause-ordered c = invariant_of-self-2 c

@@ -1,0 +1,100 @@
+-- What the pieces of the code promise each other of walks over the stored tuples of a name, in place of a whole product of sets.
+use Rattle.std.specs.Prelude.{◌≡◌, ◌≤◌, ℕ, Bool, true, false, List, ◌++◌, length, map, fold, slice_index, slice_range, Option, Some, None, Ok, IsOk, IsTrue, IfSome, if◌then◌else◌}
+use Rattle.std.specs.List.{flat_map}
+use Rattle.gq_number.specs.Number.{Number}
+use Rattle.gms_ast.specs.declared.expression.Expr.{Expr}
+use Rattle.gms_ast.specs.declared.expression.Index.{Index}
+use Rattle.gms_ast.specs.TreeView.{tree_of}
+use Rattle.gms_tuple.specs.TupleOrder.{IsOrdered}
+use Rattle.gms_tuple.specs.TupleSet.{has}
+use Rattle.gms_store.specs.State.{State, symbol_of, members_of, given_of}
+use Rattle.gms_eval.specs.Nodes.{is_so, in_order, each_holds}
+use Rattle.gms_eval.specs.Bindings.{Pairs, controlled}
+use Rattle.gms_eval.specs.Domain.{elements}
+use Rattle.gms_eval.specs.Faults.{Answer, nothing, ◌and_then◌}
+use Rattle.gms_eval.specs.Holds.{holds}
+use Rattle.gms_eval.specs.References.{tuple_of, plain_value}
+use Rattle.gms_eval.specs.Value.{value, label_answer}
+use Rattle.gms_eval.specs.declared.walk.Walk.{Walk}
+use Rattle.gms_eval.specs.declared.leading.Scan.{Scan}
+
+-- ---- sets of one dimension
+
+-- the members of a set have one label each, and are in order
+abbrev pub IsSimple : State → ℕ → Type 0
+IsSimple state set =
+    IsOrdered (members_of state set) × ((member : List ℕ) → has (members_of state set) member ≡ true → length member ≡ 1)
+
+-- ---- walks
+
+-- the labels that a tuple has at these places, 0 where it has none
+abbrev pub picked : List ℕ → List ℕ → List ℕ
+picked places tuple = map (λ place. slice_index tuple place) places
+
+-- the elements whose labels are at these places of a tuple that an element of free sets follows
+abbrev pub spread_over : State → List ℕ → List ℕ → List ℕ → List (List ℕ)
+spread_over state free places tuple = map (λ rest. picked places (tuple ++ rest)) (elements state free)
+
+-- the elements that a walk comes to, in the order of the stored tuples
+abbrev pub walked : State → Walk → List (List ℕ)
+walked state walk =
+    flat_map (spread_over state walk.free.items walk.places.items) (slice_range (given_of state walk.name) walk.from walk.upto)
+
+-- ---- conditions
+
+-- whether something holds under a binding
+abbrev pub Condition : Type 0
+Condition = Pairs → Answer Bool
+
+-- one condition, and where it holds another
+abbrev pub both : Answer Bool → Answer Bool → Answer Bool
+both first second = first and_then λ holds. if holds then second else Ok false
+
+-- conditions one after another, up to one that does not hold
+abbrev pub each_in_turn : List (Answer Bool) → Answer Bool
+each_in_turn answers = fold both (Ok true) answers
+
+-- A walk that serves for a condition: each element of the sets that it does not come to fails the condition.
+pub record Leads (state : State) (binding : Pairs) (sets : List ℕ) (condition : Condition) (walk : Walk) : Type 0 where
+  pub few : length walk.places.items ≤ 10
+  pub range : walk.from ≤ walk.upto
+  pub within : walk.upto ≤ length (given_of state walk.name)
+  pub counted : walk.spread ≡ length (elements state walk.free.items)
+  pub needed : (element : List ℕ) → has (elements state sets) element ≡ true → has (walked state walk) element ≡ false → condition (controlled binding sets element) ≡ Ok false
+
+-- What is known of a condition: whether it never has a fault, and a walk that serves for it.
+pub record IsScan (state : State) (binding : Pairs) (sets : List ℕ) (condition : Condition) (scan : Scan) : Type 0 where
+  pub safe : IsTrue scan.safe → (other : Pairs) → IsOk (condition other)
+  pub leads : IfSome scan.walk (λ walk. Leads state binding sets condition walk)
+
+-- ---- references
+
+-- whether what a name has at a tuple is not the number 0; where there is no tuple it is
+abbrev pub plain_so : State → ℕ → Option (List ℕ) → Bool
+plain_so state name None = is_so nothing
+plain_so state name (Some tuple) = is_so (plain_value state name (symbol_of state name).content tuple)
+
+module _ {F : Type 0} (number_of : F → Number) (limit : ℕ) (state : State) where
+  -- the labels of some indices
+  abbrev pub label_answers : List (Index F) → Pairs → List (Answer (Option ℕ))
+  label_answers indices binding = map (label_answer number_of limit state binding) indices
+
+  -- the tuple of some indices
+  abbrev pub tuple_answer : List (Index F) → Pairs → Answer (Option (List ℕ))
+  tuple_answer indices binding = in_order (label_answers indices binding) and_then λ those. Ok (tuple_of those)
+
+  -- whether a reference without a suffix holds
+  abbrev pub entry_holds : ℕ → List (Index F) → Condition
+  entry_holds name indices binding = tuple_answer indices binding and_then λ tuple. Ok (plain_so state name tuple)
+
+  -- whether an expression holds
+  abbrev pub expression_holds : Expr F → Condition
+  expression_holds e binding = holds number_of limit state binding (tree_of e)
+
+  -- whether each of some expressions holds, from the first to the last
+  abbrev pub all_hold_in_turn : List (Expr F) → Condition
+  all_hold_in_turn parts binding = each_in_turn (map (λ part. expression_holds part binding) parts)
+
+  -- whether each of some guards holds, from the last to the first
+  abbrev pub guards_hold : List (Expr F) → Condition
+  guards_hold guards binding = each_holds (map (λ guard. value number_of limit state binding (tree_of guard)) guards)

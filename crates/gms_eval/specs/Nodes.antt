@@ -1,0 +1,189 @@
+-- How the answers of the parts of an expression make that of the whole (GAMS User's Guide, "Data Manipulations with Parameters",
+-- "Conditional Expressions, Assignments and Equations"). The order in which faults come is this project's own rule: parts from the
+-- left to the right, guards from the last to the first.
+use Rattle.std.specs.Prelude.{ℕ, pos, Bool, true, false, not, ◌&&◌, List, [], ◌∷◌, map, fold, Option, Some, None, Ok, Err, if◌then◌else◌}
+use Rattle.gms_labels.specs.declared.place.Place.{Place}
+use Rattle.gq_number.specs.Number.{whole}
+use Rattle.gq_field.specs.Fits.{fits}
+use Rattle.gq_extended.specs.Extended.{Extended, number, number_if, is_zero, magnitude, sign, sum, difference, product, quotient, nearest, floor, ceiling, truncation, power}
+use Rattle.gq_extended.specs.ExtendedOrder.{equals, differs, is_less, is_at_most, is_greater, is_at_least, lesser, greater}
+use Rattle.gms_ast.specs.Trees.{Mark, placed, signed, related, chosen}
+use Rattle.gms_ast.specs.declared.expression.FoldOp.{FoldOp}
+use Rattle.gms_ast.specs.declared.expression.FoldOp.TheVariants.{Sum, Prod, Smin, Smax}
+use Rattle.gms_ast.specs.declared.expression.RelOp.{RelOp}
+use Rattle.gms_ast.specs.declared.expression.RelOp.TheVariants.{Lt, Le, Eq, Ne, Ge, Gt}
+use Rattle.gms_ast.specs.declared.expression.Function.{Function}
+use Rattle.gms_ast.specs.declared.expression.Function.TheVariants as function
+use Rattle.gms_eval.specs.Bindings.{Pairs}
+use Rattle.gms_eval.specs.Faults.{Answer, nothing, faulted, taken, ◌and_then◌}
+use Rattle.gms_eval.specs.declared.steps.Signed.{Signed}
+use Rattle.gms_eval.specs.declared.steps.Signed.TheVariants as signs
+use Rattle.gms_eval.specs.declared.stop.StopKind.TheVariants.{EmptyExtreme}
+
+-- ---- truth
+
+-- a value holds where it is not the number 0
+abbrev pub is_so : Extended → Bool
+is_so (number x) = not (is_zero x)
+is_so value = true
+
+-- 1 for what holds and 0 for what does not
+abbrev pub truth : Bool → Extended
+truth true = number (whole (pos 1))
+truth false = number (whole (pos 0))
+
+-- whether a relation holds between two values
+abbrev pub holds_between : RelOp → Extended → Extended → Bool
+holds_between Lt x y = is_less x y
+holds_between Le x y = is_at_most x y
+holds_between Eq x y = equals x y
+holds_between Ne x y = differs x y
+holds_between Ge x y = is_at_least x y
+holds_between Gt x y = is_greater x y
+
+-- ---- parts one after another
+
+-- the answers of the parts of a node, each with its mark
+abbrev pub Marked : Type 0
+Marked = List (Mark × Answer Extended)
+
+-- the answers alone
+abbrev pub unmarked : Marked → List (Answer Extended)
+unmarked parts = map (λ part. part.1) parts
+
+-- a step takes the value so far and the answer of the next part
+abbrev pub Step : Type 0
+Step = Mark → Extended → Answer Extended → Answer Extended
+
+-- the parts joined one after another to the value so far; where there is none, the first part makes it, and where no part is left
+-- either the answer is that for nothing
+abbrev pub joined : Step → Answer Extended → Option Extended → Marked → Answer Extended
+joined step empty None [] = empty
+joined step empty (Some x) [] = Ok x
+joined step empty None (part ∷ parts) = part.1 and_then λ x. joined step empty (Some x) parts
+joined step empty (Some x) (part ∷ parts) = step part.0 x part.1 and_then λ y. joined step empty (Some y) parts
+
+-- the first part joined with the others
+abbrev pub chain : Step → Marked → Answer Extended
+chain step parts = joined step (Ok nothing) None parts
+
+-- the values of answers in order, or the first fault
+abbrev pub in_order : {A : Type 0} → List (Answer A) → Answer (List A)
+in_order [] = Ok []
+in_order (answer ∷ answers) = answer and_then λ x. in_order answers and_then λ xs. Ok (x ∷ xs)
+
+-- whether each guard holds: they are taken from the last to the first, up to one that does not hold
+abbrev pub each_holds : List (Answer Extended) → Answer Bool
+each_holds [] = Ok true
+each_holds (guard ∷ guards) = each_holds guards and_then λ hold. if hold then guard and_then (λ x. Ok (is_so x)) else Ok false
+
+-- ---- values
+
+-- the best of some values
+abbrev pub extreme : (Extended → Extended → Extended) → List Extended → Extended
+extreme better [] = nothing
+extreme better (x ∷ xs) = fold better x xs
+
+-- where a fold starts: the least and the greatest of values have no start
+abbrev pub start_of : FoldOp → Option Extended
+start_of Sum = Some (number (whole (pos 0)))
+start_of Prod = Some (number (whole (pos 1)))
+start_of Smin = None
+start_of Smax = None
+
+-- ---- steps without a fault of their own
+
+-- a relation compares the value so far, which is 1 or 0 where it is a relation's
+abbrev pub relation_step : Step
+relation_step (related op) x answer = answer and_then λ y. Ok (truth (holds_between op x y))
+relation_step mark x answer = answer
+
+-- `and` leaves its right operand where the left is 0
+abbrev pub all_step : Step
+all_step mark x answer = if is_so x then answer and_then (λ y. Ok (truth (is_so y))) else Ok (truth false)
+
+-- what `xor` gives of two values
+abbrev pub either : Extended → Extended → Bool
+either x y = if is_so x then not (is_so y) else is_so y
+
+-- `or` leaves its right operand where the left is not 0; `xor` takes both
+abbrev pub one_step : Step
+one_step (chosen exclusive) x answer =
+    if not exclusive && is_so x then Ok (truth true) else answer and_then λ y. Ok (truth (either x y))
+one_step mark x answer = answer
+
+-- ---- steps under a limit, at a place and under a binding
+
+module _ (limit : ℕ) (binding : Pairs) where
+  -- a sum or a difference, by the sign before the right operand
+  abbrev pub sum_step : Step
+  sum_step (signed at subtracts) x answer =
+      answer and_then λ y. taken at binding x y (if subtracts then difference limit x y else sum limit x y)
+  sum_step mark x answer = answer
+
+  -- a product or a quotient
+  abbrev pub product_step : Step
+  product_step (signed at divides) x answer =
+      answer and_then λ y. taken at binding x y (if divides then quotient limit x y else product limit x y)
+  product_step mark x answer = answer
+
+  -- the step of a sum, and that of a product
+  abbrev pub signed_step : Signed → Step
+  signed_step signs.Sum = sum_step
+  signed_step signs.Product = product_step
+
+  -- a power
+  abbrev pub power_step : Step
+  power_step (placed at) x answer = answer and_then λ y. taken at binding x y (power limit x y)
+  power_step mark x answer = answer
+
+  -- what is left of a division, by its four steps, each at the place of the function
+  abbrev pub remainder_of : Place → Extended → Extended → Answer Extended
+  remainder_of at x y =
+      taken at binding x y (quotient limit x y) and_then λ q. taken at binding y (truncation q) (product limit y (truncation q)) and_then λ p. taken at binding x p (difference limit x p)
+
+  -- a function of one value
+  abbrev pub of_one : Place → Function → Extended → Answer Extended
+  of_one at function.Abs x = Ok (magnitude x)
+  of_one at function.Sqr x = taken at binding x x (product limit x x)
+  of_one at function.Round x = Ok (nearest x)
+  of_one at function.Floor x = Ok (floor x)
+  of_one at function.Ceil x = Ok (ceiling x)
+  of_one at function.Trunc x = Ok (truncation x)
+  of_one at function.Sign x = Ok (sign x)
+  of_one at function x = Ok nothing
+
+  -- a function of two values
+  abbrev pub of_two : Place → Function → Extended → Extended → Answer Extended
+  of_two at function.Mod x y = remainder_of at x y
+  of_two at function.Power x y = taken at binding x y (power limit x y)
+  of_two at function x y = Ok nothing
+
+  -- a function of its arguments' values; with another number of arguments its value is 0, as that of a function that the language leaves out
+  abbrev pub called : Place → Function → List Extended → Answer Extended
+  called at function.Max xs = Ok (extreme greater xs)
+  called at function.Min xs = Ok (extreme lesser xs)
+  called at function (x ∷ []) = of_one at function x
+  called at function (x ∷ y ∷ []) = of_two at function x y
+  called at function xs = Ok nothing
+
+  -- a count, where it fits
+  abbrev pub counted : Place → ℕ → Answer Extended
+  counted at n = taken at binding nothing nothing (number_if (fits limit (whole (pos n))) (whole (pos n)))
+
+  -- what a fold makes of the value so far and that of the next body
+  abbrev pub fold_join : FoldOp → Place → Extended → Extended → Answer Extended
+  fold_join Sum at x y = taken at binding x y (sum limit x y)
+  fold_join Prod at x y = taken at binding x y (product limit x y)
+  fold_join Smin at x y = Ok (lesser x y)
+  fold_join Smax at x y = Ok (greater x y)
+
+  -- a step of a fold
+  abbrev pub fold_step : FoldOp → Place → Step
+  fold_step op at mark x answer = answer and_then λ y. fold_join op at x y
+
+  -- the values of a fold's bodies joined one after another, each joining at the place of the fold and under its binding; the least and
+  -- the greatest of no values are a fault
+  abbrev pub folded : FoldOp → Place → Marked → Answer Extended
+  folded op at bodies =
+      joined (fold_step op at) (Err (faulted EmptyExtreme at binding nothing nothing)) (start_of op) bodies

@@ -1,0 +1,80 @@
+-- What `step` promises: how far a statement takes a run, what its solvers did, and what stays (GAMS User's Guide, "GAMS Programs",
+-- "Programming Flow Control Features", "Model and Solve Statements").
+use Rattle.std.specs.Prelude.{◌≡◌, ℕ, ◌<◌, ◌≤◌, ◌==◌, List, [], ◌∷◌, ◌++◌, length, map, slice_get, None, option_map, option_to_list, Result, Ok, Err, if◌then◌else◌}
+use Rattle.gq_number.specs.Number.{Number}
+use Rattle.gms_store.specs.declared.settings.Settings.{Settings}
+use Rattle.gms_store.specs.State.{State}
+use Rattle.gms_eval.specs.declared.stop.StopOrMemory.{StopOrMemory}
+use Rattle.gms_eval.specs.declared.stop.StopOrMemory.TheVariants.{Memory, Stop}
+use Rattle.gms_eval.specs.Gives.{fault_of}
+use Rattle.gms_event.specs.declared.event.Event.{Event}
+use Rattle.gms_event.specs.declared.event.Event.TheVariants as event
+use Rattle.gms_event.specs.EventView.{events_in}
+use Rattle.lp_core.specs.declared.answer.Answer.{Answer}
+use Rattle.lp_core.specs.declared.answer.Pivot.{Pivot}
+use Rattle.lp_core.specs.declared.answer.Rule.{Rule}
+use Rattle.lp_core.specs.Numbers.{answer_numbers}
+use Rattle.gms_exec.specs.Answering.{AreAnswered}
+use Rattle.gms_exec.specs.Run.{Course, stopped_by}
+
+-- What is seen of a run: its state, what it showed, and the answers that its solves took.
+pub record Seen (F : Type 0) : Type 0 where
+  pub state : State
+  pub events : List (Event F)
+  pub answers : List (Answer F)
+
+-- what a call leaves, unless it wanted memory
+abbrev pub UnlessMemory : {F A : Type 0} → Result A (StopOrMemory F) → Type 0 → Type 0
+UnlessMemory (Ok x) P = P
+UnlessMemory (Err Memory) P = Unit {0}
+UnlessMemory (Err (Stop stop)) P = P
+
+-- ---- the run
+
+module _ {F : Type 0} (value : F → Number) where
+  -- how far a run has come, where these answers are left
+  abbrev pub come_to : Seen F → List (Answer Number) → Course
+  come_to seen left =
+      record { state = seen.state; events = events_in value seen.events; left = left; taken = length seen.answers; halted = None }
+
+  -- A run has come to a state with these events and no answer left but those that were there at its end; or a stop has stopped it there.
+  -- Want of memory says nothing.
+  abbrev pub Comes : {A : Type 0} → Result A (StopOrMemory F) → Course → Course → Type 0
+  Comes (Ok x) course now = course ≡ now
+  Comes (Err Memory) course now = Unit {0}
+  Comes (Err (Stop stop)) course now = course ≡ stopped_by now (fault_of value stop)
+
+  -- A call did to a run what statements do: it showed events and took answers behind those that were there, and came to the state and the end
+  -- that they come to with these answers, whichever are left behind them.
+  pub record Runs {A : Type 0} (result : Result A (StopOrMemory F)) (does : Course → Course) (old new : Seen F) : Type 0 where
+    pub shown : List (Event F)
+    pub events : new.events ≡ old.events ++ shown
+    pub fresh : List (Answer F)
+    pub answers : new.answers ≡ old.answers ++ fresh
+    pub comes : (more : List (Answer Number)) → Comes result (does (come_to old (map (answer_numbers value) fresh ++ more))) (come_to new more)
+
+-- ---- the solvers
+
+-- the pivots of the answers at solves by the solver of a place
+abbrev pub paths_taken : {F : Type 0} → ℕ → List (Answer F) → List (Event F) → List (List Pivot)
+paths_taken {F} k answers [] = []
+paths_taken {F} k answers (event.Solve line model equations lp answer solver settings level ∷ events) =
+    (if settings.solver == k then option_to_list (option_map (λ (a : Answer F). a.pivots) (slice_get answers answer)) else []) ++ paths_taken k answers events
+paths_taken {F} k answers (other ∷ events) = paths_taken k answers events
+
+-- Solvers after a call: they are as many, in the same order, with the same names and rules, and the paths of each are those that it had,
+-- followed by the pivots of the answers that it gave. Each solve that was shown is answered.
+pub record Answered {S F : Type 0} (value : F → Number) (limit : ℕ) (name : S → List ℕ) (rule : S → Rule) (paths : S → List (List Pivot)) (old new : List S) (before after : Seen F) : Type 0 where
+  pub names : map name new ≡ map name old
+  pub rules : map rule new ≡ map rule old
+  pub shown : List (Event F)
+  pub events : after.events ≡ before.events ++ shown
+  pub answered : AreAnswered value limit (map rule old) after.answers (events_in value shown)
+  pub grown : (k : ℕ) → slice_get (map paths new) k ≡ option_map (λ taken. taken ++ paths_taken k after.answers shown) (slice_get (map paths old) k)
+
+-- ---- what stays
+
+-- the settings show at most 8 decimals, and choose one of so many solvers where there are some
+pub record AreKept (solvers : ℕ) (settings : Settings) : Type 0 where
+  pub decimals : settings.decimals ≤ 8
+  pub chosen : 0 < solvers → settings.solver < solvers

@@ -1,0 +1,90 @@
+-- The programs of the solves that were shown are kept.
+use Rattle.std.proofs.Common.{◌≡◌, ℕ, zero, suc, ◌+◌, List, [], ◌∷◌, ◌++◌, length, map, Option, Some, None, refl, sym, ap, ◌∙◌, subst, append_assoc, append-nil, arith}
+use Rattle.std.specs.Prelude.{slice_get, option_to_list, IfSome}
+use Rattle.std.specs.List.{All, range_with_len}
+use Rattle.std.proofs.lemmas.List.Elements.{All-head, All-tail}
+use Rattle.gq_frac.specs.declared.frac.Frac.{Frac}
+use Rattle.gq_frac.specs.Frac.{frac_value}
+use Rattle.gms_event.specs.declared.event.Event.{Event as OwnEvent}
+use Rattle.gms_event.specs.declared.event.Event.TheVariants as own
+use Rattle.gms_event.specs.Events.{Solved}
+use Rattle.gms_event.specs.EventView.{events_in}
+use Rattle.lp_core.specs.declared.answer.Answer.{Answer}
+use Rattle.lp_core.specs.declared.answer.Rule.{Rule}
+use Rattle.lp_core.specs.declared.program.Lp.{Lp}
+use Rattle.lp_core.specs.Numbers.{lp_numbers}
+use Rattle.gms_exec.specs.Run.{Course}
+use Rattle.gms_exec.specs.Standing.{IsStanding, IsStandingSolve}
+use Rattle.gms_run.specs.Solving.{number_limit}
+use Rattle.gms_run.specs.InnerSteps.{IsAnsweredAt, KeepsPrograms, programs_in, solves_in}
+use Rattle.gms_run.proofs.Numbered.{IsNumbered, places_in}
+
+-- the programs of events and of others behind them
+pub programs-append : (es more : List (OwnEvent Frac)) → programs_in (es ++ more) ≡ programs_in es ++ programs_in more
+programs-append [] more = refl
+programs-append (own.Display line items ∷ es) more = programs-append es more
+programs-append (own.Abort line items ∷ es) more = programs-append es more
+programs-append (own.Fault stop ∷ es) more = programs-append es more
+programs-append (own.Solve line model equations lp answer solver settings level ∷ es) more = ap (λ ps. lp ∷ ps) (programs-append es more)
+
+-- one program more is kept, where an event is a solve
+pub kept_more : (before kept : List (Lp Frac)) (es : List (OwnEvent Frac)) (e : OwnEvent Frac) (one : Option (Lp Frac)) → kept ≡ before ++ programs_in es → option_to_list one ≡ programs_in (e ∷ []) →
+    kept ++ option_to_list one ≡ before ++ programs_in (es ++ e ∷ [])
+kept_more before kept es e one so is =
+    ap (λ ps. ps ++ option_to_list one) so ∙ append_assoc before (programs_in es) (option_to_list one)
+    ∙ ap (λ ps. before ++ ps) (ap (λ ps. programs_in es ++ ps) is ∙ sym (programs-append es (e ∷ [])))
+
+-- where it is one
+pub kept_one : (before kept : List (Lp Frac)) (es : List (OwnEvent Frac)) (e : OwnEvent Frac) (lp : Lp Frac) (one : Option (Lp Frac)) → one ≡ Some lp → kept ≡ before ++ programs_in es → option_to_list one ≡ programs_in (e ∷ []) →
+    kept ++ lp ∷ [] ≡ before ++ programs_in (es ++ e ∷ [])
+kept_one before kept es e lp one there so is = ap (λ o. kept ++ option_to_list o) (sym there) ∙ kept_more before kept es e one so is
+
+-- and where it is none
+pub kept_none : (before kept : List (Lp Frac)) (es : List (OwnEvent Frac)) (e : OwnEvent Frac) (one : Option (Lp Frac)) → ((lp : Lp Frac) → one ≡ Some lp → ⊥) → kept ≡ before ++ programs_in es → option_to_list one ≡ programs_in (e ∷ []) →
+    kept ≡ before ++ programs_in (es ++ e ∷ [])
+kept_none before kept es e (Some lp) not so is = absurd (not lp refl)
+kept_none before kept es e None not so is = sym (append-nil kept) ∙ kept_more before kept es e None so is
+
+-- they are those that the solves show
+shows : (es : List (OwnEvent Frac)) → map (lp_numbers frac_value) (programs_in es) ≡ map (λ (solved : Solved). solved.lp) (solves_in (events_in frac_value es))
+shows [] = refl
+shows (own.Display line items ∷ es) = shows es
+shows (own.Abort line items ∷ es) = shows es
+shows (own.Fault stop ∷ es) = shows es
+shows (own.Solve line model equations lp answer solver settings level ∷ es) = ap (λ ps. lp_numbers frac_value lp ∷ ps) (shows es)
+
+-- no more than nothing
+from_none : (n : ℕ) → 0 + n ≡ n
+from_none n = omega arith
+
+-- the first of some numbers, and the others, where they go up from one
+first_of : (n m x : ℕ) (xs : List ℕ) → x ∷ xs ≡ range_with_len n m → (x ≡ n) × ((k : ℕ) × (xs ≡ range_with_len (n + 1) k))
+first_of n zero x xs e = let z : ⊥ = cc in absurd z
+first_of n (suc m) x xs e = (cc, (m, cc))
+
+module _ (rules : List Rule) (answers : List (Answer Frac)) where
+  abbrev Stands : OwnEvent Frac → Type 0
+  Stands = IsStanding frac_value number_limit rules answers
+
+  -- the answer at the place of each is one of it
+  stand : (es : List (OwnEvent Frac)) (n m : ℕ) → All Stands es → places_in (events_in frac_value es) ≡ range_with_len n m → (k : ℕ) → IfSome (slice_get (programs_in es) k) (IsAnsweredAt rules answers (n + k))
+  stand [] n m are is k = tt
+  stand (own.Display line items ∷ es) n m are is k = stand es n m (All-tail Stands (own.Display line items) es are) is k
+  stand (own.Abort line items ∷ es) n m are is k = stand es n m (All-tail Stands (own.Abort line items) es are) is k
+  stand (own.Fault stop ∷ es) n m are is k = stand es n m (All-tail Stands (own.Fault stop) es are) is k
+  stand (own.Solve line model equations lp answer solver settings level ∷ es) n m are is zero =
+      let first = first_of n m answer (places_in (events_in frac_value es)) is in
+      let here : answer ≡ n + 0 = omega (arith, first.0) in
+      (settings, subst (λ place. IsStandingSolve frac_value number_limit rules answers lp place settings) here (All-head Stands (own.Solve line model equations lp answer solver settings level) es are))
+  stand (own.Solve line model equations lp answer solver settings level ∷ es) n m are is (suc k) =
+      let first = first_of n m answer (places_in (events_in frac_value es)) is in
+      let next : (n + 1) + k ≡ n + suc k = omega arith in
+      subst (λ place. IfSome (slice_get (programs_in es) k) (IsAnsweredAt rules answers place)) next
+      (stand es (n + 1) first.1.0 (All-tail Stands (own.Solve line model equations lp answer solver settings level) es are) first.1.1 k)
+
+  -- Where what was shown stands, and its solves have the answers in order, their programs are kept.
+  pub keeps_programs : (course : Course) (es : List (OwnEvent Frac)) → IsNumbered course → course.events ≡ events_in frac_value es → course.taken ≡ length answers →
+      All Stands es → KeepsPrograms rules answers (programs_in es) course.events
+  keeps_programs course es numbered same taken are =
+      let in_order : places_in (events_in frac_value es) ≡ range_with_len 0 (length answers) = ap places_in (sym same) ∙ numbered ∙ ap (range_with_len 0) taken in
+      subst (KeepsPrograms rules answers (programs_in es)) (sym same) (record { shown = shows es; in_order = in_order; answered = λ place. subst (λ n. IfSome (slice_get (programs_in es) place) (IsAnsweredAt rules answers n)) (from_none place) (stand es 0 (length answers) are in_order place) })

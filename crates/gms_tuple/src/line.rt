@@ -1,0 +1,166 @@
+//! Tuples in a list: a tree, and behind it the last few as they came.
+ghost use Rattle.std.specs.Prelude.{◌≡◌, ◌<◌, ◌≤◌, ◌+◌, ◌^◌, ◌++◌, [], length, count_by, slice_get, Some, IfOk, OnOk, OnErr};
+ghost use Rattle.std.specs.List.{insert, remove};
+ghost use Rattle.gms_tuple.specs.TupleOrder.{IsOrdered};
+ghost use Rattle.gms_tuple.specs.TupleSet.{is_within};
+
+use crate::tree::{Fork, Tree};
+use crate::tuple::Tuple;
+use std::alloc::{AllocError, Global};
+use std::marker::Model;
+
+/// How many tuples stand behind the tree at most.
+const MOST_BEHIND: usize = 64;
+
+/// Tuples in a list. A tuple is reached, put in and taken out by its place, in as many steps as the logarithm of their number. One that
+/// is put in behind all others is put there without a search, and with `MOST_BEHIND` others at a time into the tree.
+#[derive(Drop)]
+pub struct Line {
+    tree: Tree,
+    behind: Vec<Tuple>,
+}
+
+impl Model for Line {
+    ghost use Rattle.std.specs.Prelude.{List, ℕ, length, ◌++◌, ◌<◌, ◌^◌};
+
+    ghost Value = { List (List ℕ) };
+
+    ghost view = { λ l. l.tree ++ l.behind.items };
+
+    ghost invariant = { λ l. length (l.tree ++ l.behind.items) < 2 ^ 64 };
+}
+
+impl Line {
+    /// No tuples.
+    pub fn new(alloc: Global) -> Line
+        ensures { result ≡ [] }
+    {
+        Line {
+            tree: Tree::new(),
+            behind: Vec::new(alloc),
+        }
+    }
+
+    /// How many tuples there are.
+    pub fn len(&self) -> usize
+        ensures { result ≡ length self.now }
+    {
+        self.tree.len() + self.behind.len()
+    }
+
+    /// The tuple at a place.
+    pub fn get(&self, place: usize) -> &Tuple
+        requires { place < length self.now }
+        ensures { slice_get self.now place ≡ Some result.now }
+    {
+        let before = self.tree.len();
+        if place < before {
+            self.tree.get(place)
+        } else {
+            &self.behind[place - before]
+        }
+    }
+
+    /// How many tuples come before one, or where `through` is so begin with it, in a list that is in order.
+    pub fn count(&self, t: &Tuple, through: bool) -> usize
+        requires { IsOrdered self.now }
+        ensures { result ≡ count_by (is_within through t.now) self.now }
+    {
+        let Some(last) = self.behind.last() else {
+            return self.tree.count(t, through);
+        };
+        if last.is_within(t, through) {
+            return self.len();
+        }
+        if !self.behind[0].is_within(t, through) {
+            return self.tree.count(t, through);
+        }
+        let within = self
+            .behind
+            .partition_point(|other| other.is_within(t, through));
+        self.tree.len() + within
+    }
+
+    /// Puts the tuples behind the tree into it, where they are many. No tuple changes its place.
+    fn settle(&mut self, alloc: Global) -> Result<(), AllocError>
+        ensures { self.new ≡ self.old }
+    {
+        if self.behind.len() < MOST_BEHIND {
+            return Ok(());
+        }
+        let settled = Tree::copied(alloc, &self.behind)?;
+        self.tree.append(settled);
+        self.behind.clear();
+        Ok(())
+    }
+
+    /// Puts a tuple at a place. After want of memory all is as it was.
+    pub fn insert(&mut self, alloc: Global, place: usize, tuple: Tuple) -> Result<(), AllocError>
+        requires place { place ≤ length self.old }
+        requires room { length self.old + 1 < 2 ^ 64 }
+        ensures ok { OnOk result (self.new ≡ insert self.old place tuple) }
+        ensures err { OnErr result (self.new ≡ self.old) }
+    {
+        self.settle(alloc)?;
+        let before = self.tree.len();
+        if place < before {
+            let fork = Fork::single(alloc, tuple)?;
+            self.tree.insert(place, fork);
+        } else {
+            self.behind.insert(place - before, tuple)?;
+        }
+        Ok(())
+    }
+
+    /// Takes the tuple at a place out.
+    pub fn remove(&mut self, place: usize)
+        requires { place < length self.old }
+        ensures { self.new ≡ remove self.old place }
+    {
+        let before = self.tree.len();
+        if place < before {
+            self.tree.remove(place);
+        } else {
+            let _taken = self.behind.remove(place - before);
+        }
+    }
+
+    /// An equal list.
+    pub fn copy(&self, alloc: Global) -> Result<Line, AllocError>
+        ensures { IfOk result (λ copy. copy ≡ self.now) }
+    {
+        let tree = self.tree.copy(alloc)?;
+        let mut behind = Vec::with_capacity(alloc, self.behind.len())?;
+        push_copies(alloc, &self.behind, &mut behind)?;
+        Ok(Line { tree, behind })
+    }
+
+    /// Puts equal tuples at the end of a list.
+    pub fn push_all(&self, alloc: Global, list: &mut Vec<Tuple>) -> Result<(), AllocError>
+        ensures { OnOk result (list.new.items ≡ list.old.items ++ self.now) }
+    {
+        self.tree.push_all(alloc, list)?;
+        push_copies(alloc, &self.behind, list)
+    }
+
+    /// The last so many tuples of a list, which gives them up.
+    pub fn build(alloc: Global, tuples: &mut Vec<Tuple>, size: usize) -> Result<Line, AllocError>
+        requires { size ≤ length tuples.old.items }
+        ensures { IfOk result (λ line. (tuples.old.items ≡ tuples.new.items ++ line) × (length line ≡ size)) }
+    {
+        Ok(Line {
+            tree: Tree::build(alloc, tuples, size)?,
+            behind: Vec::new(alloc),
+        })
+    }
+}
+
+/// Puts equal tuples at the end of a list.
+fn push_copies(alloc: Global, tuples: &[Tuple], list: &mut Vec<Tuple>) -> Result<(), AllocError>
+    ensures { OnOk result (list.new.items ≡ list.old.items ++ tuples.now) }
+{
+    for tuple in tuples {
+        list.push(tuple.copy(alloc)?)?;
+    }
+    Ok(())
+}

@@ -1,0 +1,10 @@
+pub mod Spans
+pub mod Solved
+pub mod Moves
+pub mod Pushes
+pub mod Numbers
+pub mod RightBounds
+pub mod Raises
+pub mod CostBounds
+pub mod Loops
+pub mod Joined

@@ -1,0 +1,4 @@
+pub mod Spans
+pub mod Ranges
+pub mod Moved
+pub mod Pieces

@@ -1,0 +1,109 @@
+-- How far a move may go while amounts that gain or lose by it stay at least 0 (Chvatal, Linear Programming, chapter 10).
+use Rattle.std.specs.Prelude.{ℕ, ◌&&◌, Bool, true, pos, List, [], ◌∷◌, Option, Some, None, option_map, if◌then◌else◌}
+use Rattle.std.specs.List.{All}
+use Rattle.std.specs.declared.cmp.Ordering.{Ordering}
+use Rattle.std.specs.declared.cmp.Ordering.TheVariants.{Less, Equal, Greater}
+use Rattle.std.specs.Ordering.{is_lt}
+use Rattle.gq_number.specs.Number.{Number, whole, ◌+ℚ◌, ◌*ℚ◌, ◌/ℚ◌, neg_ℚ}
+use Rattle.gq_number.specs.Order.{◌≤ℚ◌, number_cmp}
+use Rattle.gq_field.specs.Fits.{sum_fits}
+use Rattle.lp_core.specs.Feasible.{KeepsLower, KeepsUpper}
+use Rattle.lp_core.specs.Steps.{quotient_fits}
+
+-- An amount, what it gains for each unit of a move, and whether the step by which that gain is found fits.
+pub record Gain : Type 0 where
+  pub amount : Number
+  pub each : Number
+  pub fits : Bool
+
+-- The least and the greatest number that something may be; none where there is no end.
+pub record Span : Type 0 where
+  pub low : Option Number
+  pub high : Option Number
+
+-- a number is in a span
+abbrev pub IsWithin : Span → Number → Type 0
+IsWithin span x = KeepsLower span.low x × KeepsUpper span.high x
+
+-- each amount is at least 0 after a move
+abbrev pub Stay : List Gain → Number → Type 0
+Stay gains t = All (λ (g : Gain). whole (pos 0) ≤ℚ g.amount +ℚ t *ℚ g.each) gains
+
+-- the move at which an amount comes to 0
+abbrev pub end_of : Gain → Number
+end_of g = neg_ℚ (g.amount /ℚ g.each)
+
+-- the greater of an end so far, if there is one, and another
+abbrev pub greater : Option Number → Number → Option Number
+greater None x = Some x
+greater (Some e) x = if is_lt (number_cmp e x) then Some x else Some e
+
+-- the lesser of an end so far, if there is one, and another
+abbrev pub lesser : Option Number → Number → Option Number
+lesser None x = Some x
+lesser (Some e) x = if is_lt (number_cmp x e) then Some x else Some e
+
+-- an amount that gains ends the moves from below, by how its gain compares with 0
+abbrev pub low_by : Ordering → Option Number → Number → Option Number
+low_by Less low e = low
+low_by Equal low e = low
+low_by Greater low e = greater low e
+
+-- an amount that loses ends them from above
+abbrev pub high_by : Ordering → Option Number → Number → Option Number
+high_by Less high e = lesser high e
+high_by Equal high e = high
+high_by Greater high e = high
+
+-- an end from below so far, with one amount more
+abbrev pub low_with : Option Number → Gain → Option Number
+low_with low g = low_by (number_cmp g.each (whole (pos 0))) low (end_of g)
+
+-- and an end from above so far
+abbrev pub high_with : Option Number → Gain → Option Number
+high_with high g = high_by (number_cmp g.each (whole (pos 0))) high (end_of g)
+
+-- the greatest of the ends from below, on top of one so far
+abbrev pub low_end : Option Number → List Gain → Option Number
+low_end low [] = low
+low_end low (g ∷ gains) = low_end (low_with low g) gains
+
+-- the least of the ends from above
+abbrev pub high_end : Option Number → List Gain → Option Number
+high_end high [] = high
+high_end high (g ∷ gains) = high_end (high_with high g) gains
+
+-- whether the quotient fits that an end takes, by how the gain compares with 0; where there is no end there is no step
+abbrev pub end_fits : Ordering → ℕ → Gain → Bool
+end_fits Less limit g = quotient_fits limit g.amount g.each
+end_fits Equal limit g = true
+end_fits Greater limit g = quotient_fits limit g.amount g.each
+
+-- whether the steps on an amount fit: that by which its gain is found, and the quotient where it gives an end
+abbrev pub gain_fits : ℕ → Gain → Bool
+gain_fits limit g = g.fits && end_fits (number_cmp g.each (whole (pos 0))) limit g
+
+-- whether the steps on all of them fit
+abbrev pub gains_fit : ℕ → List Gain → Bool
+gains_fit limit [] = true
+gains_fit limit (g ∷ gains) = gain_fits limit g && gains_fit limit gains
+
+-- whether the sum of a number and an end fits
+abbrev pub moved_fits : ℕ → Number → Option Number → Bool
+moved_fits limit x None = true
+moved_fits limit x (Some e) = sum_fits limit x e
+
+-- a number moved to an end
+abbrev pub moved_to : Number → Option Number → Option Number
+moved_to x e = option_map (λ t. x +ℚ t) e
+
+-- what a number may be where it moves and these amounts stay at least 0, with ends so far; none where a step does not fit
+abbrev pub span_from : ℕ → Number → Option Number → Option Number → List Gain → Option Span
+span_from limit x low high gains =
+    if gains_fit limit gains && moved_fits limit x (low_end low gains) && moved_fits limit x (high_end high gains) then
+    Some (record { low = moved_to x (low_end low gains); high = moved_to x (high_end high gains) }) else
+    None
+
+-- what a number may be where it moves and these amounts stay at least 0
+abbrev pub span : ℕ → Number → List Gain → Option Span
+span limit x gains = span_from limit x None None gains

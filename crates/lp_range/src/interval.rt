@@ -1,0 +1,118 @@
+//! Intervals of numbers, each end of which may be missing, and the ranges of a program.
+ghost use Rattle.std.specs.Prelude.{◌≡◌, true, [], None, Some};
+ghost use Rattle.lp_core.specs.Feasible.{bound_value};
+ghost use Rattle.lp_range.specs.Spans as spans;
+ghost use Rattle.lp_range.specs.Ranges.{span_value};
+ghost use Rattle.lp_range.specs.Pieces.{EndsWith, AddsTo};
+
+use gq_field::ExactField;
+use lp_core::Sequence;
+use std::cmp::Ordering;
+
+/// The numbers from a least to a greatest one, both among them.
+#[derive(Clone, Copy)]
+pub struct Interval<F> {
+    /// The least number; none where there is no end from below.
+    pub low: Option<F>,
+    /// The greatest number; none where there is no end from above.
+    pub high: Option<F>,
+}
+
+/// How far each right side and each cost of a solved program may move, by itself, before the proof of its answer changes.
+#[derive(Drop)]
+pub struct Ranges<F> {
+    /// For each row the numbers that its right side may be; none where a step on the way to them does not fit.
+    pub rights: Sequence<Option<Interval<F>>>,
+    /// For each column the numbers that its cost may be, which is 1 for the objective and else 0; none where a step on the way to
+    /// them does not fit.
+    pub costs: Sequence<Option<Interval<F>>>,
+}
+
+/// All numbers.
+pub(crate) fn all_numbers<F: ExactField>() -> Interval<F>
+    ensures low { result.low ≡ None }
+    ensures high { result.high ≡ None }
+{
+    Interval {
+        low: None,
+        high: None,
+    }
+}
+
+/// The greater of an end so far, if there is one, and another.
+fn greater<F: ExactField>(end: Option<F>, x: F) -> F
+    ensures { Some (F.value result) ≡ spans.greater (bound_value F.value end) (F.value x) }
+{
+    match end {
+        None => x,
+        Some(end) => { if end.cmp_value(x).is_lt() { x } else { end } }
+    }
+}
+
+/// The lesser of an end so far, if there is one, and another.
+fn lesser<F: ExactField>(end: Option<F>, x: F) -> F
+    ensures { Some (F.value result) ≡ spans.lesser (bound_value F.value end) (F.value x) }
+{
+    match end {
+        None => x,
+        Some(end) => { if x.cmp_value(end).is_lt() { x } else { end } }
+    }
+}
+
+/// The moves so far by which an amount stays at least 0 that gains so much for each unit of a move; none where the quotient of
+/// the two, which is an end, does not fit.
+pub(crate) fn with_amount<F: ExactField>(
+    moves: Interval<F>,
+    amount: F,
+    each: F,
+) -> Option<Interval<F>>
+    ensures { EndsWith F.value F.limit moves (record { amount = F.value amount; each = F.value each; fits = true }) result }
+{
+    match each.cmp_value(F::zero()) {
+        Ordering::Equal => Some(moves),
+        Ordering::Greater => {
+            let Ok(quotient) = amount.div(each) else {
+                return None;
+            };
+            Some(Interval {
+                low: Some(greater(moves.low, quotient.neg())),
+                high: moves.high,
+            })
+        }
+        Ordering::Less => {
+            let Ok(quotient) = amount.div(each) else {
+                return None;
+            };
+            Some(Interval {
+                low: moves.low,
+                high: Some(lesser(moves.high, quotient.neg())),
+            })
+        }
+    }
+}
+
+/// A number moved to an end of the moves, if there is one; `Err` where the sum does not fit.
+fn moved<F: ExactField>(given: F, end: Option<F>) -> Result<Option<F>, ()>
+    ensures { AddsTo F.value F.limit (F.value given) (bound_value F.value end) result }
+{
+    let Some(end) = end else {
+        return Ok(None);
+    };
+    match given.add(end) {
+        Ok(sum) => Ok(Some(sum)),
+        Err(_) => Err(()),
+    }
+}
+
+/// The moves added to the number that moves; none where a sum does not fit.
+pub(crate) fn around<F: ExactField>(given: F, moves: Interval<F>) -> Option<Interval<F>>
+    ensures { span_value F.value result ≡ spans.span_from F.limit (F.value given) (bound_value F.value moves.low) (bound_value F.value moves.high) [] }
+{
+    let Ok(low) = moved(given, moves.low) else {
+        return None;
+    };
+    let Ok(high) = moved(given, moves.high) else {
+        return None;
+    };
+    Some(Interval { low, high })
+}

@@ -1,0 +1,55 @@
+//! What ranges mean: laws on functions with empty bodies.
+ghost use Rattle.std.specs.Prelude.{◌≡◌, ◌↔◌, ℕ, true, false, pos, List, length, Some};
+ghost use Rattle.std.specs.List.{All};
+ghost use Rattle.gq_number.specs.Number.{Number, whole, ◌-ℚ◌};
+ghost use Rattle.gq_number.specs.Order.{◌≤ℚ◌};
+ghost use Rattle.lp_core.specs.declared.answer.Answer.{Answer};
+ghost use Rattle.lp_core.specs.declared.answer.Rule.TheVariants.{Bland, Legal};
+ghost use Rattle.lp_core.specs.declared.program.Lp.{Lp};
+ghost use Rattle.lp_core.specs.Answers.{IsAnswer};
+ghost use Rattle.lp_core.specs.Sums.{number_of};
+ghost use Rattle.lp_core.specs.Feasible.{Feasible};
+ghost use Rattle.lp_core.specs.WellFormed.{IsWellFormed};
+ghost use Rattle.lp_core.specs.Numbers.{lp_numbers};
+ghost use Rattle.lp_range.specs.Spans.{Gain, Span, IsWithin, Stay, span};
+ghost use Rattle.lp_range.specs.Moved.{itself, with_right, costs_with, cost_at, MeetsBoundWithRight, MeetsBoundWithCost};
+ghost use Rattle.lp_range.specs.Ranges.{IsOptimum};
+
+use gq_field::ExactField;
+
+/// A number is in the span of gains exactly where each amount stays at least 0 when it moves there, each being at least 0 before:
+/// no wider span would do.
+pub fn widest_span()
+    ensures { (limit : ℕ) (given x : Number) (gains : List Gain) (s : Span) → All (λ g. whole (pos 0) ≤ℚ g.amount) gains →
+        span limit given gains ≡ Some s → IsWithin s x ↔ Stay gains (x -ℚ given) }
+{}
+
+/// Where the program with another right side has a feasible point whose objective is the bound of duals, that point is best among
+/// the feasible ones: weak duality, as in Chvatal, Linear Programming, chapter 5.
+pub fn best_with_right<F: ExactField>()
+    ensures least { (lp : Lp F) (duals : List Number) (i : ℕ) (right : Number) → IsWellFormed F.value lp → lp.maximize ≡ false →
+        (meets : MeetsBoundWithRight F.value lp duals i right) → (x : List Number) →
+        Feasible itself (with_right i right (lp_numbers F.value lp)) x → number_of meets.0 lp.objective ≤ℚ number_of x lp.objective }
+    ensures greatest { (lp : Lp F) (duals : List Number) (i : ℕ) (right : Number) → IsWellFormed F.value lp → lp.maximize ≡ true →
+        (meets : MeetsBoundWithRight F.value lp duals i right) → (x : List Number) →
+        Feasible itself (with_right i right (lp_numbers F.value lp)) x → number_of x lp.objective ≤ℚ number_of meets.0 lp.objective }
+{}
+
+/// Where there are duals whose bound, with another cost, is what the costs come to at the levels, no feasible point is better for
+/// these costs.
+pub fn best_with_cost<F: ExactField>()
+    ensures least { (lp : Lp F) (levels : List Number) (j : ℕ) (cost : Number) → IsWellFormed F.value lp → lp.maximize ≡ false →
+        MeetsBoundWithCost F.value lp levels j cost → (x : List Number) →
+        Feasible F.value lp x → cost_at lp (costs_with lp j cost) levels ≤ℚ cost_at lp (costs_with lp j cost) x }
+    ensures greatest { (lp : Lp F) (levels : List Number) (j : ℕ) (cost : Number) → IsWellFormed F.value lp → lp.maximize ≡ true →
+        MeetsBoundWithCost F.value lp levels j cost → (x : List Number) →
+        Feasible F.value lp x → cost_at lp (costs_with lp j cost) x ≤ℚ cost_at lp (costs_with lp j cost) levels }
+{}
+
+/// An optimum under either rule, at any limit of pivots, is one under the rule Legal at its own number of pivots.
+pub fn legal_by_its_pivots<F: ExactField>()
+    ensures bland { (lp : Lp F) (iterlim : ℕ) (answer : Answer F) → IsOptimum answer →
+        IsAnswer F.value F.limit lp iterlim Bland answer → IsAnswer F.value F.limit lp (length answer.pivots) Legal answer }
+    ensures legal { (lp : Lp F) (iterlim : ℕ) (answer : Answer F) → IsOptimum answer →
+        IsAnswer F.value F.limit lp iterlim Legal answer → IsAnswer F.value F.limit lp (length answer.pivots) Legal answer }
+{}

@@ -1,0 +1,60 @@
+//! From a solved program to its ranges.
+ghost use Rattle.std.specs.Prelude.{◌≡◌, ℕ, List, map, length, slice_get, Some, IfOk};
+ghost use Rattle.gq_number.specs.Number.{Number};
+ghost use Rattle.lp_core.specs.declared.answer.Rule.TheVariants.{Legal};
+ghost use Rattle.lp_core.specs.declared.answer.End.TheVariants.{Optimal};
+ghost use Rattle.lp_core.specs.Dictionary.{Dictionary};
+ghost use Rattle.lp_core.specs.Answers.{IsAnswer};
+ghost use Rattle.lp_core.specs.WellFormed.{IsWellFormed};
+ghost use Rattle.lp_range.specs.Spans.{IsWithin};
+ghost use Rattle.lp_range.specs.Ranges as of;
+ghost use Rattle.lp_range.specs.Ranges.{IsOptimum, LeadTo, interval_value, span_value};
+ghost use Rattle.lp_range.specs.Moved.{MeetsBoundWithRight, MeetsBoundWithCost};
+ghost use Rattle.lp_range.specs.declared.interval.Interval.{Interval};
+
+use crate::costs::costs_of;
+use crate::interval::Ranges;
+use crate::replay::{form_of, replayed};
+use crate::rights::rights_of;
+use gq_field::ExactField;
+use lp_core::{Answer, Lp, Sequence};
+use lp_dict::Dict;
+use std::alloc::{AllocError, Global};
+
+/// The ranges of a program by its answer, which is an optimum: Chvatal, Linear Programming, chapter 10.
+///
+/// They are read off the last dictionary, to which the pivots of the answer lead. The right side of a row may move while each
+/// constant stays at least 0: then the listed duals prove the program with that right side. The cost of a column may move
+/// while no variable improves: then there are duals that prove the listed levels for these costs. One number moves at a time.
+///
+/// An interval is none exactly where one of its own steps does not fit under the limit of the field: row by row, or variable by
+/// variable, the difference for an equation or a column without bounds and the quotient where there is an end, and then
+/// the two sums. The error is want of memory.
+pub fn ranges<F: ExactField>(
+    alloc: Global,
+    lp: &Lp<F>,
+    answer: &Answer<F>,
+) -> Result<Ranges<F>, AllocError>
+    requires well_formed { IsWellFormed F.value lp.now }
+    requires answer { IsAnswer F.value F.limit lp.now (length answer.now.pivots) Legal answer.now }
+    requires optimal { IsOptimum answer.now }
+    ensures entries { IfOk result (λ made. (last : Dictionary) × LeadTo F.value F.limit lp.now answer.now.pivots last
+        × (map (span_value F.value) made.rights ≡ of.rights F.value F.limit lp.now last)
+        × (map (span_value F.value) made.costs ≡ of.costs F.value F.limit lp.now last)) }
+    ensures rights { IfOk result (λ made. (levels row_levels duals reduced : List F) (i : ℕ) (interval : Interval F) (right : Number) →
+        answer.now.end ≡ Optimal levels row_levels duals reduced → slice_get made.rights i ≡ Some (Some interval) →
+        IsWithin (interval_value F.value interval) right → MeetsBoundWithRight F.value lp.now (map F.value duals) i right) }
+    ensures costs { IfOk result (λ made. (levels row_levels duals reduced : List F) (j : ℕ) (interval : Interval F) (cost : Number) →
+        answer.now.end ≡ Optimal levels row_levels duals reduced → slice_get made.costs j ≡ Some (Some interval) →
+        IsWithin (interval_value F.value interval) cost → MeetsBoundWithCost F.value lp.now (map F.value levels) j cost) }
+{
+    let s = form_of(alloc, lp)?;
+    let first = Dict::of(alloc, &s)?;
+    let last = replayed(alloc, first, answer.pivots.as_slice())?;
+    let rights = rights_of(alloc, lp, &last)?;
+    let costs = costs_of(alloc, lp, &s, &last)?;
+    Ok(Ranges {
+        rights: Sequence::new(rights),
+        costs: Sequence::new(costs),
+    })
+}
