@@ -15,8 +15,8 @@ use Rattle.lp_core.specs.declared.program.Lp.{Lp}
 use Rattle.lp_core.specs.Numbers.{lp_numbers}
 use Rattle.gms_exec.specs.Run.{Course}
 use Rattle.gms_exec.specs.Standing.{IsStanding, IsStandingSolve}
-use Rattle.gms_run.specs.Solving.{number_limit}
-use Rattle.gms_run.specs.InnerSteps.{IsAnsweredAt, KeepsPrograms, programs_in, solves_in}
+use Rattle.gms_run.specs.Solving.{number_limit, solves_in}
+use Rattle.gms_run.specs.InnerSteps.{IsAnsweredAt, KeepsPrograms, programs_in}
 use Rattle.gms_run.proofs.Numbered.{IsNumbered, places_in}
 
 -- the programs of events and of others behind them

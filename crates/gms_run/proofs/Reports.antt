@@ -1,11 +1,13 @@
 -- The listing of a source, put together from its parts, as it goes out.
 use Rattle.std.proofs.Common.{◌≡◌, ◌≢◌, Option, Some, None, ℕ, zero, suc, ◌+◌, ◌<◌, ◌≤◌, ◌==◌, true, false, not, List, [], ◌∷◌, ◌++◌, length, take, map, get_or, Vec, refl, sym, ap, ap₂, ◌∙◌, subst, append_assoc, add-one, ◌⊎◌, inl, inr, arith, length-append}
-use Rattle.std.specs.Prelude.{String, string_bytes, vec_len}
+use Rattle.std.specs.Prelude.{String, string_bytes, vec_len, slice_get, IfSome, Bool}
 use Rattle.std.specs.declared.alloc.Global.{Global}
 use Rattle.std.proofs.Math.Seq.{take-suc}
 use Rattle.std.proofs.lemmas.Bool.{eqb-true}
-use Rattle.std.proofs.lemmas.List.{map-append, take_all}
+use Rattle.std.proofs.lemmas.List.{length-map, map-append, take_all}
+use Rattle.std.proofs.lemmas.List.FromFn.{length-range_with_len}
 use denote.Enum.Bare.{sameb}
+use Rattle.gq_number.specs.Number.{Number}
 use Rattle.gq_frac.specs.declared.frac.Frac.{Frac}
 use Rattle.gq_frac.specs.Frac.{frac_value}
 use Rattle.gms_host.specs.Meaning.{Outside}
@@ -21,20 +23,26 @@ use Rattle.gms_parse.specs.declared.fault.SourceFault.{SourceFault}
 use Rattle.gms_parse.specs.Outcomes.{IsProgram, IsFault}
 use Rattle.gms_check.specs.declared.error.CompileError.{CompileError}
 use Rattle.gms_check.specs.CompileErrors.{compile_errors}
+use Rattle.gms_event.specs.Events.{Event, Solved}
 use Rattle.gms_exec.specs.Run.{Halt}
+use Rattle.lp_core.specs.declared.answer.Answer.{Answer}
+use Rattle.lp_core.specs.declared.answer.Rule.{Rule}
 use Rattle.lp_core.specs.declared.program.Lp.{Lp}
+use Rattle.lp_core.specs.Numbers.{lp_numbers}
+use Rattle.gms_ranges.specs.Answered.{AreAnswered, IsAnswered}
+use Rattle.gms_ranges.specs.RangeTexts.{SaysRanges}
 use Rattle.gms_list.specs.ListingText.{echo_text, end_text, refused_echo, source_error_text, compile_errors_text}
 use Rattle.gms_run.specs.declared.status.Status.{Status}
 use Rattle.gms_run.specs.declared.status.Status.TheVariants.{Done, Usage, Compile, Execution, ReadFault, WriteFault}
 use Rattle.gms_run.specs.declared.report.Last.{Last}
 use Rattle.gms_store.specs.State.{State}
 use Rattle.gms_words.specs.CommandLine.{Asked, Origin, in_file, generated, closing_line}
-use Rattle.gms_run.specs.Solving.{Solving, SolvesNothing, number_limit}
+use Rattle.gms_run.specs.Solving.{Solving, SolvesNothing, number_limit, numbers_of, solves_in}
 use Rattle.gms_run.specs.Jobs.{HaltsSo, IsCutOff, IsSolved, Job, body_of, course_of, first_of, job_of, job_text, last_line, status_code}
-use Rattle.gms_run.specs.Listings.{AreClosing, IsAccepted, IsExecuted, IsFront, IsListing, IsModelLine, TellsModel, TellsRun, TellsSize}
+use Rattle.gms_run.specs.Listings.{AreClosing, IsAccepted, IsExecuted, IsFront, IsListing, IsModelLine, TellsModel, TellsRanges, TellsRangesOf, TellsRun, TellsSize, TellsSpans}
 use Rattle.gms_run.specs.Statuses.{IsUnwritten}
-use Rattle.gms_run.specs.InnerReports.{IsTold, KeepsLast, KeepsRun, Lists, Prepares}
-use Rattle.gms_run.specs.InnerSteps.{BreaksJob, Ends, EndsJob}
+use Rattle.gms_run.specs.InnerReports.{IsAnsweredFor, IsRanged, IsTold, KeepsLast, KeepsRun, Lists, Prepares}
+use Rattle.gms_run.specs.InnerSteps.{BreaksJob, Ends, EndsJob, IsAnsweredAt, KeepsPrograms}
 
 -- what stands behind a spool and a text that are both empty
 pub behind_nothing : (spool before text : List ℕ) → spool ++ before ≡ [] → spool ++ (before ++ text) ≡ text
@@ -170,15 +178,75 @@ told_size Usage solving size source line kept keeps told = subst (λ (k : Option
 told_size ReadFault solving size source line kept keeps told = subst (λ (k : Option Last). IsTold (generated size) k solving.answers line) keeps told
 told_size WriteFault solving size source line kept keeps told = subst (λ (k : Option Last). IsTold (generated size) k solving.answers line) keeps told
 
+-- what is said of the ranges of a run that kept its program and the programs of its solves
+spans_of_run : (solving : Solving) (source text : List ℕ) (kept : Option Last) → KeepsRun solving source kept → IsRanged true kept solving.answers text → TellsSpans solving source text
+spans_of_run solving source text kept keeps said =
+    let last : Last = keeps.last in
+    let of_last : IsRanged true (Some last) solving.answers text = subst (λ (k : Option Last). IsRanged true k solving.answers text) keeps.is said in
+    record {
+      program = last.program;
+      is_program = keeps.is_program;
+      in_order = keeps.solved.in_order;
+      said = subst (λ (programs : List (Lp Number)). SaysRanges last.program.names last.program.labels number_limit 1 programs (numbers_of solving.answers) text) keeps.solved.shown of_last;
+    }
+
+-- of a source, as the status says
+spans_by : (status : Status) (solving : Solving) (source text : List ℕ) (kept : Option Last) → KeepsLast status solving source kept → IsRanged true kept solving.answers text → TellsRangesOf status solving source text
+spans_by Done solving source text kept keeps said = spans_of_run solving source text kept keeps said
+spans_by Execution solving source text kept keeps said = spans_of_run solving source text kept keeps said
+spans_by Compile solving source text kept keeps said = subst (λ (k : Option Last). IsRanged true k solving.answers text) keeps said
+spans_by Usage solving source text kept keeps said = subst (λ (k : Option Last). IsRanged true k solving.answers text) keeps said
+spans_by ReadFault solving source text kept keeps said = subst (λ (k : Option Last). IsRanged true k solving.answers text) keeps said
+spans_by WriteFault solving source text kept keeps said = subst (λ (k : Option Last). IsRanged true k solving.answers text) keeps said
+
+-- and as it is asked for
+tells_ranges : (asked : Bool) (status : Status) (solving : Solving) (source text : List ℕ) (kept : Option Last) → KeepsLast status solving source kept → IsRanged asked kept solving.answers text → TellsRanges asked status solving source text
+tells_ranges true status solving source text kept keeps said = spans_by status solving source text kept keeps said
+tells_ranges false status solving source text kept keeps said = said
+
 -- The closing lines are those that the run calls for.
-pub are_closing : (status : Status) (solving : Solving) (request : Asked) (o : Origin) (source lines output : List ℕ) (kept : Option Last) → KeepsLast status solving source kept → o ≡ request.source → output ≡ request.output →
-    (line : List ℕ) × IsTold o kept solving.answers line × (lines ≡ line ++ closing_line (status_code status) (length solving.answers) output) → AreClosing status solving request source lines
-are_closing status solving request o source lines output kept keeps same named said =
-    (said.0, subst (λ (x : Origin). TellsRun status solving x source said.0) same (tells o said.1), said.2 ∙ ap (λ (name : List ℕ). said.0 ++ closing_line (status_code status) (length solving.answers) name) named)
+pub are_closing : (status : Status) (solving : Solving) (request : Asked) (source lines output : List ℕ) (kept : Option Last) → KeepsLast status solving source kept → output ≡ request.output →
+    (ranges line : List ℕ) × IsRanged request.ranges kept solving.answers ranges × IsTold request.source kept solving.answers line × (lines ≡ ranges ++ line ++ closing_line (status_code status) (length solving.answers) output) →
+    AreClosing status solving request source lines
+are_closing status solving request source lines output kept keeps named (ranges, line, ranged, told, split) = (
+  ranges,
+  line,
+  tells_ranges request.ranges status solving source ranges kept keeps ranged,
+  tells request.source told,
+  split ∙ ap (λ (name : List ℕ). ranges ++ line ++ closing_line (status_code status) (length solving.answers) name) named,
+)
   where
-    tells : (x : Origin) → IsTold x kept solving.answers said.0 → TellsRun status solving x source said.0
+    tells : (x : Origin) → IsTold x kept solving.answers line → TellsRun status solving x source line
     tells (in_file file) told = told
-    tells (generated size) told = told_size status solving size source said.0 kept keeps told
+    tells (generated size) told = told_size status solving size source line kept keeps told
+
+-- ---- answers of the programs that were kept
+
+-- each answer is one of the program that was kept for its solve
+answered_by : (rules : List Rule) (answers : List (Answer Frac)) (programs : List (Lp Frac)) (events : List Event) → KeepsPrograms rules answers programs events → AreAnswered frac_value number_limit programs answers
+answered_by rules answers programs events kept =
+    let shown : length programs ≡ length (solves_in events) = sym (length-map programs (lp_numbers frac_value)) ∙ ap length kept.shown ∙ length-map (solves_in events) (λ (solved : Solved). solved.lp) in
+    let placed : length (solves_in events) ≡ length answers = sym (length-map (solves_in events) (λ (solved : Solved). solved.answer)) ∙ ap length kept.in_order ∙ length-range_with_len 0 (length answers) in
+    record { many = shown ∙ placed; each = λ place. at place (slice_get programs place) (kept.answered place) }
+  where
+    at : (place : ℕ) (o : Option (Lp Frac)) → IfSome o (IsAnsweredAt rules answers place) → IfSome o (λ (lp : Lp Frac). IfSome (slice_get answers place) (IsAnswered frac_value number_limit lp))
+    at place None h = tt
+    at place (Some lp) (settings, stands) =
+        subst (λ (o : Option (Answer Frac)). IfSome o (IsAnswered frac_value number_limit lp)) (sym stands.stands) (record { formed = stands.formed; iterlim = settings.iterlim; rule = stands.rule; is_answer = stands.is_answer })
+
+-- so it is of a run that kept them
+answered_of_run : (solving : Solving) (source : List ℕ) (kept : Option Last) → KeepsRun solving source kept → IsAnsweredFor kept solving.answers
+answered_of_run solving source kept keeps =
+    subst (λ (k : Option Last). IsAnsweredFor k solving.answers) (sym keeps.is) (answered_by solving.before.rules solving.answers keeps.last.solved.items (course_of (job_of source keeps.last.program) solving).events keeps.solved)
+
+-- and of every source
+pub answered_for : (status : Status) (solving : Solving) (source : List ℕ) (kept : Option Last) → KeepsLast status solving source kept → IsAnsweredFor kept solving.answers
+answered_for Done solving source kept keeps = answered_of_run solving source kept keeps
+answered_for Execution solving source kept keeps = answered_of_run solving source kept keeps
+answered_for Compile solving source kept keeps = subst (λ (k : Option Last). IsAnsweredFor k solving.answers) (sym keeps) tt
+answered_for Usage solving source kept keeps = subst (λ (k : Option Last). IsAnsweredFor k solving.answers) (sym keeps) tt
+answered_for ReadFault solving source kept keeps = subst (λ (k : Option Last). IsAnsweredFor k solving.answers) (sym keeps) tt
+answered_for WriteFault solving source kept keeps = subst (λ (k : Option Last). IsAnsweredFor k solving.answers) (sym keeps) tt
 
 -- ---- the last line
 

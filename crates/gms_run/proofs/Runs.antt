@@ -1,5 +1,5 @@
 -- What a run did, put together from its steps.
-use Rattle.std.proofs.Common.{◌≡◌, refl, ℕ, ◌+◌, ◌<◌, ◌≤◌, true, false, List, [], length, take, Option, Some, Result, Ok, Err, Vec, IfOk, OnOk, sym, ap, ◌∙◌, subst, ◌⊎◌, inl, inr, arith, length-take, append-nil}
+use Rattle.std.proofs.Common.{◌≡◌, refl, ℕ, ◌+◌, ◌<◌, ◌≤◌, Bool, true, false, List, [], length, take, Option, Some, Result, Ok, Err, Vec, IfOk, OnOk, sym, ap, ◌∙◌, subst, ◌⊎◌, inl, inr, arith, length-take, append-nil}
 use Rattle.std.specs.Prelude.{IfSome, IsErrOf}
 use Rattle.std.specs.declared.alloc.AllocError.{AllocError}
 use Rattle.std.specs.declared.alloc.Global.{Global}
@@ -19,7 +19,7 @@ use Rattle.gms_run.specs.declared.status.Status.TheVariants.{Done, Usage, Compil
 use Rattle.gms_gen.specs.Generator.{model_text}
 use Rattle.gms_words.specs.CommandLine.{Asked, Origin, in_file, generated, read_fault_line, request_of}
 use Rattle.gms_run.specs.Solving.{Solving, SolvesNothing, number_limit}
-use Rattle.gms_run.specs.Listings.{AreClosing, IsExecuted, IsFront, IsListing, IsRefused, ShowsErrors, ShowsRefusal, TellsRun}
+use Rattle.gms_run.specs.Listings.{AreClosing, IsExecuted, IsFront, IsListing, IsRefused, ShowsErrors, ShowsRefusal, TellsRanges, TellsRun, TellsSpans}
 use Rattle.gms_run.specs.Statuses.{CountsSo, EndsByNoFault, HasOrigin, IsReadyFor, IsReported, IsRun, IsSource, IsUnread, IsUnwritten, IsWriteFault, OfRequest, RanSo, SaysLine, with_listing, with_source}
 use Rattle.gms_run.specs.InnerReports.{CountsMention, CountsRun, Lists, ReadsFile}
 
@@ -80,11 +80,30 @@ module _ (bytes : List ℕ) where
 
 -- ---- what is said in the end
 
--- What is said of a file at the end does not depend on its bytes.
-closing_of_file : (status : Status) (solving : Solving) (request : Asked) (file a b lines : List ℕ) → request.source ≡ in_file file → AreClosing status solving request a lines → AreClosing status solving request b lines
-closing_of_file status solving request file a b lines e c = (c.0, tells request.source e c.1, c.2)
+-- no ranges are said of a source that is too long
+no_spans : (solving : Solving) (bytes text : List ℕ) → most_bytes < length bytes → TellsSpans solving bytes text → ⊥
+no_spans solving bytes text long spans = let few : length bytes ≤ most_bytes = spans.is_program.short in omega (arith, few, long)
+
+long_ranges : (asked : Bool) (status : Status) (solving : Solving) (a b text : List ℕ) → most_bytes < length a → TellsRanges asked status solving a text → TellsRanges asked status solving b text
+long_ranges false status solving a b text long said = said
+long_ranges true Done solving a b text long said = absurd (no_spans solving a text long said)
+long_ranges true Execution solving a b text long said = absurd (no_spans solving a text long said)
+long_ranges true Compile solving a b text long said = said
+long_ranges true Usage solving a b text long said = said
+long_ranges true ReadFault solving a b text long said = said
+long_ranges true WriteFault solving a b text long said = said
+
+-- What is said at the end of the first bytes of a file is said of the file.
+closing_of_file : (status : Status) (solving : Solving) (request : Asked) (file whole lines : List ℕ) → request.source ≡ in_file file → AreClosing status solving request (first_bytes whole) lines → AreClosing status solving request whole lines
+closing_of_file status solving request file whole lines e (ranges, line, ranged, told, split) = (
+  ranges,
+  line,
+  of_whole whole (λ (b : List ℕ). TellsRanges request.ranges status solving b ranges) (λ long more is. long_ranges request.ranges status solving (first_bytes whole) whole ranges long is) ranged,
+  tells request.source e told,
+  split,
+)
   where
-    tells : (o : Origin) → o ≡ in_file file → TellsRun status solving o a c.0 → TellsRun status solving o b c.0
+    tells : (o : Origin) → o ≡ in_file file → TellsRun status solving o (first_bytes whole) line → TellsRun status solving o whole line
     tells (in_file f) e t = t
     tells (generated size) e t = let z : ⊥ = cc in absurd z
 
@@ -94,14 +113,14 @@ module _ (solving : Solving) (old new : Outside) (request : Asked) (file whole :
   -- what was reported of the first bytes of a file was reported of the file
   reported_whole : (status : Status) → IsReported status solving old new request (first_bytes whole) → IsReported status solving old new request whole
   reported_whole status r =
-      record { text = r.text; listing = listed_whole whole status solving r.text r.listing; lines = r.lines; closing = closing_of_file status solving request file (first_bytes whole) whole r.lines in_it r.closing; outside = r.outside }
+      record { text = r.text; listing = listed_whole whole status solving r.text r.listing; lines = r.lines; closing = closing_of_file status solving request file whole r.lines in_it r.closing; outside = r.outside }
 
   -- so was what could not be written
   unwritten_whole : IsWriteFault solving old new request (first_bytes whole) → IsWriteFault solving old new request whole
   unwritten_whole (inl u) = inl u
   unwritten_whole (inr (inl u)) = inr (inl (record { text = u.text; front = u.front; due = front_whole whole solving u.text (length u.front.1.bytes) u.due }))
   unwritten_whole (inr (inr (inl u))) = inr (inr (inl (record { status = u.status; text = u.text; listing = listed_whole whole u.status solving u.text u.listing; outside = u.outside })))
-  unwritten_whole (inr (inr (inr u))) = inr (inr (inr (record { status = u.status; text = u.text; listing = listed_whole whole u.status solving u.text u.listing; lines = u.lines; closing = closing_of_file u.status solving request file (first_bytes whole) whole u.lines in_it u.closing; front = u.front })))
+  unwritten_whole (inr (inr (inr u))) = inr (inr (inr (record { status = u.status; text = u.text; listing = listed_whole whole u.status solving u.text u.listing; lines = u.lines; closing = closing_of_file u.status solving request file whole u.lines in_it u.closing; front = u.front })))
 
   -- and all that a run did
   pub ran_whole : (status : Status) → RanSo status solving old new request (first_bytes whole) → RanSo status solving old new request whole

@@ -1,5 +1,5 @@
 -- What the pieces that read a source and report it promise each other.
-use Rattle.std.specs.Prelude.{◌≡◌, ◌≤◌, ◌⊎◌, true, ℕ, ◌+◌, List, [], ◌++◌, take, drop, length, Option, Some, None, option_map, IfSome, IfOk, Result, Ok, Err, Vec}
+use Rattle.std.specs.Prelude.{◌≡◌, ◌≤◌, ◌⊎◌, Bool, true, ℕ, ◌+◌, List, [], ◌++◌, map, take, drop, length, Option, Some, None, option_map, IfSome, IfOk, Result, Ok, Err, Vec}
 use Rattle.std.specs.declared.alloc.Global.{Global}
 use Rattle.std.specs.declared.alloc.AllocError.{AllocError}
 use Rattle.gq_frac.specs.declared.frac.Frac.{Frac}
@@ -12,11 +12,14 @@ use Rattle.gms_lex.specs.Tokens.{most_bytes}
 use Rattle.gms_parse.specs.Outcomes.{IsProgram}
 use Rattle.gms_list.specs.ListingText.{end_text}
 use Rattle.lp_core.specs.declared.answer.Answer.{Answer}
+use Rattle.lp_core.specs.Numbers.{lp_numbers}
+use Rattle.gms_ranges.specs.Answered.{AreAnswered}
+use Rattle.gms_ranges.specs.RangeTexts.{SaysRanges}
 use Rattle.gms_words.specs.CommandLine.{Origin, in_file, generated}
 use Rattle.gms_run.specs.declared.status.Status.{Status}
 use Rattle.gms_run.specs.declared.status.Status.TheVariants.{Done, Compile, Execution}
 use Rattle.gms_run.specs.declared.report.Last.{Last}
-use Rattle.gms_run.specs.Solving.{Solving, number_limit}
+use Rattle.gms_run.specs.Solving.{Solving, number_limit, numbers_of}
 use Rattle.gms_run.specs.Jobs.{job_of, course_of, status_code}
 use Rattle.gms_run.specs.Listings.{IsListing, IsModelLine}
 use Rattle.gms_run.specs.InnerSteps.{KeepsPrograms}
@@ -74,6 +77,16 @@ KeepsLast _ solving source kept = kept ≡ None
 abbrev pub IsTold : Origin → Option Last → List (Answer Frac) → List ℕ → Type 0
 IsTold (generated size) (Some last) answers line = IsModelLine size last.program last.store answers line
 IsTold _ _ answers line = line ≡ []
+
+-- each answer is one of the program that was kept for it
+abbrev pub IsAnsweredFor : Option Last → List (Answer Frac) → Type 0
+IsAnsweredFor kept answers = IfSome kept (λ (last : Last). AreAnswered frac_value number_limit last.solved.items answers)
+
+-- what is said of the ranges of a run that kept this, where they are asked for
+abbrev pub IsRanged : Bool → Option Last → List (Answer Frac) → List ℕ → Type 0
+IsRanged true (Some last) answers text =
+    SaysRanges last.program.names last.program.labels number_limit 1 (map (lp_numbers frac_value) last.solved.items) (numbers_of answers) text
+IsRanged _ _ answers text = text ≡ []
 
 -- ---- counts
 

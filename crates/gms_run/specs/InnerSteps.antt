@@ -1,5 +1,5 @@
 -- What the pieces that execute a job promise each other.
-use Rattle.std.specs.Prelude.{◌≡◌, ℕ, ◌+◌, ◌≤◌, Bool, true, false, List, [], ◌∷◌, ◌++◌, length, map, flat_map, slice_get, Option, Some, None, option_map, IfSome, Result, Ok, Err}
+use Rattle.std.specs.Prelude.{◌≡◌, ℕ, ◌+◌, ◌≤◌, Bool, true, false, List, [], ◌∷◌, ◌++◌, length, map, slice_get, Option, Some, None, option_map, IfSome, Result, Ok, Err}
 use Rattle.std.specs.List.{All, range_with_len}
 use Rattle.gq_frac.specs.declared.frac.Frac.{Frac}
 use Rattle.gq_frac.specs.Frac.{frac_value}
@@ -15,7 +15,7 @@ use Rattle.gms_store.specs.declared.settings.Settings.{Settings}
 use Rattle.gms_eval.specs.Faults.{Fault}
 use Rattle.gms_event.specs.declared.event.Event.{Event as OwnEvent}
 use Rattle.gms_event.specs.declared.event.Event.TheVariants as own
-use Rattle.gms_event.specs.Events.{Event, Solved, solves}
+use Rattle.gms_event.specs.Events.{Event}
 use Rattle.gms_event.specs.EventView.{events_in}
 use Rattle.lp_core.specs.declared.answer.Answer.{Answer}
 use Rattle.lp_core.specs.declared.answer.Pivot.{Pivot}
@@ -26,7 +26,7 @@ use Rattle.gms_exec.specs.Run.{Course, stopped, last_event}
 use Rattle.gms_exec.specs.Standing.{IsStanding, IsStandingSolve}
 use Rattle.gms_list.specs.ListingText.{events_text}
 use Rattle.gms_run.specs.declared.status.Status.{Status}
-use Rattle.gms_run.specs.Solving.{Solvers, Solving, HaveGrown, number_limit, numbers_of, seen}
+use Rattle.gms_run.specs.Solving.{Solvers, Solving, HaveGrown, number_limit, numbers_of, places_of, programs_of, seen, solves_in}
 use Rattle.gms_run.specs.Jobs.{Job, IsCutOff, IsSolved, HaltsSo, body_of, course_of, first_of, shown_by}
 
 -- what work over a host comes to, by its answer: this where it is done, and that where a fault of the host ends it; want of memory says nothing
@@ -37,19 +37,6 @@ ComesTo (Err Memory) Done Broken = Unit {0}
 
 -- ---- the programs of solves
 
--- the solve that an event is, if it is one
-abbrev pub solve_of : Event → List Solved
-solve_of (solves solved) = solved ∷ []
-solve_of event = []
-
--- the solves among events, in order
-abbrev pub solves_in : List Event → List Solved
-solves_in events = flat_map solve_of events
-
--- the places at which these solves have their answers
-abbrev pub places_of : List Solved → List ℕ
-places_of all = map (λ (solved : Solved). solved.answer) all
-
 -- the answer at a place is one of a program, by settings that held at a solve
 abbrev pub IsAnsweredAt : List Rule → List (Answer Frac) → ℕ → Lp Frac → Type 0
 IsAnsweredAt rules answers place lp = (settings : Settings) × IsStandingSolve frac_value number_limit rules answers lp place settings
@@ -57,7 +44,7 @@ IsAnsweredAt rules answers place lp = (settings : Settings) × IsStandingSolve f
 -- The programs of the solves among events are kept, in order: they are those that the solves show, there is one for each answer, and the answer at
 -- the place of each is one of it.
 pub record KeepsPrograms (rules : List Rule) (answers : List (Answer Frac)) (programs : List (Lp Frac)) (events : List Event) : Type 0 where
-  pub shown : map (lp_numbers frac_value) programs ≡ map (λ (solved : Solved). solved.lp) (solves_in events)
+  pub shown : map (lp_numbers frac_value) programs ≡ programs_of (solves_in events)
   pub in_order : places_of (solves_in events) ≡ range_with_len 0 (length answers)
   pub answered : (place : ℕ) → IfSome (slice_get programs place) (IsAnsweredAt rules answers place)
 

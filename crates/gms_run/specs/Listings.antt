@@ -1,5 +1,6 @@
 -- What a source is to solvers of some names: refused, or a job; and its listing.
-use Rattle.std.specs.Prelude.{◌≡◌, ◌≢◌, ℕ, pos, ◌⊎◌, ◌++◌, length, List, [], map, sum, codes, option_map, unwrap_or}
+use Rattle.std.specs.Prelude.{◌≡◌, ◌≢◌, ℕ, pos, ◌⊎◌, Bool, true, false, ◌++◌, length, List, [], map, sum, codes, option_map, unwrap_or}
+use Rattle.std.specs.List.{range_with_len}
 use Rattle.gq_number.specs.Number.{Number, whole}
 use Rattle.gq_frac.specs.declared.frac.Frac.{Frac}
 use Rattle.gq_frac.specs.Frac.{frac_value}
@@ -9,13 +10,15 @@ use Rattle.gms_parse.specs.declared.fault.SourceFault.{SourceFault}
 use Rattle.gms_parse.specs.Outcomes.{IsProgram, IsFault}
 use Rattle.gms_check.specs.CompileErrors.{compile_errors}
 use Rattle.gms_store.specs.State.{State, symbol_of, statuses_in, attributes_of}
+use Rattle.gms_event.specs.Events.{Solved}
 use Rattle.lp_core.specs.declared.answer.Answer.{Answer}
 use Rattle.gq_text.specs.Shown.{IsRoundedText}
 use Rattle.gms_list.specs.ListingText.{refused_listing, errors_listing}
 use Rattle.gms_words.specs.CommandLine.{Asked, Origin, in_file, generated, generated_line, closing_line}
+use Rattle.gms_ranges.specs.RangeTexts.{SaysRanges}
 use Rattle.gms_run.specs.declared.status.Status.{Status}
 use Rattle.gms_run.specs.declared.status.Status.TheVariants.{Done, Compile, Execution}
-use Rattle.gms_run.specs.Solving.{Solving, SolvesNothing, number_limit}
+use Rattle.gms_run.specs.Solving.{Solving, SolvesNothing, number_limit, numbers_of, places_of, programs_of, solves_in}
 use Rattle.gms_run.specs.Jobs.{job_of, course_of, job_text, IsSolved, IsCutOff, HaltsSo, status_code}
 
 -- The source is a program that has no error.
@@ -99,7 +102,31 @@ abbrev pub TellsRun : Status → Solving → Origin → List ℕ → List ℕ �
 TellsRun status solving (in_file file) source line = line ≡ []
 TellsRun status solving (generated size) source line = TellsSize status solving size source line
 
--- what is said at the end of a run of a source whose listing was written
+-- the solves that a job shows with these answers, in order
+abbrev pub solves_of : Program Frac → Solving → List ℕ → List Solved
+solves_of program solving source = solves_in (course_of (job_of source program) solving).events
+
+-- The source is the program that was run. Its solves have the answers in order, one each; and the text says, by their linear programs and these
+-- answers, how far each right side and each cost of each optimum may move.
+pub record TellsSpans (solving : Solving) (source text : List ℕ) : Type 0 where
+  pub program : Program Frac
+  pub is_program : IsProgram number_limit source frac_value program
+  pub in_order : places_of (solves_of program solving source) ≡ range_with_len 0 (length solving.answers)
+  pub said : SaysRanges program.names program.labels number_limit 1 (programs_of (solves_of program solving source)) (numbers_of solving.answers) text
+
+-- what is said of the ranges of a source that was run; of one that was not, nothing
+abbrev pub TellsRangesOf : Status → Solving → List ℕ → List ℕ → Type 0
+TellsRangesOf Done solving source text = TellsSpans solving source text
+TellsRangesOf Execution solving source text = TellsSpans solving source text
+TellsRangesOf _ solving source text = text ≡ []
+
+-- what is said of ranges, where they are asked for
+abbrev pub TellsRanges : Bool → Status → Solving → List ℕ → List ℕ → Type 0
+TellsRanges true status solving source text = TellsRangesOf status solving source text
+TellsRanges false status solving source text = text ≡ []
+
+-- what is said at the end of a run of a source whose listing was written: ranges, what is told of a generated model, and the closing line
 abbrev pub AreClosing : Status → Solving → Asked → List ℕ → List ℕ → Type 0
 AreClosing status solving request source lines =
-    (line : List ℕ) × TellsRun status solving request.source source line × (lines ≡ line ++ closing_line (status_code status) (length solving.answers) request.output)
+    (ranges line : List ℕ) × TellsRanges request.ranges status solving source ranges × TellsRun status solving request.source source line
+    × (lines ≡ ranges ++ line ++ closing_line (status_code status) (length solving.answers) request.output)

@@ -1,13 +1,14 @@
 -- What a run solves with: the solvers that it is lent, what they are behind it, and the answers that they gave.
-use Rattle.std.specs.Prelude.{◌≡◌, ℕ, ◌-◌, ◌^◌, ◌==◌, ◌++◌, if◌then◌else◌, List, [], ◌∷◌, map, slice_get, option_map, option_to_list}
+use Rattle.std.specs.Prelude.{◌≡◌, ℕ, ◌-◌, ◌^◌, ◌==◌, ◌++◌, if◌then◌else◌, List, [], ◌∷◌, map, flat_map, slice_get, option_map, option_to_list}
 use Rattle.gq_number.specs.Number.{Number}
 use Rattle.gq_frac.specs.declared.frac.Frac.{Frac}
 use Rattle.gq_frac.specs.Frac.{frac_value}
 use Rattle.lp_core.specs.declared.answer.Answer.{Answer}
 use Rattle.lp_core.specs.declared.answer.Pivot.{Pivot}
 use Rattle.lp_core.specs.declared.answer.Rule.{Rule}
+use Rattle.lp_core.specs.declared.program.Lp.{Lp}
 use Rattle.lp_core.specs.Numbers.{answer_numbers}
-use Rattle.gms_event.specs.Events.{Event, solves}
+use Rattle.gms_event.specs.Events.{Event, Solved, solves}
 
 -- the limit of the numbers of a run, 2^127 - 1
 abbrev pub number_limit : ℕ
@@ -38,6 +39,23 @@ solving name rule paths old new answers =
 -- the numbers that answers mean
 abbrev pub numbers_of : List (Answer Frac) → List (Answer Number)
 numbers_of answers = map (answer_numbers frac_value) answers
+
+-- the solve that an event is, if it is one
+abbrev pub solve_of : Event → List Solved
+solve_of (solves solved) = solved ∷ []
+solve_of event = []
+
+-- the solves among events, in order
+abbrev pub solves_in : List Event → List Solved
+solves_in events = flat_map solve_of events
+
+-- the places at which these solves have their answers
+abbrev pub places_of : List Solved → List ℕ
+places_of all = map (λ (solved : Solved). solved.answer) all
+
+-- the linear programs of these solves
+abbrev pub programs_of : List Solved → List (Lp Number)
+programs_of all = map (λ (solved : Solved). solved.lp) all
 
 -- the pivots of each answer that the solver of a place gave at these events, one list an answer, in order
 abbrev pub paths_of : ℕ → List (Answer Frac) → List Event → List (List Pivot)

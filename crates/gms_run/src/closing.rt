@@ -1,14 +1,15 @@
 //! What is said at the end of a run whose listing was written.
 ghost use Rattle.std.specs.Prelude.{◌≡◌, ◌++◌, ℕ, List, IfOk, length, string_bytes};
 ghost use Rattle.gq_frac.specs.Frac.{frac_value};
-ghost use Rattle.gms_words.specs.CommandLine.{closing_line, origin};
-ghost use Rattle.gms_run.specs.InnerReports.{IsTold};
+ghost use Rattle.gms_words.specs.CommandLine.{asked_by, closing_line, origin};
+ghost use Rattle.gms_run.specs.InnerReports.{IsAnsweredFor, IsRanged, IsTold};
 ghost use Rattle.gms_run.specs.Jobs.{status_code};
 ghost use Rattle.gms_run.specs.Listings.{IsModelLine, model_status, objective_level, pivots_of};
 
 use crate::report::{Last, Outcome};
+use gms_ranges::ranges_text;
 use gms_tuple::Tuple;
-use gms_words::{Source, closing_line, generated_line};
+use gms_words::{Request, Source, closing_line, generated_line};
 use gq_field::ExactField;
 use gq_frac::Frac;
 use gq_text::{Digits, put_rounded};
@@ -86,17 +87,43 @@ fn told(
     }
 }
 
+/// What is said of the ranges of a run, where they are asked for.
+fn ranged(
+    alloc: Global,
+    asked: bool,
+    last: &Option<Last>,
+    answers: &[Answer<Frac>],
+) -> Result<String, AllocError>
+    requires { IsAnsweredFor last.now answers.now }
+    ensures { IfOk result (λ text. IsRanged asked last.now answers.now (string_bytes text)) }
+{
+    match (asked, last) {
+        (true, Some(last)) => ranges_text(
+            alloc,
+            &last.program.names,
+            &last.program.labels,
+            last.solved.as_slice(),
+            answers,
+        ),
+        _ => Ok(String::new(alloc)),
+    }
+}
+
 /// What is said at the end of a run of a source whose listing was written to an output.
 pub(crate) fn closing_lines(
     alloc: Global,
-    source: Source,
+    request: Request,
     outcome: &Outcome,
     answers: &[Answer<Frac>],
     output: &str,
 ) -> Result<String, AllocError>
-    ensures { IfOk result (λ lines. (line : List ℕ) × IsTold (origin source.entry) outcome.now.last answers.now line × (string_bytes lines ≡ line ++ closing_line (status_code outcome.now.status) (length answers.now) output.now)) }
+    requires { IsAnsweredFor outcome.now.last answers.now }
+    ensures { IfOk result (λ lines. (ranges line : List ℕ) × IsRanged (asked_by request.entry).ranges outcome.now.last answers.now ranges × IsTold (asked_by request.entry).source outcome.now.last answers.now line
+        × (string_bytes lines ≡ ranges ++ line ++ closing_line (status_code outcome.now.status) (length answers.now) output.now)) }
 {
-    let mut lines = told(alloc, source, &outcome.last, answers)?;
+    let mut lines = ranged(alloc, request.ranges, &outcome.last, answers)?;
+    let line = told(alloc, request.source, &outcome.last, answers)?;
+    lines.push_str(line.as_str())?;
     let closing = closing_line(alloc, outcome.status.code(), answers.len(), output)?;
     lines.push_str(closing.as_str())?;
     Ok(lines)

@@ -57,7 +57,7 @@ fn write_report<H: Host>(
     let outcome = report(alloc, host, source, solvers, answers)?;
     host.close_out()?;
     let solved = answers.as_slice();
-    let lines = closing_lines(alloc, request.source, &outcome, solved, output)?;
+    let lines = closing_lines(alloc, request, &outcome, solved, output)?;
     say_line(host, lines.as_str().as_bytes())?;
     Ok(outcome.status)
 }
@@ -194,10 +194,11 @@ fn run_words<H: Host>(
 
 /// Runs `gams25` on the words of its command line, without the program's name, over a host.
 ///
-/// The words are those of a command of `clap` with an optional FILE, `--out` with the name of the output, and `--generate` with a
-/// number from 1 to 30; exactly one of FILE and `--generate` is there. The source is read whole, or generated, before the output is
+/// The words are those of a command of `clap` with an optional FILE, `--out` with the name of the output, `--generate` with a number from 1
+/// to 30, and the flag `--ranges`; exactly one of FILE and `--generate` is there. The source is read whole, or generated, before the output is
 /// opened; its listing is written there, statement by statement, and behind the closed output the closing lines are said
-/// (docs/LISTING.md). `AllocError` comes where memory was wanting, here or in the host; the output may then hold the front of a listing.
+/// (docs/LISTING.md), first, with `--ranges`, how far each right side and each cost of each optimum may move. `AllocError` comes where memory was
+/// wanting, here or in the host; the output may then hold the front of a listing.
 ///
 /// What a run did is one statement, by its status, and holds over every host, whatever it tells: there is a source, which is what the
 /// host has at the name where it tells its files, and what the answers are to it, and what stands outside. Done and Execution: the source is

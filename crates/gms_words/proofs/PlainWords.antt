@@ -1,15 +1,15 @@
 -- What one word means that does not begin with `-`.
-use Rattle.std.proofs.Common.{◌≡◌, ◌∙◌, ◌&&◌, ◌||◌, ◌==◌, ℕ, Bool, true, false, not, List, [], ◌∷◌, Option, Some, None, refl, sym, ap, ap₂, true≢false, if◌then◌else◌}
+use Rattle.std.proofs.Common.{◌≡◌, ◌∙◌, ◌&&◌, ◌||◌, ◌==◌, ℕ, Bool, true, false, not, List, [], ◌∷◌, Option, Some, None, refl, sym, ap, ap₂, if◌then◌else◌}
 use Rattle.std.specs.Prelude.{option_and_then}
 use Rattle.std.specs.Option.{option_map_or}
 use Rattle.std.specs.List.{list_all}
 use Rattle.std.specs.Str.{bytes_eq}
 use Rattle.clap.specs.Lexer.{long_of, short_of}
-use Rattle.clap.specs.Walk.{Held, Row, Rule, Step, Text, Walk, after_step, finished, idle, long_or_other, nothing_held, short_or_plain, trailing, value, walk, walk_from, walked, word_met}
-use Rattle.clap.specs.Simple.{Shape, built, matches_of}
+use Rattle.clap.specs.Walk.{Held, Row, Rule, Step, Text, Walk, after_step, finished, idle, long_or_other, nothing_held, short_or_plain, trailing, value, walk_from, walked, word_met}
+use Rattle.clap.specs.Simple.{Shape, built}
 use Rattle.clap.specs.Takes.{bundle_passes, default_passes, flag_word_passes, is_valid, level_passes, settle_passes, step_passes, takes, turn_passes, walk_passes, word_passes}
 use Rattle.clap.proofs.TakesLemmas.{leaf_takes}
-use Rattle.gms_words.specs.CommandLine.{Asked, gams25, in_file, output_name, request_in, request_of, rows_taken}
+use Rattle.gms_words.specs.CommandLine.{gams25, request_in}
 use Rattle.gms_words.specs.Laws.{is_plain, IsFile}
 
 other : (b : Bool) → not b ≡ true → b ≡ false

@@ -1,43 +1,52 @@
 -- What words that are written out ask for, by the definition.
-use Rattle.std.proofs.Common.{◌≡◌, [], ◌∷◌, Some, None, refl, codes}
+use Rattle.std.proofs.Common.{◌≡◌, true, false, [], ◌∷◌, Some, None, refl, codes}
 use Rattle.std.specs.Fmt.{digits}
 use Rattle.clap.proofs.OnLiterals.{clap_on_literals}
 use Rattle.gms_words.specs.CommandLine.{in_file, generated, request_of}
 
 -- a FILE alone, an empty one, one behind `--`, and `-`
-pub file : request_of (codes "a.gms" ∷ []) ≡ Some (record { source = in_file (codes "a.gms"); output = codes "a.lst" })
+pub file : request_of (codes "a.gms" ∷ []) ≡ Some (record { source = in_file (codes "a.gms"); output = codes "a.lst"; ranges = false })
 unfolding clap_on_literals
 file = refl
 
-pub empty_file : request_of ([] ∷ []) ≡ Some (record { source = in_file []; output = codes ".lst" })
+pub empty_file : request_of ([] ∷ []) ≡ Some (record { source = in_file []; output = codes ".lst"; ranges = false })
 unfolding clap_on_literals
 empty_file = refl
 
-pub behind_dashes : request_of (codes "--" ∷ codes "-x" ∷ []) ≡ Some (record { source = in_file (codes "-x"); output = codes "-x.lst" })
+pub behind_dashes : request_of (codes "--" ∷ codes "-x" ∷ []) ≡ Some (record { source = in_file (codes "-x"); output = codes "-x.lst"; ranges = false })
 unfolding clap_on_literals
 behind_dashes = refl
 
-pub hyphen : request_of (codes "-" ∷ []) ≡ Some (record { source = in_file (codes "-"); output = codes "-.lst" })
+pub hyphen : request_of (codes "-" ∷ []) ≡ Some (record { source = in_file (codes "-"); output = codes "-.lst"; ranges = false })
 unfolding clap_on_literals
 hyphen = refl
 
 -- the output named, also by an empty value
-pub named : request_of (codes "--out" ∷ codes "b" ∷ codes "a.gms" ∷ []) ≡ Some (record { source = in_file (codes "a.gms"); output = codes "b" })
+pub named : request_of (codes "--out" ∷ codes "b" ∷ codes "a.gms" ∷ []) ≡ Some (record { source = in_file (codes "a.gms"); output = codes "b"; ranges = false })
 unfolding clap_on_literals
 named = refl
 
-pub named_empty : request_of (codes "a.gms" ∷ codes "--out=" ∷ []) ≡ Some (record { source = in_file (codes "a.gms"); output = [] })
+pub named_empty : request_of (codes "a.gms" ∷ codes "--out=" ∷ []) ≡ Some (record { source = in_file (codes "a.gms"); output = []; ranges = false })
 unfolding clap_on_literals
 named_empty = refl
 
 -- a number to generate
-pub one : request_of (codes "--generate" ∷ codes "1" ∷ []) ≡ Some (record { source = generated 1; output = codes "generate.lst" })
+pub one : request_of (codes "--generate" ∷ codes "1" ∷ []) ≡ Some (record { source = generated 1; output = codes "generate.lst"; ranges = false })
 unfolding clap_on_literals digits
 one = refl
 
-pub thirty : request_of (codes "--generate=30" ∷ codes "--out" ∷ codes "b" ∷ []) ≡ Some (record { source = generated 30; output = codes "b" })
+pub thirty : request_of (codes "--generate=30" ∷ codes "--out" ∷ codes "b" ∷ []) ≡ Some (record { source = generated 30; output = codes "b"; ranges = false })
 unfolding clap_on_literals digits
 thirty = refl
+
+-- ranges asked for, in any place
+pub with_ranges : request_of (codes "--ranges" ∷ codes "a.gms" ∷ []) ≡ Some (record { source = in_file (codes "a.gms"); output = codes "a.lst"; ranges = true })
+unfolding clap_on_literals
+with_ranges = refl
+
+pub ranges_last : request_of (codes "--generate" ∷ codes "1" ∷ codes "--ranges" ∷ []) ≡ Some (record { source = generated 1; output = codes "generate.lst"; ranges = true })
+unfolding clap_on_literals digits
+ranges_last = refl
 
 -- refused: no number, or none from 1 to 30 as it has to be written
 pub no_number : request_of (codes "--generate" ∷ []) ≡ None
@@ -80,6 +89,14 @@ two_files = refl
 pub twice : request_of (codes "--out" ∷ codes "b" ∷ codes "--out" ∷ codes "c" ∷ codes "a.gms" ∷ []) ≡ None
 unfolding clap_on_literals
 twice = refl
+
+pub flag_twice : request_of (codes "--ranges" ∷ codes "--ranges" ∷ codes "a.gms" ∷ []) ≡ None
+unfolding clap_on_literals
+flag_twice = refl
+
+pub flag_with_value : request_of (codes "--ranges=true" ∷ codes "a.gms" ∷ []) ≡ None
+unfolding clap_on_literals
+flag_with_value = refl
 
 pub unknown : request_of (codes "-x" ∷ codes "a.gms" ∷ []) ≡ None
 unfolding clap_on_literals

@@ -1,10 +1,12 @@
 -- The words of the command line, what they ask for, and what is said on standard output.
-use Rattle.std.specs.Prelude.{ℕ, ◌-◌, true, if◌then◌else◌, List, [], ◌∷◌, ◌++◌, length, take, drop, map, find, Option, Some, None, option_map, option_and_then, unwrap_or, string_bytes, codes, decimal}
+use Rattle.std.specs.Prelude.{ℕ, ◌-◌, Bool, true, false, if◌then◌else◌, List, [], ◌∷◌, ◌++◌, length, take, drop, map, find, Option, Some, None, option_map, option_and_then, unwrap_or, string_bytes, codes, decimal}
 use Rattle.std.specs.declared.string.String.{String}
 use Rattle.std.specs.List.{range_with_len}
+use Rattle.std.specs.Option.{option_map_or}
 use Rattle.std.specs.Str.{bytes_eq}
 use Rattle.clap.specs.Simple.{on_top}
 use Rattle.clap.specs.Words.{App, Row, Rule, first_of, matches_of, new_app, new_rule, takes, with_rule}
+use Rattle.clap.specs.declared.builder.action.ArgAction.TheVariants.{SetTrue}
 use Rattle.gms_words.specs.declared.command_line.Source.{Source}
 use Rattle.gms_words.specs.declared.command_line.Source.TheVariants.{File, Generate}
 use Rattle.gms_words.specs.declared.command_line.Request.{Request}
@@ -23,10 +25,19 @@ texts words = map string_bytes words
 abbrev pub option : List ℕ → Rule
 option name = record (new_rule name) { long = Some name }
 
--- the command: a FILE, which may be left out, `--out` with one value, and `--generate` with one value; its words are without the program's name
-abbrev pub gams25 : App
-gams25 =
+-- a flag of a name, without a value
+abbrev pub flag : List ℕ → Rule
+flag name = record (new_rule name) { long = Some name; action = Some SetTrue }
+
+-- the command without its flag: a FILE, which may be left out, `--out` with one value, and `--generate` with one value; its words are
+-- without the program's name
+abbrev pub with_values : App
+with_values =
     with_rule (with_rule (with_rule (on_top (λ s. record s { no_binary_name = true }) (new_app (codes "gams25"))) (new_rule (codes "file"))) (option (codes "out"))) (option (codes "generate"))
+
+-- the command, with the flag `--ranges`
+abbrev pub gams25 : App
+gams25 = with_rule with_values (flag (codes "ranges"))
 
 -- what the command finds in the words, where it takes them
 abbrev pub rows_taken : List (List ℕ) → Option (List Row)
@@ -59,19 +70,24 @@ abbrev pub own_output : Origin → List ℕ
 own_output (in_file file) = output_name file
 own_output (generated size) = codes "generate.lst"
 
--- What accepted words ask for: a source, and the name of the output.
+-- What accepted words ask for: a source, the name of the output, and whether ranges are said.
 pub record Asked : Type 0 where
   pub source : Origin
   pub output : List ℕ
+  pub ranges : Bool
 
 -- the output has the name that `--out` gives it, or else that which comes of the source
-abbrev pub asked : Option (List ℕ) → Origin → Asked
-asked out source = record { source = source; output = unwrap_or out (own_output source) }
+abbrev pub asked : Bool → Option (List ℕ) → Origin → Asked
+asked ranges out source = record { source = source; output = unwrap_or out (own_output source); ranges = ranges }
+
+-- whether a flag is given, by its value
+abbrev pub is_given : Option (List ℕ) → Bool
+is_given value = option_map_or (λ text. bytes_eq text (codes "true")) value false
 
 -- what the command's matches ask for, where they name exactly one source
 abbrev pub request_in : List Row → Option Asked
 request_in rows =
-    option_map (asked (first_of (codes "out") rows)) (origin_of (first_of (codes "file") rows) (first_of (codes "generate") rows))
+    option_map (asked (is_given (first_of (codes "ranges") rows)) (first_of (codes "out") rows)) (origin_of (first_of (codes "file") rows) (first_of (codes "generate") rows))
 
 -- what the words ask for; they are accepted where the command takes them and they name exactly one source
 abbrev pub request_of : List (List ℕ) → Option Asked
@@ -86,13 +102,13 @@ origin (Generate size) = generated size
 
 -- what a request asks for
 abbrev pub asked_by : Request → Asked
-asked_by request = asked (option_map (λ name. name.now) request.out) (origin request.source)
+asked_by request = asked request.ranges (option_map (λ name. name.now) request.out) (origin request.source)
 
 -- ---- lines
 
 -- what is said where the words are refused
 abbrev pub usage_line : List ℕ
-usage_line = line_of (codes "usage: gams25 [--out FILE] FILE | gams25 [--out FILE] --generate N")
+usage_line = line_of (codes "usage: gams25 [--ranges] [--out FILE] FILE | gams25 [--ranges] [--out FILE] --generate N")
 
 -- what is said where the input cannot be read
 abbrev pub read_fault_line : List ℕ → List ℕ
@@ -107,3 +123,16 @@ generated_line size model_status objective pivots =
 abbrev pub closing_line : ℕ → ℕ → List ℕ → List ℕ
 closing_line status solves output =
     line_of (codes "status " ++ decimal status ++ codes ", solves " ++ decimal solves ++ codes ", output " ++ output)
+
+-- what is said before the ranges of a solve, by its number from 1
+abbrev pub ranges_line : ℕ → List ℕ
+ranges_line solve = line_of (codes "ranges of solve " ++ decimal solve)
+
+-- what is said of the range of a `right` side or a `cost`: its element, and the texts of its ends, where it has them
+abbrev pub range_line : List ℕ → List ℕ → Option (List ℕ) → Option (List ℕ) → List ℕ
+range_line what element low high =
+    line_of (codes "  " ++ what ++ codes " " ++ element ++ codes " from " ++ unwrap_or low (codes "-INF") ++ codes " to " ++ unwrap_or high (codes "+INF"))
+
+-- what is said of it where a step does not fit
+abbrev pub not_shown_line : List ℕ → List ℕ → List ℕ
+not_shown_line what element = line_of (codes "  " ++ what ++ codes " " ++ element ++ codes " not shown")

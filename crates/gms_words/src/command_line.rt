@@ -1,14 +1,15 @@
 //! The words of the command line, what they ask for, and what is said on standard output.
-ghost use Rattle.std.specs.Prelude.{◌≡◌, IfOk, string_bytes, option_map};
-ghost use Rattle.clap.specs.Words.{app_of, found_of, rows_of};
-ghost use Rattle.gms_words.specs.CommandLine.{texts, gams25, rows_taken, size_of, origin_of, request_in, request_of, origin, asked_by, output_name, usage_line, read_fault_line, generated_line, closing_line};
+ghost use Rattle.std.specs.Prelude.{◌≡◌, false, IfOk, string_bytes, option_map, codes};
+ghost use Rattle.clap.specs.Words.{app_of, found_of, rows_of, rule_of};
+ghost use Rattle.gms_words.specs.CommandLine.{texts, flag, with_values, gams25, rows_taken, size_of, origin_of, is_given, request_in, request_of, origin, asked_by, output_name, usage_line, read_fault_line, generated_line, closing_line, ranges_line, range_line, not_shown_line};
 
 use clap::error::ErrorKind;
-use clap::{Arg, ArgMatches, Command};
+use clap::{Arg, ArgAction, ArgMatches, Command};
 use std::alloc::{AllocError, Global};
 
 /// What is said where the words are refused.
-const USAGE: &str = "usage: gams25 [--out FILE] FILE | gams25 [--out FILE] --generate N\n";
+const USAGE: &str =
+    "usage: gams25 [--ranges] [--out FILE] FILE | gams25 [--ranges] [--out FILE] --generate N\n";
 
 /// The sizes that a generated model can have, from the least on.
 const SIZES: [&str; 30] = [
@@ -32,17 +33,37 @@ pub struct Request<'a> {
     pub source: Source<'a>,
     /// The name that `--out` gives the output.
     pub out: Option<&'a str>,
+    /// Whether `--ranges` asks for the ranges of each optimum.
+    pub ranges: bool,
 }
 
-/// The command: an optional FILE, `--out` with one value, and `--generate` with one value.
-fn command<'a>(alloc: Global) -> Result<Command<'a>, AllocError>
-    ensures { IfOk result (λ command. app_of command ≡ gams25) }
+/// The command without its flag: an optional FILE, and `--out` and `--generate` with one value each.
+fn with_values<'a>(alloc: Global) -> Result<Command<'a>, AllocError>
+    ensures { IfOk result (λ command. app_of command ≡ with_values) }
 {
     let file = Arg::new(alloc, "file");
     let out = Arg::new(alloc, "out").long("out");
     let generate = Arg::new(alloc, "generate").long("generate");
     let bare = Command::new(alloc, "gams25").no_binary_name(true);
     bare.arg(file)?.arg(out)?.arg(generate)
+}
+
+/// The flag of the command.
+fn ranges_flag<'a>(alloc: Global) -> Arg<'a>
+    ensures rule { rule_of result ≡ flag (codes "ranges") }
+    ensures local { result.global ≡ false }
+{
+    Arg::new(alloc, "ranges")
+        .long("ranges")
+        .action(ArgAction::SetTrue)
+}
+
+/// The command, with its flag.
+fn command<'a>(alloc: Global) -> Result<Command<'a>, AllocError>
+    ensures { IfOk result (λ command. app_of command ≡ gams25) }
+{
+    let values = with_values(alloc)?;
+    values.arg(ranges_flag(alloc))
 }
 
 /// What the command finds in the words, where it takes them.
@@ -78,13 +99,28 @@ fn source_of<'a>(file: Option<&'a str>, size: Option<&'a str>) -> Option<Source<
     }
 }
 
+/// Whether a flag is given, by its value.
+fn is_given(value: Option<&str>) -> bool
+    ensures { result ≡ is_given (option_map (λ text. text.now) value.entry) }
+{
+    match value {
+        Some(text) => text == "true",
+        None => false,
+    }
+}
+
 /// What the matches ask for, where they name exactly one source.
 fn request_in<'a>(matches: &ArgMatches<'a>) -> Option<Request<'a>>
     ensures { option_map asked_by result ≡ request_in (rows_of (found_of matches.now)) }
 {
     let source = source_of(matches.get_str("file"), matches.get_str("generate"))?;
     let out = matches.get_str("out");
-    Some(Request { source, out })
+    let ranges = is_given(matches.get_str("ranges"));
+    Some(Request {
+        source,
+        out,
+        ranges,
+    })
 }
 
 /// What the words ask for. They are refused where there is `None`: where the command does not take them, or they name not exactly one source.
@@ -157,4 +193,33 @@ pub fn closing_line(
     ensures { IfOk result (λ line. string_bytes line ≡ closing_line status solves output.now) }
 {
     format!(in alloc; "status {status}, solves {solves}, output {output}\n")
+}
+
+/// What is said before the ranges of a solve, by its number from 1.
+pub fn ranges_line(alloc: Global, solve: usize) -> Result<String, AllocError>
+    ensures { IfOk result (λ line. string_bytes line ≡ ranges_line solve) }
+{
+    format!(in alloc; "ranges of solve {solve}\n")
+}
+
+/// What is said of the range of a `right` side or a `cost`: its element, and the texts of its ends, where it has them.
+pub fn range_line(
+    alloc: Global,
+    what: &str,
+    element: &str,
+    low: Option<&str>,
+    high: Option<&str>,
+) -> Result<String, AllocError>
+    ensures { IfOk result (λ line. string_bytes line ≡ range_line what.now element.now (option_map (λ text. text.now) low.entry) (option_map (λ text. text.now) high.entry)) }
+{
+    let from = low.unwrap_or("-INF");
+    let to = high.unwrap_or("+INF");
+    format!(in alloc; "  {what} {element} from {from} to {to}\n")
+}
+
+/// What is said of it where a step does not fit.
+pub fn not_shown_line(alloc: Global, what: &str, element: &str) -> Result<String, AllocError>
+    ensures { IfOk result (λ line. string_bytes line ≡ not_shown_line what.now element.now) }
+{
+    format!(in alloc; "  {what} {element} not shown\n")
 }

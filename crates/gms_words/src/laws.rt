@@ -1,7 +1,7 @@
 //! What words of a plain form mean.
 ghost use Rattle.gms_words.specs.Laws.{IsFile};
 
-/// One word that does not begin with `-` is the name of a file, and the output is named after it.
+/// One word that does not begin with `-` is the name of a file, the output is named after it, and no ranges are said.
 pub fn words_laws()
     ensures { IsFile }
 {}

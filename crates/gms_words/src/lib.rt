@@ -5,7 +5,7 @@ mod command_line;
 mod laws;
 
 pub use command_line::{
-    Request, Source, closing_line, generated_line, output_of, read_fault_line, request_of,
-    usage_line,
+    Request, Source, closing_line, generated_line, not_shown_line, output_of, range_line,
+    ranges_line, read_fault_line, request_of, usage_line,
 };
 pub use laws::words_laws;

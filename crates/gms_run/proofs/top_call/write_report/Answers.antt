@@ -6,11 +6,11 @@ use Rattle.gms_host.specs.Meaning.{Outside}
 use Rattle.gms_host.proofs.Counting.{writing_done, writing_more}
 use Rattle.gms_words.specs.CommandLine.{asked_by, closing_line}
 use Rattle.gms_run.specs.Solving.{solving}
-use Rattle.gms_run.specs.InnerReports.{IsTold}
+use Rattle.gms_run.specs.InnerReports.{IsAnsweredFor, IsRanged, IsTold}
 use Rattle.gms_run.specs.Jobs.{status_code}
 use Rattle.gms_run.specs.Listings.{AreClosing}
 use Rattle.gms_run.proofs.Comings.{comes_broken, comes_err, writing_err, writing_failed, writing_memory}
-use Rattle.gms_run.proofs.Reports.{are_closing}
+use Rattle.gms_run.proofs.Reports.{answered_for, are_closing}
 use Rattle.gms_run.proofs.Runs.{reported, unclosed, unopened, unsaid, unwritten}
 use Rattle.gms_run.proofs.top_call.write_report.Goals as goal
 
@@ -19,6 +19,11 @@ report-requires-clause-open g c = ap (λ (o : Outside). o.writing) c.in_ok-open_
 
 pub close_out-requires : goal.close_out-requires
 close_out-requires g c = ap (λ (o : Outside). o.writing) (c.in_ok-outcome.ensures.outside.written) ∙ ap (λ (o : Outside). o.writing) c.in_ok-open_out.ensures.outside
+
+pub closing_lines-requires : goal.closing_lines-requires
+closing_lines-requires g c =
+    let ended = (solving (λ b. (goal.LpSolver-dyn g (b.vtable, b.value)).name b.value) (λ b. (goal.LpSolver-dyn g (b.vtable, b.value)).rule b.value) (λ b. (goal.LpSolver-dyn g (b.vtable, b.value)).paths b.value) c.args.solvers.now.items c.report.new.solvers.items c.report.new.answers.items) in
+    subst (IsAnsweredFor c.in_ok-outcome.outcome.last) (sym c.as_slice-solved.ensures.value) (answered_for c.in_ok-outcome.outcome.status ended c.args.source.now c.in_ok-outcome.outcome.last c.in_ok-outcome.ensures.last)
 
 pub returns-in_err-open_out-clause-outside : goal.returns-in_err-open_out-clause-outside
 returns-in_err-open_out-clause-outside g c =
@@ -64,11 +69,11 @@ pub returns-in_err-say_line-clause-outside : goal.returns-in_err-say_line-clause
 returns-in_err-say_line-clause-outside g c =
     let ended = (solving (λ b. (goal.LpSolver-dyn g (b.vtable, b.value)).name b.value) (λ b. (goal.LpSolver-dyn g (b.vtable, b.value)).rule b.value) (λ b. (goal.LpSolver-dyn g (b.vtable, b.value)).paths b.value) c.args.solvers.now.items c.report.new.solvers.items c.report.new.answers.items) in
     let request = asked_by c.args.request in
-    let said : (line : List ℕ) × IsTold request.source c.in_ok-outcome.outcome.last ended.answers line × (string_bytes c.in_ok-lines.lines ≡ line ++ closing_line (status_code c.in_ok-outcome.outcome.status) (length ended.answers) c.args.output.now) =
+    let said : (ranges line : List ℕ) × IsRanged request.ranges c.in_ok-outcome.outcome.last ended.answers ranges × IsTold request.source c.in_ok-outcome.outcome.last ended.answers line × (string_bytes c.in_ok-lines.lines ≡ ranges ++ line ++ closing_line (status_code c.in_ok-outcome.outcome.status) (length ended.answers) c.args.output.now) =
     rw (← c.as_slice-solved.ensures.value) c.in_ok-lines.ensures in
     let closing =
     subst (AreClosing c.in_ok-outcome.outcome.status ended request c.args.source.now) (sym (c.as_bytes.ensures.value ∙ c.as_str.ensures.value))
-    (are_closing c.in_ok-outcome.outcome.status ended request request.source c.args.source.now (string_bytes c.in_ok-lines.lines) c.args.output.now c.in_ok-outcome.outcome.last c.in_ok-outcome.ensures.last refl c.requires.named said) in
+    (are_closing c.in_ok-outcome.outcome.status ended request c.args.source.now (string_bytes c.in_ok-lines.lines) c.args.output.now c.in_ok-outcome.outcome.last c.in_ok-outcome.ensures.last c.requires.named said) in
     let p = err_from_is_err_and c.from_residual-in_err-say_line.result c.from_residual-in_err-say_line.ensures.1 in
     rw (p.1, p.2) (comes_broken _ c.in_err-say_line.field-0.0 (unsaid c.in_ok-outcome.outcome.status (solving (λ b. (goal.LpSolver-dyn g (b.vtable, b.value)).name b.value) (λ b. (goal.LpSolver-dyn g (b.vtable, b.value)).rule b.value) (λ b. (goal.LpSolver-dyn g (b.vtable, b.value)).paths b.value) c.args.solvers.now.items c.report.new.solvers.items c.report.new.answers.items) (g.H.Host.meaning c.args.host.now).outside (g.H.Host.meaning c.open_out.new.self).outside (g.H.Host.meaning c.report.new.host).outside (asked_by c.args.request) c.args.source.now c.args.output.now c.requires.named c.in_ok-open_out.ensures.outside c.in_ok-outcome.ensures.outside (g.H.Host.meaning c.close_out.new.self).outside c.in_ok-close_out.ensures.outside c.as_bytes.result.now closing (g.H.Host.meaning c.say_line.new.host).outside c.in_err-say_line.ensures.outside))
 
@@ -81,11 +86,11 @@ pub returns-clause-outside : goal.returns-clause-outside
 returns-clause-outside g c =
     let ended = (solving (λ b. (goal.LpSolver-dyn g (b.vtable, b.value)).name b.value) (λ b. (goal.LpSolver-dyn g (b.vtable, b.value)).rule b.value) (λ b. (goal.LpSolver-dyn g (b.vtable, b.value)).paths b.value) c.args.solvers.now.items c.report.new.solvers.items c.report.new.answers.items) in
     let request = asked_by c.args.request in
-    let said : (line : List ℕ) × IsTold request.source c.in_ok-outcome.outcome.last ended.answers line × (string_bytes c.in_ok-lines.lines ≡ line ++ closing_line (status_code c.in_ok-outcome.outcome.status) (length ended.answers) c.args.output.now) =
+    let said : (ranges line : List ℕ) × IsRanged request.ranges c.in_ok-outcome.outcome.last ended.answers ranges × IsTold request.source c.in_ok-outcome.outcome.last ended.answers line × (string_bytes c.in_ok-lines.lines ≡ ranges ++ line ++ closing_line (status_code c.in_ok-outcome.outcome.status) (length ended.answers) c.args.output.now) =
     rw (← c.as_slice-solved.ensures.value) c.in_ok-lines.ensures in
     let closing =
     subst (AreClosing c.in_ok-outcome.outcome.status ended request c.args.source.now) (sym (c.as_bytes.ensures.value ∙ c.as_str.ensures.value))
-    (are_closing c.in_ok-outcome.outcome.status ended request request.source c.args.source.now (string_bytes c.in_ok-lines.lines) c.args.output.now c.in_ok-outcome.outcome.last c.in_ok-outcome.ensures.last refl c.requires.named said) in
+    (are_closing c.in_ok-outcome.outcome.status ended request c.args.source.now (string_bytes c.in_ok-lines.lines) c.args.output.now c.in_ok-outcome.outcome.last c.in_ok-outcome.ensures.last c.requires.named said) in
     reported c.in_ok-outcome.outcome.status (solving (λ b. (goal.LpSolver-dyn g (b.vtable, b.value)).name b.value) (λ b. (goal.LpSolver-dyn g (b.vtable, b.value)).rule b.value) (λ b. (goal.LpSolver-dyn g (b.vtable, b.value)).paths b.value) c.args.solvers.now.items c.report.new.solvers.items c.report.new.answers.items) (g.H.Host.meaning c.args.host.now).outside (g.H.Host.meaning c.open_out.new.self).outside (g.H.Host.meaning c.report.new.host).outside (asked_by c.args.request) c.args.source.now c.args.output.now c.requires.named c.in_ok-open_out.ensures.outside c.in_ok-outcome.ensures.outside (g.H.Host.meaning c.close_out.new.self).outside c.in_ok-close_out.ensures.outside c.as_bytes.result.now closing (g.H.Host.meaning c.say_line.new.host).outside c.in_ok-say_line.ensures.outside
 
 pub returns-clause-counts : goal.returns-clause-counts

@@ -2,7 +2,7 @@ use Rattle.std.proofs.Common.{◌≡◌, ◌∙◌, Some, None, option_map, sym,
 use Rattle.clap.specs.Matches.{found_of}
 use Rattle.clap.specs.Walk.{first_of, rows_of}
 use Rattle.clap.proofs.WalkLemmas.{first_value-rows}
-use Rattle.gms_words.specs.CommandLine.{asked, asked_by, origin, origin_of}
+use Rattle.gms_words.specs.CommandLine.{asked, asked_by, is_given, origin, origin_of}
 use Rattle.gms_words.proofs.command_line.request_in.Goals as goal
 
 pub returns-in_err-source : goal.returns-in_err-source
@@ -13,7 +13,7 @@ returns-in_err-source c =
     let none : c.source_of.result ≡ None = search rules in
     let gives : c.from_residual.result ≡ None = search rules in
     let found : None ≡ origin_of (first_of (codes "file") rows) (first_of (codes "generate") rows) = sym (ap (option_map origin) none) ∙ c.source_of.ensures ∙ ap₂ origin_of file size in
-    ap (option_map asked_by) gives ∙ ap (option_map (asked (first_of (codes "out") rows))) found
+    ap (option_map asked_by) gives ∙ ap (option_map (asked (is_given (first_of (codes "ranges") rows)) (first_of (codes "out") rows))) found
 
 pub returns : goal.returns
 returns c =
@@ -23,4 +23,5 @@ returns c =
     let out = c.get_str-out.ensures ∙ first_value-rows (found_of c.args.matches.now) (codes "out") in
     let some : c.source_of.result ≡ Some c.in_ok-source.source = search rules in
     let found : Some (origin c.in_ok-source.source) ≡ origin_of (first_of (codes "file") rows) (first_of (codes "generate") rows) = sym (ap (option_map origin) some) ∙ c.source_of.ensures ∙ ap₂ origin_of file size in
-    ap₂ (λ o s. option_map (asked o) s) out found
+    let given : c.is_given-ranges.result ≡ is_given (first_of (codes "ranges") rows) = c.is_given-ranges.ensures ∙ ap is_given (c.get_str-3.ensures ∙ first_value-rows (found_of c.args.matches.now) (codes "ranges")) in
+    rw given (ap₂ (λ o s. option_map (asked (is_given (first_of (codes "ranges") rows)) o) s) out found)

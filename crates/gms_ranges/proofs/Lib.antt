@@ -1,0 +1,4 @@
+pub mod Appended
+pub mod Exact
+pub mod Same
+pub mod Says

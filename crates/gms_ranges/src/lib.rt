@@ -1,0 +1,7 @@
+//! Floor 7, outside. What is said of the ranges of the solves of a run.
+#![tactic(auto)]
+
+mod lines;
+mod solves;
+
+pub use solves::ranges_text;
