@@ -1,6 +1,6 @@
 -- The errors of a program, by what is known before each statement.
 use Rattle.std.proofs.Common.{◌≡◌, ◌<◌, ◌≤◌, ℕ, Bool, true, false, not, ◌==◌, ◌&&◌, ◌||◌, List, [], ◌∷◌, ◌++◌, length, map, set, get_or, drop, ◌+◌, append_assoc, refl, sym, ap, ◌∙◌, subst, Option, Some, None, if◌then◌else◌, eq-eqb}
-use Rattle.std.specs.Prelude.{filter, is_none, option_to_list}
+use Rattle.std.specs.Prelude.{filter, is_none}
 use mathlib.Core.Path.{fun_ext}
 use Rattle.std.proofs.lemmas.Bool.{eqb-true}
 use Rattle.std.proofs.lemmas.List.{append-nil, drop_all, drop_more, get_or-set_other}
@@ -23,7 +23,7 @@ use Rattle.gms_check.specs.declared.error.CompileError.{CompileError}
 use Rattle.gms_check.specs.Above.{directly_above}
 use Rattle.gms_check.specs.Changes.{facts_after}
 use Rattle.gms_check.specs.Checking.{known_by}
-use Rattle.gms_check.specs.CompileErrors.{act_errors, compile_errors, errors_after, errors_of, known_after, known_in, model_errors, models_before, names_before, of_program, statement_error}
+use Rattle.gms_check.specs.CompileErrors.{act_errors, each_error, statement_errors, errors_of, known_after, known_in, model_errors, models_before, names_before, of_program, statement_error}
 use Rattle.gms_check.specs.DeclarationUses.{model_uses}
 use Rattle.gms_check.specs.Errors.{first_of}
 use Rattle.gms_check.specs.Past.{Known, Past, is_among, is_defined, is_unordered, models_after, state_after}
@@ -133,33 +133,33 @@ module _ {F : Type 0} (value : F → Number) (solvers : List (List ℕ)) where
   abbrev pub error_after : Facts → Stmt F → Option CompileError
   error_after facts statement = statement_error (known_by value solvers facts) statement
 
-  -- the errors of statements, where this is known before the first
-  abbrev pub errors_from : Facts → List (Stmt F) → List CompileError
-  errors_from facts [] = []
-  errors_from facts (statement ∷ rest) =
-      option_to_list (error_after facts statement) ++ errors_from (facts_after value facts statement.act (is_none (error_after facts statement))) rest
+  -- the error of each of some statements, where this is known before the first
+  abbrev pub each_from : Facts → List (Stmt F) → List (Option CompileError)
+  each_from facts [] = []
+  each_from facts (statement ∷ rest) =
+      error_after facts statement ∷ each_from (facts_after value facts statement.act (is_none (error_after facts statement))) rest
 
-  pub errors-same : (program : Program F) (statements : List (Stmt F)) (facts : Facts) (past : Past F) → Stands value program facts past → errors_from facts statements ≡ errors_after value program solvers past statements
-  errors-same program [] facts past stands = refl
-  errors-same program (statement ∷ rest) facts past stands =
+  pub each-same : (program : Program F) (statements : List (Stmt F)) (facts : Facts) (past : Past F) → Stands value program facts past → each_from facts statements ≡ each_error value program solvers past statements
+  each-same program [] facts past stands = refl
+  each-same program (statement ∷ rest) facts past stands =
       let sound = is_none (error_after facts statement) in
       let next = stands-after value program facts past stands statement sound (listed-sound value (known_by value solvers facts) statement) in
-      ap (λ (errors : List CompileError). option_to_list (error_after facts statement) ++ errors) (errors-same program rest (facts_after value facts statement.act sound) (past ++ (statement, sound) ∷ []) next)
-      ∙ ap (λ (known : Known F). option_to_list (statement_error known statement) ++ errors_after value program solvers (past ++ (statement, is_none (statement_error known statement)) ∷ []) rest) (known-same value program solvers facts past stands)
+      ap (λ (errors : List (Option CompileError)). error_after facts statement ∷ errors) (each-same program rest (facts_after value facts statement.act sound) (past ++ (statement, sound) ∷ []) next)
+      ∙ ap (λ (known : Known F). statement_error known statement ∷ each_error value program solvers (past ++ (statement, is_none (statement_error known statement)) ∷ []) rest) (known-same value program solvers facts past stands)
 
-  -- the errors of a program
-  pub errors-all : (program : Program F) → errors_from (first_facts program) program.statements.items ≡ compile_errors value program solvers
-  errors-all program = errors-same program program.statements.items (first_facts program) [] (stands-first value program)
+  -- the error of each statement of a program
+  pub each-all : (program : Program F) → each_from (first_facts program) program.statements.items ≡ statement_errors value program solvers
+  each-all program = each-same program program.statements.items (first_facts program) [] (stands-first value program)
 
   -- one statement more: its error is put last
-  pub errors-step : (statements : List (Stmt F)) (i : ℕ) (statement : Stmt F) (found after : List CompileError) (facts next : Facts) (error : Option CompileError) (all : List CompileError) → i < length statements → statement ≡ get_or statements i statement → error ≡ error_after facts statement → next ≡ facts_after value facts statement.act (is_none error) → after ≡ found ++ option_to_list error → found ++ errors_from facts (drop i statements) ≡ all → after ++ errors_from next (drop (i + 1) statements) ≡ all
-  errors-step statements i statement found after facts next error all l is answer made put e =
-      ap (λ es. es ++ errors_from next (drop (i + 1) statements)) put
-      ∙ append_assoc found (option_to_list error) (errors_from next (drop (i + 1) statements))
-      ∙ ap (λ es. found ++ es) (ap (λ (f : Facts). option_to_list error ++ errors_from f (drop (i + 1) statements)) made ∙ ap (λ (o : Option CompileError). option_to_list o ++ errors_from (facts_after value facts statement.act (is_none o)) (drop (i + 1) statements)) answer ∙ sym (ap (errors_from facts) (drop_more statements i statement l ∙ ap (λ s. s ∷ drop (i + 1) statements) (sym is))))
+  pub each-step : (statements : List (Stmt F)) (i : ℕ) (statement : Stmt F) (found after : List (Option CompileError)) (facts next : Facts) (error : Option CompileError) (all : List (Option CompileError)) → i < length statements → statement ≡ get_or statements i statement → error ≡ error_after facts statement → next ≡ facts_after value facts statement.act (is_none error) → after ≡ found ++ error ∷ [] → found ++ each_from facts (drop i statements) ≡ all → after ++ each_from next (drop (i + 1) statements) ≡ all
+  each-step statements i statement found after facts next error all l is answer made put e =
+      ap (λ es. es ++ each_from next (drop (i + 1) statements)) put
+      ∙ append_assoc found (error ∷ []) (each_from next (drop (i + 1) statements))
+      ∙ ap (λ es. found ++ es) (ap (λ (f : Facts). error ∷ each_from f (drop (i + 1) statements)) made ∙ ap (λ (o : Option CompileError). o ∷ each_from (facts_after value facts statement.act (is_none o)) (drop (i + 1) statements)) answer ∙ sym (ap (each_from facts) (drop_more statements i statement l ∙ ap (λ s. s ∷ drop (i + 1) statements) (sym is))))
       ∙ e
 
   -- all statements
-  pub errors-end : (statements : List (Stmt F)) (i : ℕ) (found : List CompileError) (facts : Facts) (all : List CompileError) → length statements ≤ i → found ++ errors_from facts (drop i statements) ≡ all → found ≡ all
-  errors-end statements i found facts all l e =
-      sym (append-nil found) ∙ sym (ap (λ ss. found ++ errors_from facts ss) (drop_all i statements l)) ∙ e
+  pub each-end : (statements : List (Stmt F)) (i : ℕ) (found : List (Option CompileError)) (facts : Facts) (all : List (Option CompileError)) → length statements ≤ i → found ++ each_from facts (drop i statements) ≡ all → found ≡ all
+  each-end statements i found facts all l e =
+      sym (append-nil found) ∙ sym (ap (λ ss. found ++ each_from facts ss) (drop_all i statements l)) ∙ e

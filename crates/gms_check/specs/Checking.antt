@@ -1,5 +1,5 @@
 -- A check that is going on: what is known, the sets that are controlled, and the first error so far.
-use Rattle.std.specs.Prelude.{ℕ, Bool, true, false, List, [], ◌∷◌, ◌++◌, map, Option, Some, None, string_bytes}
+use Rattle.std.specs.Prelude.{ℕ, Bool, true, false, List, [], ◌∷◌, ◌++◌, Option, Some, None}
 use Rattle.gq_number.specs.Number.{Number}
 use Rattle.gms_labels.specs.declared.place.Place.{Place}
 use Rattle.gms_known.specs.Entries.{above_of}
@@ -52,7 +52,7 @@ with_facts c facts = record c { facts = facts }
 module _ {F : Type 0} where
   -- what a check shows
   abbrev pub seen : Checker F → Checking
-  seen c = record { facts = c.known; solvers = map string_bytes c.solvers.now; controlled = c.controlled.items; first = c.first }
+  seen c = record { facts = c.known; solvers = c.solvers.now; controlled = c.controlled.items; first = c.first }
 
 module _ {F : Type 0} (value : F → Number) where
   -- what is known, with solvers of these names

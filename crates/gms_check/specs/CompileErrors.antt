@@ -122,11 +122,19 @@ module _ {F : Type 0} where
   known_after value program solvers past =
       record { value = value; state = state_after value (length program.names) past; declared = names_before program past; above = directly_above (state_after value (length program.names) past) (names_before program past); assigned = of_program program (is_among (dynamic_sets program)); unordered = of_program program (is_unordered past); defined = of_program program (is_defined past); models = models_before (state_after value (length program.names) past) program past; solvers = solvers }
 
+  -- the error of each of the statements that come after others, where it has one
+  abbrev pub each_error : (F → Number) → Program F → List (List ℕ) → Past F → List (Stmt F) → List (Option CompileError)
+  each_error value program solvers past [] = []
+  each_error value program solvers past (statement ∷ rest) =
+      statement_error (known_after value program solvers past) statement ∷ each_error value program solvers (past ++ (statement, is_none (statement_error (known_after value program solvers past) statement)) ∷ []) rest
+
   -- the errors of the statements that come after others
   abbrev pub errors_after : (F → Number) → Program F → List (List ℕ) → Past F → List (Stmt F) → List CompileError
-  errors_after value program solvers past [] = []
-  errors_after value program solvers past (statement ∷ rest) =
-      option_to_list (statement_error (known_after value program solvers past) statement) ++ errors_after value program solvers (past ++ (statement, is_none (statement_error (known_after value program solvers past) statement)) ∷ []) rest
+  errors_after value program solvers past statements = flat_map option_to_list (each_error value program solvers past statements)
+
+  -- the error of each statement of a program, where it has one, with solvers of these names
+  abbrev pub statement_errors : (F → Number) → Program F → List (List ℕ) → List (Option CompileError)
+  statement_errors value program solvers = each_error value program solvers [] program.statements.items
 
   -- the compile errors of a program, with solvers of these names
   abbrev pub compile_errors : (F → Number) → Program F → List (List ℕ) → List CompileError

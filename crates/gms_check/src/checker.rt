@@ -1,12 +1,12 @@
 //! The check of a program, statement by statement.
-ghost use Rattle.std.specs.Prelude.{◌≡◌, [], ◌∷◌, ◌++◌, map, not, None, Some, option_to_list, string_bytes, IfOk, OnOk};
+ghost use Rattle.std.specs.Prelude.{◌≡◌, [], ◌∷◌, ◌++◌, map, flat_map, not, None, Some, option_to_list, string_bytes, IfOk, OnOk};
 ghost use Rattle.gms_known.specs.Facts.{first_facts};
 ghost use Rattle.gms_check.specs.Checking.{faulted, seen};
-ghost use Rattle.gms_check.specs.CompileErrors.{compile_errors};
+ghost use Rattle.gms_check.specs.CompileErrors.{compile_errors, statement_errors};
 ghost use Rattle.gms_check.specs.Errors.{sooner};
 
 use crate::error::{CompileError, ErrorKind};
-use gms_ast::Program;
+use gms_ast::{Program, Sequence};
 use gms_known::Known;
 use gms_labels::Place;
 use gq_field::ExactField;
@@ -25,24 +25,64 @@ pub fn check<F: ExactField>(
 ) -> Result<Vec<CompileError>, AllocError>
     ensures { IfOk result (λ errors. errors.items ≡ compile_errors F.value program.now (map string_bytes solvers.now)) }
 {
+    let names = names_of(alloc, solvers)?;
+    let each = statement_errors(alloc, program, &names)?;
+    found_errors(alloc, &each)
+}
+
+/// The bytes of the names of solvers, in order.
+pub fn names_of(alloc: Global, solvers: &[String]) -> Result<Vec<Sequence<u8>>, AllocError>
+    ensures { IfOk result (λ names. names.items ≡ map string_bytes solvers.now) }
+{
+    let mut names = Vec::new(alloc);
+    for solver in solvers {
+        let name = Vec::from_slice(alloc, solver.as_bytes())?;
+        names.push(Sequence::new(name))?;
+    }
+    Ok(names)
+}
+
+/// The error of each statement of a program, in order, `None` where it has none, with solvers of these names: those of
+/// `check`, each beside its statement.
+pub fn statement_errors<F: ExactField>(
+    alloc: Global,
+    program: &Program<F>,
+    solvers: &[Sequence<u8>],
+) -> Result<Vec<Option<CompileError>>, AllocError>
+    ensures { IfOk result (λ errors. errors.items ≡ statement_errors F.value program.now solvers.now) }
+{
     let mut checker = Checker::new(alloc, program, solvers)?;
     check_statements(alloc, &mut checker, program)
 }
 
-/// The errors of the statements of a program, by a check that is at its beginning.
+/// The error of each statement of a program, by a check that is at its beginning.
 fn check_statements<F: ExactField>(
     alloc: Global,
     checker: &mut Checker<'_, F>,
     program: &Program<F>,
-) -> Result<Vec<CompileError>, AllocError>
+) -> Result<Vec<Option<CompileError>>, AllocError>
     requires facts { (seen checker.old).facts ≡ first_facts program.now }
     requires first { (seen checker.old).first ≡ None }
-    ensures { IfOk result (λ errors. errors.items ≡ compile_errors F.value program.now (seen checker.old).solvers) }
+    ensures { IfOk result (λ errors. errors.items ≡ statement_errors F.value program.now (seen checker.old).solvers) }
 {
     let mut errors = Vec::new(alloc);
     for statement in &program.statements {
         let error = checker.statement(statement)?;
-        put_last(&mut errors, error)?;
+        errors.push(error)?;
+    }
+    Ok(errors)
+}
+
+/// The errors that are there, in order.
+pub fn found_errors(
+    alloc: Global,
+    each: &[Option<CompileError>],
+) -> Result<Vec<CompileError>, AllocError>
+    ensures { IfOk result (λ errors. errors.items ≡ flat_map option_to_list each.now) }
+{
+    let mut errors = Vec::new(alloc);
+    for error in each {
+        put_last(&mut errors, *error)?;
     }
     Ok(errors)
 }
@@ -63,7 +103,7 @@ pub struct Checker<'s, F: ExactField> {
     /// Where memory is taken from.
     pub alloc: Global,
     /// The names of the solvers.
-    pub solvers: &'s [String],
+    pub solvers: &'s [Sequence<u8>],
     /// What is known.
     pub known: Known<F>,
     /// The sets that are controlled.
@@ -77,10 +117,10 @@ impl<'s, F: ExactField> Checker<'s, F> {
     pub fn new(
         alloc: Global,
         program: &Program<F>,
-        solvers: &'s [String],
+        solvers: &'s [Sequence<u8>],
     ) -> Result<Checker<'s, F>, AllocError>
         ensures { IfOk result (λ checker. seen checker
-            ≡ record { facts = first_facts program.now; solvers = map string_bytes solvers.now; controlled = []; first = None }) }
+            ≡ record { facts = first_facts program.now; solvers = solvers.now; controlled = []; first = None }) }
     {
         let known = Known::new(alloc, program)?;
         Ok(Checker {

@@ -158,8 +158,8 @@ impl CompileError {
         place < others
     }
 
-    /// This error, or another one where that comes first.
-    pub(crate) fn or_earlier(self, other: Option<CompileError>) -> CompileError
+    /// This error, or another one where that comes first: by its place, and at one place by its number.
+    pub fn or_earlier(self, other: Option<CompileError>) -> CompileError
         ensures { result ≡ earlier self other }
     {
         match other {

@@ -17,7 +17,7 @@ mod standing;
 mod statement;
 mod target;
 
-pub use checker::check;
+pub use checker::{check, found_errors, names_of, statement_errors};
 pub use error::{CompileError, ErrorKind};
 pub use laws::checked_laws;
 pub use loading::load;

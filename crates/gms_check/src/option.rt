@@ -115,7 +115,7 @@ impl<'s, F: ExactField> Checker<'s, F> {
         ensures { result ≡ is_one_of (seen self.now).solvers name.now }
     {
         for solver in self.solvers {
-            if is_same(name, solver.as_bytes()) {
+            if is_same(name, solver.as_slice()) {
                 return true;
             }
         }

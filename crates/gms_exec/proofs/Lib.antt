@@ -31,3 +31,4 @@ mod SolveRuns
 mod Standings
 mod Stepping
 mod Loops
+mod AfterSolve

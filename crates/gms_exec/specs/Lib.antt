@@ -1,6 +1,7 @@
 pub mod Answering
 pub mod Assignment
 pub mod Dimensions
+pub mod Elements
 pub mod Given
 pub mod Membership
 pub mod Options

@@ -1,12 +1,19 @@
-//! Laws of assignments: what is read after one.
-ghost use Rattle.std.specs.Prelude.{◌≡◌, ◌<◌, ℕ, true, List, All, length, unwrap_or};
+//! Laws of assignments and solves: what is read after one.
+ghost use Rattle.std.specs.Prelude.{◌≡◌, ◌<◌, ℕ, pos, true, List, Some, All, length, slice_get, unwrap_or};
+ghost use Rattle.gq_number.specs.Number.{Number, whole};
 ghost use Rattle.gq_extended.specs.Extended.{Extended};
 ghost use Rattle.gms_ast.specs.declared.expression.Suffix.{Suffix};
 ghost use Rattle.gms_ast.specs.declared.expression.Suffix.TheVariants as suffix;
 ghost use Rattle.gms_tuple.specs.TupleSet.{has};
-ghost use Rattle.gms_store.specs.State.{State, Entries, parameter_of, set_of, base_of, symbol_of, value_of, attributes_of, members_of, has_attributes};
+ghost use Rattle.gms_store.specs.State.{State, Entries, parameter_of, set_of, model_with, base_of, symbol_of, value_of, attributes_of, members_of, statuses_in, has_attributes, with_level, with_marginal};
+ghost use Rattle.lp_form.specs.declared.key.Key.{Key};
+ghost use Rattle.lp_core.specs.declared.program.Lp.{Lp};
+ghost use Rattle.lp_core.specs.declared.answer.End.{End};
+ghost use Rattle.lp_core.specs.declared.answer.End.TheVariants.{Optimal};
 ghost use Rattle.gms_exec.specs.Given.{AllGiven, after_given};
 ghost use Rattle.gms_exec.specs.Reads.{value_at, membership_at, attributes_with};
+ghost use Rattle.gms_exec.specs.Solved.{column_keys, row_keys, statuses_of, after_end};
+ghost use Rattle.gms_exec.specs.Elements.{AreElements, IsNot, elements, feasible_levels, has_no_point};
 
 /// What is read after an assignment, which gives elements of one name values or membership: at each element what it was given, or what was
 /// there where it was given nothing. Other names stay as they were, and so do the settings.
@@ -32,4 +39,49 @@ pub fn assignment_laws()
         symbol_of (after_given kind name all state) other ≡ symbol_of state other }
     ensures settings { (state : State) (name : ℕ) (kind : Suffix) (all : AllGiven) →
         (after_given kind name all state).settings ≡ state.settings }
+{}
+
+/// What is read after a solve whose columns and rows are elements of the state. An optimum gives the element of a column
+/// its level and its reduced cost, that of a row its level and its dual value; an end with a feasible point that is not
+/// optimal gives levels, and marginals 0; any other end leaves both. The model has the two statuses of the end. All other
+/// elements and names stay as they were, and so do the settings (GAMS User's Guide, "Model and Solve Statements").
+pub fn solve_laws()
+    ensures optimal_column { (state : State) (model : ℕ) (lp : Lp Number) (levels row_levels duals reduced : List Number) (j : ℕ) (key : Key) (x d : Number) →
+        AreElements state (elements lp) →
+        slice_get (column_keys lp) j ≡ Some key → slice_get levels j ≡ Some x → slice_get reduced j ≡ Some d →
+        attributes_of (after_end state model lp (Optimal levels row_levels duals reduced)) key.symbol key.tuple
+        ≡ with_marginal (with_level (attributes_of state key.symbol key.tuple) x) d }
+    ensures optimal_row { (state : State) (model : ℕ) (lp : Lp Number) (levels row_levels duals reduced : List Number) (i : ℕ) (key : Key) (x d : Number) →
+        AreElements state (elements lp) →
+        slice_get (row_keys lp) i ≡ Some key → slice_get row_levels i ≡ Some x → slice_get duals i ≡ Some d →
+        attributes_of (after_end state model lp (Optimal levels row_levels duals reduced)) key.symbol key.tuple
+        ≡ with_marginal (with_level (attributes_of state key.symbol key.tuple) x) d }
+    ensures feasible_column { (state : State) (model : ℕ) (lp : Lp Number) (end : End Number) (levels row_levels : List Number) (j : ℕ) (key : Key) (x : Number) →
+        AreElements state (elements lp) →
+        feasible_levels end ≡ Some (levels, row_levels) →
+        slice_get (column_keys lp) j ≡ Some key → slice_get levels j ≡ Some x →
+        attributes_of (after_end state model lp end) key.symbol key.tuple
+        ≡ with_marginal (with_level (attributes_of state key.symbol key.tuple) x) (whole (pos 0)) }
+    ensures feasible_row { (state : State) (model : ℕ) (lp : Lp Number) (end : End Number) (levels row_levels : List Number) (i : ℕ) (key : Key) (x : Number) →
+        AreElements state (elements lp) →
+        feasible_levels end ≡ Some (levels, row_levels) →
+        slice_get (row_keys lp) i ≡ Some key → slice_get row_levels i ≡ Some x →
+        attributes_of (after_end state model lp end) key.symbol key.tuple
+        ≡ with_marginal (with_level (attributes_of state key.symbol key.tuple) x) (whole (pos 0)) }
+    ensures no_point { (state : State) (model : ℕ) (lp : Lp Number) (end : End Number) (name : ℕ) (t : List ℕ) →
+        has_no_point end ≡ true →
+        attributes_of (after_end state model lp end) name t ≡ attributes_of state name t }
+    ensures other_elements { (state : State) (model : ℕ) (lp : Lp Number) (end : End Number) (name : ℕ) (t : List ℕ) →
+        ((i : ℕ) (key : Key) → slice_get (elements lp) i ≡ Some key → IsNot state key name t) →
+        attributes_of (after_end state model lp end) name t ≡ attributes_of state name t }
+    ensures other_names { (state : State) (model : ℕ) (lp : Lp Number) (end : End Number) (other : ℕ) →
+        (base_of state other ≡ base_of state model → ⊥) →
+        ((i : ℕ) (key : Key) → slice_get (elements lp) i ≡ Some key → base_of state other ≡ base_of state key.symbol → ⊥) →
+        symbol_of (after_end state model lp end) other ≡ symbol_of state other }
+    ensures statuses { (state : State) (model : ℕ) (lp : Lp Number) (end : End Number) (status solver : ℕ) →
+        base_of state model < length state.symbols →
+        (symbol_of state model).content ≡ model_with status solver →
+        statuses_in (symbol_of (after_end state model lp end) model).content ≡ statuses_of end }
+    ensures settings { (state : State) (model : ℕ) (lp : Lp Number) (end : End Number) →
+        (after_end state model lp end).settings ≡ state.settings }
 {}

@@ -6,7 +6,7 @@ use Rattle.gms_ast.specs.Trees.{Mark, Tree as Syntax, Parts, no_part, part}
 use Rattle.gms_ast.specs.TreeView.{parts_of}
 use Rattle.gms_lex.specs.declared.token.Token.{Token}
 use Rattle.gms_grammar.specs.declared.terminal.Terminal.{Terminal}
-use Rattle.gms_grammar.specs.Grammar.{one, the, ◌·◌, many, leaf, pair, none, more, node, yield}
+use Rattle.gms_grammar.specs.Grammar.{one, the, ◌·◌, many, leaf, pair, none, more, node, yield, IsTree}
 use Rattle.gms_grammar.specs.LookAhead.{may_be_empty}
 use Rattle.gms_grammar.specs.Reading.{leads}
 use Rattle.gms_grammar.specs.GamsGrammar.{Nonterminal, productions}
@@ -28,14 +28,15 @@ use Rattle.gms_expressions.proofs.Nexts.{gives_next, leads_next, unled_next}
 use Rattle.gms_expressions.proofs.Loops.{Looping, loop_on, loop_got, loop_refuses}
 
 -- where a tree begins is where the next token stood
-pub place_read : {limit : ℕ} {source : List ℕ} {p : GamsPart} {w v : Walk} {ts rest : List Seen} {tree : Derivation} → may_be_empty look_ahead p ≡ false → Gives limit source p w ts tree v rest → place_in tree ≡ next_place source ts
-place_read {source = source} {p = p} {ts = ts} {rest = rest} {tree = tree} some g =
-    let found = sound productions look_ahead g.reads in
-    go (yield tree) (starts productions look_ahead gams_decided p tree found.0) found.1
+pub place_begun : (source : List ℕ) (p : GamsPart) {ts : List Seen} (rest : List Seen) (tree : Derivation) → may_be_empty look_ahead p ≡ false → IsTree productions p tree × (ts ≡ yield tree ++ rest) → place_in tree ≡ next_place source ts
+place_begun source p {ts = ts} rest tree some found = go (yield tree) (starts productions look_ahead gams_decided p tree found.0) found.1
   where
     go : (u : List Seen) → Starts productions look_ahead gams_decided p u → ts ≡ u ++ rest → first_place u ≡ next_place source ts
     go [] s e = cc
     go (t ∷ u) s e = sym (ap (next_place source) e)
+
+pub place_read : {limit : ℕ} {source : List ℕ} {p : GamsPart} {w v : Walk} {ts rest : List Seen} {tree : Derivation} → may_be_empty look_ahead p ≡ false → Gives limit source p w ts tree v rest → place_in tree ≡ next_place source ts
+place_read {source = source} {p = p} some g = place_begun source p _ _ some (sound productions look_ahead g.reads)
 
 -- parts before others
 abbrev pub parts_before : {N : Type 0} → List (Mark × Syntax N) → Parts N → Parts N

@@ -33,7 +33,7 @@ compare (x ∷ u) v (y ∷ front) rest e = go (compare u v front rest cc)
     go (passes z more h) = passes z more cc
 
 -- what begins a part is no longer than the front at which tokens cease to begin it
-front_begins : (n : Nonterminal) (ts front rest u v : List Seen) → Stops productions (the n) ts front rest → ts ≡ u ++ v → Begins productions (the n) u → (more : List Seen) × (front ≡ u ++ more)
+pub front_begins : (n : Nonterminal) (ts front rest u v : List Seen) → Stops productions (the n) ts front rest → ts ≡ u ++ v → Begins productions (the n) u → (more : List Seen) × (front ≡ u ++ more)
 front_begins n ts front rest u v s e b = go (compare u v front rest (sym e ∙ s.parts))
   where
     longer : (x : Seen) (more : List Seen) → u ≡ front ++ (x ∷ more) → (rest : List Seen) → IsUnexpected productions (the n) front rest → x ∷ (more ++ v) ≡ rest → ⊥

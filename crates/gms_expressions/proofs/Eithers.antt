@@ -9,30 +9,26 @@ use Rattle.gms_expressions.specs.declared.fault.SyntaxFaultOrMemory.{SyntaxFault
 use Rattle.gms_expressions.specs.Outcomes.{Walk}
 use Rattle.gms_expressions.specs.Readings.{Seen, Derivation, GamsPart, Gives, Refuses}
 use Rattle.gms_expressions.proofs.Nexts.{unled_next}
-use Rattle.gms_expressions.proofs.Steps.{by_cause}
+use Rattle.gms_expressions.proofs.Steps.{by_cause, stuck_as, wrong_as}
 
 -- a token that was read leads
-led_read : {test : Terminal → Bool} {ts rest : List Seen} {tree : Derivation} → Reads productions look_ahead (one test) ts (read tree rest) → leads productions look_ahead (one test) ts ≡ true
+pub led_read : {test : Terminal → Bool} {ts rest : List Seen} {tree : Derivation} → Reads productions look_ahead (one test) ts (read tree rest) → leads productions look_ahead (one test) ts ≡ true
 led_read (taken h) = h
 
 pub led_given : {limit : ℕ} {source : List ℕ} {test : Terminal → Bool} {w v : Walk} {ts rest : List Seen} {tree : Derivation} → Gives limit source (one test) w ts tree v rest → leads productions look_ahead (one test) ts ≡ true
 led_given g = led_read g.reads
 
-stuck_left : {test : Terminal → Bool} {q : GamsPart} {ts front rest : List Seen} → leads productions look_ahead q ts ≡ false → Reads productions look_ahead (one test) ts (stuck front rest) → Reads productions look_ahead (one test ∣ q) ts (stuck front rest)
+pub stuck_left : {test : Terminal → Bool} {q : GamsPart} {ts front rest : List Seen} → leads productions look_ahead q ts ≡ false → Reads productions look_ahead (one test) ts (stuck front rest) → Reads productions look_ahead (one test ∣ q) ts (stuck front rest)
 stuck_left k (refused h) = in_neither h k
 
-stuck_right : {test : Terminal → Bool} {p r : GamsPart} {ts front rest : List Seen} → leads productions look_ahead p ts ≡ false → Reads productions look_ahead (one test) ts (stuck front rest) → Reads productions look_ahead (p ∣ one test · r) ts (stuck front rest)
+pub stuck_right : {test : Terminal → Bool} {p r : GamsPart} {ts front rest : List Seen} → leads productions look_ahead p ts ≡ false → Reads productions look_ahead (one test) ts (stuck front rest) → Reads productions look_ahead (p ∣ one test · r) ts (stuck front rest)
 stuck_right {test} {p} {r} k (refused {tokens = ts} h) = in_neither k (unled_next test r ts h)
 
 module _ {limit : ℕ} {source : List ℕ} {test : Terminal → Bool} {w : Walk} {ts : List Seen} {e : SyntaxFaultOrMemory} where
   -- the first alternative is a token that is refused, and nothing leads into the second
   pub refuses_either : {q : GamsPart} → leads productions look_ahead q ts ≡ false → Refuses limit source (one test) w ts e → Refuses limit source (one test ∣ q) w ts e
-  refuses_either k r = by_cause r
-      (λ fault s. record { front = s.front; rest = s.rest; reads = stuck_left k s.reads; are_sound = s.are_sound; error = s.error; at = s.at })
-      (λ fault s. record { before = s.before; token = s.token; behind = s.behind; takes = takes_left s.takes; are_sound = s.are_sound; is_faulty = s.is_faulty; at = s.at })
+  refuses_either k r = by_cause r (λ fault s. stuck_as s (stuck_left k s.reads)) (λ fault s. wrong_as s (takes_left s.takes))
 
   -- nothing leads into the first alternative, and the second begins with a token that is refused
   pub refuses_or : {p r : GamsPart} → leads productions look_ahead p ts ≡ false → Refuses limit source (one test) w ts e → Refuses limit source (p ∣ one test · r) w ts e
-  refuses_or k r = by_cause r
-      (λ fault s. record { front = s.front; rest = s.rest; reads = stuck_right k s.reads; are_sound = s.are_sound; error = s.error; at = s.at })
-      (λ fault s. record { before = s.before; token = s.token; behind = s.behind; takes = takes_right (takes_first s.takes); are_sound = s.are_sound; is_faulty = s.is_faulty; at = s.at })
+  refuses_or k r = by_cause r (λ fault s. stuck_as s (stuck_right k s.reads)) (λ fault s. wrong_as s (takes_right (takes_first s.takes)))

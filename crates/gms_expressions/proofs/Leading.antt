@@ -44,7 +44,7 @@ pub not_among : (ks : List Terminal) (kind : Terminal) → IsNone ks kind → is
 not_among [] kind d = refl
 not_among (k ∷ ks) kind d = neither (is kind k) (is_among ks kind) (λ e. d.0 (same_number kind k (eqb-true _ _ e))) (not_among ks kind d.1)
 
-unless : (a b : Bool) → (a ≡ true → b ≡ true) → b ≡ false → a ≡ false
+pub unless : (a b : Bool) → (a ≡ true → b ≡ true) → b ≡ false → a ≡ false
 unless true b f h = let e = f refl in cc
 unless false b f h = refl
 

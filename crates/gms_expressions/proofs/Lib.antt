@@ -7,6 +7,7 @@ pub mod Nesting
 pub mod Chains
 pub mod Doors
 pub mod Signs
+pub mod Parts
 pub mod Entering
 pub mod Made
 pub mod Sums

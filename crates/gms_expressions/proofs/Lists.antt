@@ -16,7 +16,7 @@ use Rattle.gms_grammar.specs.GamsLookAhead.{look_ahead}
 use Rattle.gms_expressions.specs.declared.fault.SyntaxFaultOrMemory.{SyntaxFaultOrMemory}
 use Rattle.gms_expressions.specs.declared.reader.Reader.{Reader}
 use Rattle.gms_expressions.specs.declared.reader.Tables.{Tables}
-use Rattle.gms_expressions.specs.ExpressionTrees.{names_in, names_behind, inside as inside_of, arguments, more_arguments, expression}
+use Rattle.gms_expressions.specs.ExpressionTrees.{names_in, names_behind, arguments, more_arguments, expression}
 use Rattle.gms_expressions.specs.Nodes.{view}
 use Rattle.gms_expressions.specs.Readings.{Derivation, Refuses, Sense, IsGot, IsMeant, IsName, AreNames, IsNext, seen_from, walk_of}
 use Rattle.gms_expressions.proofs.Steps.{within_the, within_second, within_then, gives_both, refuses_second}
@@ -26,7 +26,7 @@ use Rattle.gms_expressions.proofs.Chains.{in_sense, parts_before, parts_before_p
 
 -- the names of a list, as a derivation means them
 abbrev pub names_whole : List ℕ → Sense → Derivation → List ℕ
-names_whole source sense tree = names_in source sense.names sense.labels sense.value (inside_of tree)
+names_whole source sense tree = names_in source sense.names sense.labels sense.value tree
 
 abbrev pub names_others : List ℕ → Sense → Derivation → List ℕ
 names_others source sense tree = names_behind source sense.names sense.labels sense.value tree

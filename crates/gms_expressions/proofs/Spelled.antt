@@ -18,7 +18,7 @@ use Rattle.gms_expressions.specs.declared.reader.Reader.{Reader}
 use Rattle.gms_expressions.specs.Readings.{IsNext}
 use Rattle.gms_expressions.proofs.TokenKinds.{same_number}
 
-abbrev is_named : Terminal → Bool
+abbrev pub is_named : Terminal → Bool
 is_named = is_among (Name ∷ Suffix ∷ [])
 
 symbol_named : (s : Sym) → is_named (terminal_of_symbol s) ≡ true → ⊥
@@ -29,7 +29,7 @@ text_named : (b : Bool) → is_named (cond b LongText Text) ≡ true → ⊥
 text_named true h = cc
 text_named false h = cc
 
-named_spelled : (k : Kind) (text : List ℕ) → is_named (terminal_of k text) ≡ true → IsSpelled k text → IsAscii text × (length text ≤ 63)
+pub named_spelled : (k : Kind) (text : List ℕ) → is_named (terminal_of k text) ≡ true → IsSpelled k text → IsAscii text × (length text ≤ 63)
 named_spelled kind.Word text h s = s
 named_spelled kind.Label text h s = cc
 named_spelled kind.Number text h s = cc

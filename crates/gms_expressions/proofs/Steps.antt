@@ -55,61 +55,53 @@ module _ {limit : ℕ} {source : List ℕ} where
       ((fault : SyntaxFault) → IsWrong limit source p w ts fault → IsWrong limit source q v us fault) → Refuses limit source q v us e
   by_cause r f g = record { why = λ fault is. elim (r.why fault is) [ inl s ↦ inl (f fault s) | inr s ↦ inr (g fault s) ] }
 
+  -- a token is wrong, or unexpected, within a larger part that goes over the same tokens
+  pub wrong_as : {p q : GamsPart} {w : Walk} {ts : List Seen} {fault : SyntaxFault} → (s : IsWrong limit source p w ts fault) → Takes productions look_ahead q ts (s.before ++ s.token ∷ []) s.behind → IsWrong limit source q w ts fault
+  wrong_as s t = record { before = s.before; token = s.token; behind = s.behind; takes = t; are_sound = s.are_sound; is_faulty = s.is_faulty; at = s.at }
+
+  pub stuck_as : {p q : GamsPart} {w : Walk} {ts : List Seen} {fault : SyntaxFault} → (s : IsStuck limit source p w ts fault) → Reads productions look_ahead q ts (stuck s.front s.rest) → IsStuck limit source q w ts fault
+  stuck_as s r = record { front = s.front; rest = s.rest; reads = r; are_sound = s.are_sound; error = s.error; at = s.at }
+
+  -- the same behind a part
+  wrong_behind : {p q r : GamsPart} {w v : Walk} {ts between : List Seen} {a : Derivation} {fault : SyntaxFault} → Gives limit source p w ts a v between → (s : IsWrong limit source q v between fault) →
+      Takes productions look_ahead r ts (yield a ++ (s.before ++ s.token ∷ [])) s.behind → IsWrong limit source r w ts fault
+  wrong_behind {r = r} {ts = ts} {a = a} {fault = fault} g s t = record {
+    before = yield a ++ s.before;
+    token = s.token;
+    behind = s.behind;
+    takes = subst (λ x. Takes productions look_ahead r ts x s.behind) (sym (append_assoc (yield a) s.before (s.token ∷ []))) t;
+    are_sound = onward g s.before s.are_sound;
+    is_faulty = subst (λ x. IsFaulty limit source x s.token fault.error) (walk_on g s.before) s.is_faulty;
+    at = s.at;
+  }
+
+  stuck_behind : {p q r : GamsPart} {w v : Walk} {ts between : List Seen} {a : Derivation} {fault : SyntaxFault} → Gives limit source p w ts a v between → (s : IsStuck limit source q v between fault) →
+      Reads productions look_ahead r ts (stuck (yield a ++ s.front) s.rest) → IsStuck limit source r w ts fault
+  stuck_behind {a = a} g s r = record { front = yield a ++ s.front; rest = s.rest; reads = r; are_sound = onward g s.front s.are_sound; error = s.error; at = s.at }
+
   pub refuses_first : {p q : GamsPart} {w : Walk} {ts : List Seen} {e : SyntaxFaultOrMemory} → Refuses limit source p w ts e → Refuses limit source (p · q) w ts e
-  refuses_first r = by_cause r
-      (λ fault s. record { front = s.front; rest = s.rest; reads = first_stuck s.reads; are_sound = s.are_sound; error = s.error; at = s.at })
-      (λ fault s. record { before = s.before; token = s.token; behind = s.behind; takes = takes_first s.takes; are_sound = s.are_sound; is_faulty = s.is_faulty; at = s.at })
+  refuses_first r = by_cause r (λ fault s. stuck_as s (first_stuck s.reads)) (λ fault s. wrong_as s (takes_first s.takes))
 
   pub refuses_second : {p q : GamsPart} {w v : Walk} {ts between : List Seen} {a : Derivation} {e : SyntaxFaultOrMemory} → Gives limit source p w ts a v between → Refuses limit source q v between e → Refuses limit source (p · q) w ts e
-  refuses_second {p = p} {q = q} {w = w} {ts = ts} {a = a} g r = by_cause r
-      (λ fault s. record { front = yield a ++ s.front; rest = s.rest; reads = second_stuck g.reads s.reads; are_sound = onward g s.front s.are_sound; error = s.error; at = s.at })
-      (λ fault s. record {
-        before = yield a ++ s.before;
-        token = s.token;
-        behind = s.behind;
-        takes = subst (λ x. Takes productions look_ahead (p · q) ts x s.behind) (sym (append_assoc (yield a) s.before (s.token ∷ []))) (takes_second g.reads s.takes);
-        are_sound = onward g s.before s.are_sound;
-        is_faulty = subst (λ x. IsFaulty limit source x s.token fault.error) (walk_on g s.before) s.is_faulty;
-        at = s.at;
-      })
+  refuses_second g r = by_cause r (λ fault s. stuck_behind g s (second_stuck g.reads s.reads)) (λ fault s. wrong_behind g s (takes_second g.reads s.takes))
 
   pub refuses_the : (n : Nonterminal) {w : Walk} {ts : List Seen} {e : SyntaxFaultOrMemory} → Refuses limit source (productions n) w ts e → Refuses limit source (the n) w ts e
-  refuses_the n r = by_cause r
-      (λ fault s. record { front = s.front; rest = s.rest; reads = entered_stuck s.reads; are_sound = s.are_sound; error = s.error; at = s.at })
-      (λ fault s. record { before = s.before; token = s.token; behind = s.behind; takes = takes_the s.takes; are_sound = s.are_sound; is_faulty = s.is_faulty; at = s.at })
+  refuses_the n r = by_cause r (λ fault s. stuck_as s (entered_stuck s.reads)) (λ fault s. wrong_as s (takes_the s.takes))
 
   pub refuses_left : {p q : GamsPart} {w : Walk} {ts : List Seen} {e : SyntaxFaultOrMemory} → leads productions look_ahead p ts ≡ true → Refuses limit source p w ts e → Refuses limit source (p ∣ q) w ts e
-  refuses_left h r = by_cause r
-      (λ fault s. record { front = s.front; rest = s.rest; reads = in_left_stuck h s.reads; are_sound = s.are_sound; error = s.error; at = s.at })
-      (λ fault s. record { before = s.before; token = s.token; behind = s.behind; takes = takes_left s.takes; are_sound = s.are_sound; is_faulty = s.is_faulty; at = s.at })
+  refuses_left h r = by_cause r (λ fault s. stuck_as s (in_left_stuck h s.reads)) (λ fault s. wrong_as s (takes_left s.takes))
 
   pub refuses_right : {p q : GamsPart} {w : Walk} {ts : List Seen} {e : SyntaxFaultOrMemory} → leads productions look_ahead p ts ≡ false → leads productions look_ahead q ts ≡ true → Refuses limit source q w ts e → Refuses limit source (p ∣ q) w ts e
-  refuses_right h k r = by_cause r
-      (λ fault s. record { front = s.front; rest = s.rest; reads = in_right_stuck h k s.reads; are_sound = s.are_sound; error = s.error; at = s.at })
-      (λ fault s. record { before = s.before; token = s.token; behind = s.behind; takes = takes_right s.takes; are_sound = s.are_sound; is_faulty = s.is_faulty; at = s.at })
+  refuses_right h k r = by_cause r (λ fault s. stuck_as s (in_right_stuck h k s.reads)) (λ fault s. wrong_as s (takes_right s.takes))
 
   pub refuses_some : {p : GamsPart} {w : Walk} {ts : List Seen} {e : SyntaxFaultOrMemory} → leads productions look_ahead p ts ≡ true → Refuses limit source p w ts e → Refuses limit source (opt p) w ts e
-  refuses_some h r = by_cause r
-      (λ fault s. record { front = s.front; rest = s.rest; reads = there_stuck h s.reads; are_sound = s.are_sound; error = s.error; at = s.at })
-      (λ fault s. record { before = s.before; token = s.token; behind = s.behind; takes = takes_opt s.takes; are_sound = s.are_sound; is_faulty = s.is_faulty; at = s.at })
+  refuses_some h r = by_cause r (λ fault s. stuck_as s (there_stuck h s.reads)) (λ fault s. wrong_as s (takes_opt s.takes))
 
   pub refuses_again : {p : GamsPart} {w : Walk} {ts : List Seen} {e : SyntaxFaultOrMemory} → leads productions look_ahead p ts ≡ true → Refuses limit source p w ts e → Refuses limit source (many p) w ts e
-  refuses_again h r = by_cause r
-      (λ fault s. record { front = s.front; rest = s.rest; reads = again_stuck h s.reads; are_sound = s.are_sound; error = s.error; at = s.at })
-      (λ fault s. record { before = s.before; token = s.token; behind = s.behind; takes = takes_many s.takes; are_sound = s.are_sound; is_faulty = s.is_faulty; at = s.at })
+  refuses_again h r = by_cause r (λ fault s. stuck_as s (again_stuck h s.reads)) (λ fault s. wrong_as s (takes_many s.takes))
 
   pub refuses_later : {p : GamsPart} {w v : Walk} {ts between : List Seen} {a : Derivation} {e : SyntaxFaultOrMemory} → leads productions look_ahead p ts ≡ true → Gives limit source p w ts a v between → Refuses limit source (many p) v between e → Refuses limit source (many p) w ts e
-  refuses_later {p = p} {w = w} {ts = ts} {a = a} l g r = by_cause r
-      (λ fault s. record { front = yield a ++ s.front; rest = s.rest; reads = later_stuck l g.reads s.reads; are_sound = onward g s.front s.are_sound; error = s.error; at = s.at })
-      (λ fault s. record {
-        before = yield a ++ s.before;
-        token = s.token;
-        behind = s.behind;
-        takes = subst (λ x. Takes productions look_ahead (many p) ts x s.behind) (sym (append_assoc (yield a) s.before (s.token ∷ []))) (takes_later g.reads s.takes);
-        are_sound = onward g s.before s.are_sound;
-        is_faulty = subst (λ x. IsFaulty limit source x s.token fault.error) (walk_on g s.before) s.is_faulty;
-        at = s.at;
-      })
+  refuses_later l g r = by_cause r (λ fault s. stuck_behind g s (later_stuck l g.reads s.reads)) (λ fault s. wrong_behind g s (takes_later g.reads s.takes))
 
   -- nothing of a part was read, since the next token is unexpected
   pub refuses_at : {p : GamsPart} {w : Walk} {ts : List Seen} {e : SyntaxFaultOrMemory} → Reads productions look_ahead p ts (stuck [] ts) →

@@ -144,7 +144,8 @@ constant_of terminal.NotAvailable text value = not_available
 constant_of terminal.YesNo text value = if is_word text (codes "yes") then yes else no
 constant_of _ text value = number value
 
--- In a source with these names and labels, where texts of numbers have these values. What is no tree of its part means `no`.
+-- In a source with these names and labels, where texts of numbers have these values. Each clause reads as the production of the part
+-- does; what is no tree of its part means `no`.
 module _ {N : Type 0} (source : List ℕ) (names labels : List (List ℕ)) (value : List ℕ → N) where
   -- the bytes of the token of a leaf
   abbrev pub text_in : Tree (Terminal × Token) → List ℕ
@@ -158,32 +159,32 @@ module _ {N : Type 0} (source : List ℕ) (names labels : List (List ℕ)) (valu
   abbrev pub label_in : Tree (Terminal × Token) → ℕ
   label_in tree = or_0 (place_of labels (unquoted (text_in tree)))
 
-  -- the suffix of a reference
+  -- the suffix of a reference: a dot and a word
   abbrev pub suffix_in : Tree (Terminal × Token) → Suffix
-  suffix_in (some dotted) = suffix_of (text_in (second_in (inside dotted)))
+  suffix_in (some (node (pair _ word))) = suffix_of (text_in word)
   suffix_in _ = suffix.None
 
   -- the names behind the first one in a list
   abbrev pub names_behind : Tree (Terminal × Token) → List ℕ
-  names_behind (more other others) = name_in (second_in other) ∷ names_behind others
+  names_behind (more (pair _ name) others) = name_in name ∷ names_behind others
   names_behind _ = []
 
   -- the names of a list
   abbrev pub names_in : Tree (Terminal × Token) → List ℕ
-  names_in list = name_in (first_in list) ∷ names_behind (second_in list)
+  names_in (node (pair first others)) = name_in first ∷ names_behind others
+  names_in _ = []
 
-  -- the sets of a control
+  -- the sets of a control: one, or those in parentheses
   abbrev pub sets_in : Tree (Terminal × Token) → List ℕ
-  sets_in (left tree) = name_in tree ∷ []
-  sets_in (right tree) = names_in (inside (first_in (second_in tree)))
+  sets_in (left name) = name_in name ∷ []
+  sets_in (right (pair _ (pair list _))) = names_in list
   sets_in _ = []
 
   -- `ord` or `card` of a set
   abbrev pub set_call : Tree (Terminal × Token) → Syntax N
-  set_call tree =
-      let word = first_in tree in
-      let name = name_in (first_in (second_in (second_in tree))) in
-      if is_word (text_in word) (codes "ord") then place_in_set (token_of word).at name else size_of_set (token_of word).at name
+  set_call (pair word (pair _ (pair name _))) =
+      if is_word (text_in word) (codes "ord") then place_in_set (token_of word).at (name_in name) else size_of_set (token_of word).at (name_in name)
+  set_call _ = no
 
   -- a number
   abbrev pub number_in : Tree (Terminal × Token) → Syntax N
@@ -200,102 +201,54 @@ module _ {N : Type 0} (source : List ℕ) (names labels : List (List ℕ)) (valu
   abbrev mutual
     -- an expression: parts joined by `or` and `xor`
     pub expression : Tree (Terminal × Token) → Syntax N
-    expression (node tree) = chosen_parts tree
+    expression (node (pair first others)) = or_alone (conjunction first) (λ rest. one_of (part (chosen false) (conjunction first) rest)) (choices others)
     expression _ = no
 
-    pub chosen_parts : Tree (Terminal × Token) → Syntax N
-    chosen_parts (pair first others) = or_alone (conjunction first) (λ rest. one_of (part (chosen false) (conjunction first) rest)) (choices others)
-    chosen_parts _ = no
-
     pub choices : Tree (Terminal × Token) → Parts N
-    choices (more other others) = choice other (choices others)
+    choices (more (pair word tree) others) = part (chosen (is_word (text_in word) (codes "xor"))) (conjunction tree) (choices others)
     choices _ = no_part
-
-    pub choice : Tree (Terminal × Token) → Parts N → Parts N
-    choice (pair word tree) rest = part (chosen (is_word (text_in word) (codes "xor"))) (conjunction tree) rest
-    choice _ rest = rest
 
     -- parts joined by `and`
     pub conjunction : Tree (Terminal × Token) → Syntax N
-    conjunction (node tree) = joined_parts tree
+    conjunction (node (pair first others)) = or_alone (negation first) (λ rest. all_of (part plain (negation first) rest)) (conjuncts others)
     conjunction _ = no
 
-    pub joined_parts : Tree (Terminal × Token) → Syntax N
-    joined_parts (pair first others) = or_alone (negation first) (λ rest. all_of (part plain (negation first) rest)) (conjuncts others)
-    joined_parts _ = no
-
     pub conjuncts : Tree (Terminal × Token) → Parts N
-    conjuncts (more other others) = conjunct other (conjuncts others)
+    conjuncts (more (pair _ tree) others) = part plain (negation tree) (conjuncts others)
     conjuncts _ = no_part
-
-    pub conjunct : Tree (Terminal × Token) → Parts N → Parts N
-    conjunct (pair word tree) rest = part plain (negation tree) rest
-    conjunct _ rest = rest
 
     -- a comparison, perhaps with `not`
     pub negation : Tree (Terminal × Token) → Syntax N
-    negation (node tree) = negation_in tree
+    negation (node (pair word tree)) = negated_by word (comparison tree)
     negation _ = no
-
-    pub negation_in : Tree (Terminal × Token) → Syntax N
-    negation_in (pair word tree) = negated_by word (comparison tree)
-    negation_in _ = no
 
     -- sums with relations between them
     pub comparison : Tree (Terminal × Token) → Syntax N
-    comparison (node tree) = compared_parts tree
+    comparison (node (pair first others)) = or_alone (sum_of first) (λ rest. relation (part (related rel_op.Eq) (sum_of first) rest)) (relations others)
     comparison _ = no
 
-    pub compared_parts : Tree (Terminal × Token) → Syntax N
-    compared_parts (pair first others) = or_alone (sum_of first) (λ rest. relation (part (related rel_op.Eq) (sum_of first) rest)) (relations others)
-    compared_parts _ = no
-
     pub relations : Tree (Terminal × Token) → Parts N
-    relations (more other others) = related_part other (relations others)
+    relations (more (pair word tree) others) = part (related (relation_of (token_of word).kind (text_in word))) (sum_of tree) (relations others)
     relations _ = no_part
-
-    pub related_part : Tree (Terminal × Token) → Parts N → Parts N
-    related_part (pair word tree) rest = part (related (relation_of (token_of word).kind (text_in word))) (sum_of tree) rest
-    related_part _ rest = rest
 
     -- a sum: the first part perhaps with a sign
     pub sum_of : Tree (Terminal × Token) → Syntax N
-    sum_of (node tree) = sum_in tree
+    sum_of (node (pair sign (pair first others))) =
+        or_alone (with_sign sign (product_of first)) (λ rest. sum (part (signed (place_in (pair sign first)) false) (with_sign sign (product_of first)) rest)) (terms others)
     sum_of _ = no
 
-    pub sum_in : Tree (Terminal × Token) → Syntax N
-    sum_in (pair sign tree) = signed_sum sign tree
-    sum_in _ = no
-
-    pub signed_sum : Tree (Terminal × Token) → Tree (Terminal × Token) → Syntax N
-    signed_sum sign (pair first others) =
-        or_alone (with_sign sign (product_of first)) (λ rest. sum (part (signed (place_in (pair sign first)) false) (with_sign sign (product_of first)) rest)) (terms others)
-    signed_sum sign _ = no
-
     pub terms : Tree (Terminal × Token) → Parts N
-    terms (more other others) = term other (terms others)
+    terms (more (pair sign tree) others) = part (signed (place_in tree) (is_minus (token_of sign).kind)) (product_of tree) (terms others)
     terms _ = no_part
-
-    pub term : Tree (Terminal × Token) → Parts N → Parts N
-    term (pair sign tree) rest = part (signed (place_in tree) (is_minus (token_of sign).kind)) (product_of tree) rest
-    term _ rest = rest
 
     -- a product: behind `*` and `/` a sign belongs to the factor
     pub product_of : Tree (Terminal × Token) → Syntax N
-    product_of (node tree) = product_in tree
+    product_of (node (pair first others)) = or_alone (power_of first) (λ rest. product (part (signed (place_in first) false) (power_of first) rest)) (factors others)
     product_of _ = no
 
-    pub product_in : Tree (Terminal × Token) → Syntax N
-    product_in (pair first others) = or_alone (power_of first) (λ rest. product (part (signed (place_in first) false) (power_of first) rest)) (factors others)
-    product_in _ = no
-
     pub factors : Tree (Terminal × Token) → Parts N
-    factors (more other others) = factor other (factors others)
+    factors (more (pair operator tree) others) = part (signed (place_in tree) (is_slash (token_of operator).kind)) (signed_power tree) (factors others)
     factors _ = no_part
-
-    pub factor : Tree (Terminal × Token) → Parts N → Parts N
-    factor (pair operator tree) rest = part (signed (place_in tree) (is_slash (token_of operator).kind)) (signed_power tree) rest
-    factor _ rest = rest
 
     -- a power, perhaps with a sign
     pub signed_power : Tree (Terminal × Token) → Syntax N
@@ -304,20 +257,12 @@ module _ {N : Type 0} (source : List ℕ) (names labels : List (List ℕ)) (valu
 
     -- a power: behind `**` a sign belongs to the exponent
     pub power_of : Tree (Terminal × Token) → Syntax N
-    power_of (node tree) = power_in tree
+    power_of (node (pair first others)) = or_alone (guarded_of first) (λ rest. power (part (placed (place_in first)) (guarded_of first) rest)) (exponents others)
     power_of _ = no
 
-    pub power_in : Tree (Terminal × Token) → Syntax N
-    power_in (pair first others) = or_alone (guarded_of first) (λ rest. power (part (placed (place_in first)) (guarded_of first) rest)) (exponents others)
-    power_in _ = no
-
     pub exponents : Tree (Terminal × Token) → Parts N
-    exponents (more other others) = exponent other (exponents others)
+    exponents (more (pair _ tree) others) = part (placed (place_in tree)) (signed_guarded tree) (exponents others)
     exponents _ = no_part
-
-    pub exponent : Tree (Terminal × Token) → Parts N → Parts N
-    exponent (pair operator tree) rest = part (placed (place_in tree)) (signed_guarded tree) rest
-    exponent _ rest = rest
 
     -- an operand under conditions, perhaps with a sign
     pub signed_guarded : Tree (Terminal × Token) → Syntax N
@@ -326,25 +271,17 @@ module _ {N : Type 0} (source : List ℕ) (names labels : List (List ℕ)) (valu
 
     -- an operand under conditions
     pub guarded_of : Tree (Terminal × Token) → Syntax N
-    guarded_of (node tree) = guarded_in tree
+    guarded_of (node (pair operand others)) = or_alone (primary operand) (guarded (primary operand)) (guards others)
     guarded_of _ = no
 
-    pub guarded_in : Tree (Terminal × Token) → Syntax N
-    guarded_in (pair operand others) = or_alone (primary operand) (guarded (primary operand)) (guards others)
-    guarded_in _ = no
-
     pub guards : Tree (Terminal × Token) → Parts N
-    guards (more other others) = part plain (condition other) (guards others)
+    guards (more tree others) = part plain (condition tree) (guards others)
     guards _ = no_part
 
     -- what stands behind a `$`
     pub condition : Tree (Terminal × Token) → Syntax N
-    condition (node tree) = condition_in tree
+    condition (node (pair _ tree)) = negated_primary tree
     condition _ = no
-
-    pub condition_in : Tree (Terminal × Token) → Syntax N
-    condition_in (pair dollar tree) = negated_primary tree
-    condition_in _ = no
 
     pub negated_primary : Tree (Terminal × Token) → Syntax N
     negated_primary (pair word tree) = negated_by word (primary tree)
@@ -352,190 +289,81 @@ module _ {N : Type 0} (source : List ℕ) (names labels : List (List ℕ)) (valu
 
     -- an operand: a constant, a reference, a call, a fold, or an expression in parentheses
     pub primary : Tree (Terminal × Token) → Syntax N
-    primary (node tree) = constant_or_other tree
+    primary (node (left tree)) = constant_in tree
+    primary (node (right (left tree))) = target tree
+    primary (node (right (right (left tree)))) = call_of tree
+    primary (node (right (right (right (left tree))))) = fold_of tree
+    primary (node (right (right (right (right tree))))) = bracketed_expression tree
     primary _ = no
 
-    pub constant_or_other : Tree (Terminal × Token) → Syntax N
-    constant_or_other (left tree) = constant_in tree
-    constant_or_other (right tree) = target_or_other tree
-    constant_or_other _ = no
-
-    pub target_or_other : Tree (Terminal × Token) → Syntax N
-    target_or_other (left tree) = target tree
-    target_or_other (right tree) = call_or_other tree
-    target_or_other _ = no
-
-    pub call_or_other : Tree (Terminal × Token) → Syntax N
-    call_or_other (left tree) = call_of tree
-    call_or_other (right tree) = fold_or_other tree
-    call_or_other _ = no
-
-    pub fold_or_other : Tree (Terminal × Token) → Syntax N
-    fold_or_other (left tree) = fold_of tree
-    fold_or_other (right tree) = bracketed_expression tree
-    fold_or_other _ = no
-
     pub bracketed_expression : Tree (Terminal × Token) → Syntax N
-    bracketed_expression (pair opening tree) = closed_expression tree
+    bracketed_expression (pair _ (pair tree _)) = expression tree
     bracketed_expression _ = no
-
-    pub closed_expression : Tree (Terminal × Token) → Syntax N
-    closed_expression (pair tree closing) = expression tree
-    closed_expression _ = no
 
     -- a call of a function, or of `ord` or `card`
     pub call_of : Tree (Terminal × Token) → Syntax N
-    call_of (node tree) = either_call tree
+    call_of (node (left tree)) = function_call tree
+    call_of (node (right tree)) = set_call tree
     call_of _ = no
-
-    pub either_call : Tree (Terminal × Token) → Syntax N
-    either_call (left tree) = function_call tree
-    either_call (right tree) = set_call tree
-    either_call _ = no
 
     pub function_call : Tree (Terminal × Token) → Syntax N
     function_call (pair word tree) = call (token_of word).at (function_of (text_in word)) (bracketed_arguments tree)
     function_call _ = no
 
     pub bracketed_arguments : Tree (Terminal × Token) → Parts N
-    bracketed_arguments (pair opening tree) = closed_arguments tree
+    bracketed_arguments (pair _ (pair list _)) = arguments list
     bracketed_arguments _ = no_part
 
-    pub closed_arguments : Tree (Terminal × Token) → Parts N
-    closed_arguments (pair tree closing) = arguments tree
-    closed_arguments _ = no_part
-
     pub arguments : Tree (Terminal × Token) → Parts N
-    arguments (node tree) = all_arguments tree
+    arguments (node (pair first others)) = part plain (expression first) (more_arguments others)
     arguments _ = no_part
 
-    pub all_arguments : Tree (Terminal × Token) → Parts N
-    all_arguments (pair first others) = part plain (expression first) (more_arguments others)
-    all_arguments _ = no_part
-
     pub more_arguments : Tree (Terminal × Token) → Parts N
-    more_arguments (more other others) = next_argument other (more_arguments others)
+    more_arguments (more (pair _ tree) others) = part plain (expression tree) (more_arguments others)
     more_arguments _ = no_part
-
-    pub next_argument : Tree (Terminal × Token) → Parts N → Parts N
-    next_argument (pair comma tree) rest = part plain (expression tree) rest
-    next_argument _ rest = rest
 
     -- a fold
     pub fold_of : Tree (Terminal × Token) → Syntax N
-    fold_of (node tree) = fold_in tree
+    fold_of (node (pair word (pair _ (pair (pair sets (pair _ body)) _)))) =
+        fold_over (token_of word).at (fold_op_of (text_in word)) (control sets) (expression body)
     fold_of _ = no
-
-    pub fold_in : Tree (Terminal × Token) → Syntax N
-    fold_in (pair word tree) = bracketed_fold (fold_over (token_of word).at (fold_op_of (text_in word))) tree
-    fold_in _ = no
-
-    pub bracketed_fold : (Control N → Syntax N → Syntax N) → Tree (Terminal × Token) → Syntax N
-    bracketed_fold make (pair opening tree) = closed_fold make tree
-    bracketed_fold make _ = no
-
-    pub closed_fold : (Control N → Syntax N → Syntax N) → Tree (Terminal × Token) → Syntax N
-    closed_fold make (pair tree closing) = controlled make tree
-    closed_fold make _ = no
-
-    pub controlled : (Control N → Syntax N → Syntax N) → Tree (Terminal × Token) → Syntax N
-    controlled make (pair sets tree) = make (control sets) (fold_body tree)
-    controlled make _ = no
-
-    pub fold_body : Tree (Terminal × Token) → Syntax N
-    fold_body (pair comma tree) = expression tree
-    fold_body _ = no
 
     -- a reference, or what is assigned
     pub target : Tree (Terminal × Token) → Syntax N
-    target (node tree) = target_in tree
+    target (node (pair name (pair dotted bracketed))) = reference (token_of name).at (name_in name) (suffix_in dotted) (optional_indices bracketed)
     target _ = no
 
-    pub target_in : Tree (Terminal × Token) → Syntax N
-    target_in (pair word tree) = reference (token_of word).at (name_in word) (suffix_in (first_in tree)) (target_indices tree)
-    target_in _ = no
-
-    pub target_indices : Tree (Terminal × Token) → Indices N
-    target_indices (pair dotted tree) = optional_indices tree
-    target_indices _ = no_index
-
     pub optional_indices : Tree (Terminal × Token) → Indices N
-    optional_indices (some tree) = bracketed_indices tree
+    optional_indices (some (pair _ (pair list _))) = indices list
     optional_indices _ = no_index
 
-    pub bracketed_indices : Tree (Terminal × Token) → Indices N
-    bracketed_indices (pair opening tree) = closed_indices tree
-    bracketed_indices _ = no_index
-
-    pub closed_indices : Tree (Terminal × Token) → Indices N
-    closed_indices (pair tree closing) = indices tree
-    closed_indices _ = no_index
-
     pub indices : Tree (Terminal × Token) → Indices N
-    indices (node tree) = all_indices tree
+    indices (node (pair first others)) = index first (more_indices others)
     indices _ = no_index
 
-    pub all_indices : Tree (Terminal × Token) → Indices N
-    all_indices (pair first others) = index first (more_indices others)
-    all_indices _ = no_index
-
     pub more_indices : Tree (Terminal × Token) → Indices N
-    more_indices (more other others) = next_index other (more_indices others)
+    more_indices (more (pair _ tree) others) = index tree (more_indices others)
     more_indices _ = no_index
-
-    pub next_index : Tree (Terminal × Token) → Indices N → Indices N
-    next_index (pair comma tree) rest = index tree rest
-    next_index _ rest = rest
 
     -- an index before others: a label, or a set, perhaps with a lag
     pub index : Tree (Terminal × Token) → Indices N → Indices N
-    index (node tree) rest = label_or_set tree rest
+    index (node (left text)) rest = label (label_in text) rest
+    index (node (right (pair name none))) rest = set (name_in name) rest
+    index (node (right (pair name (some tree)))) rest = lag (name_in name) tree rest
     index _ rest = rest
 
-    pub label_or_set : Tree (Terminal × Token) → Indices N → Indices N
-    label_or_set (left tree) rest = label (label_in tree) rest
-    label_or_set (right tree) rest = set_index tree rest
-    label_or_set _ rest = rest
-
-    pub set_index : Tree (Terminal × Token) → Indices N → Indices N
-    set_index (pair word tree) rest = with_lag (name_in word) tree rest
-    set_index _ rest = rest
-
-    pub with_lag : ℕ → Tree (Terminal × Token) → Indices N → Indices N
-    with_lag name (some tree) rest = lag name tree rest
-    with_lag name _ rest = set name rest
-
     pub lag : ℕ → Tree (Terminal × Token) → Indices N → Indices N
-    lag name (node tree) rest = lag_in name tree rest
+    lag name (node (pair sign amount)) rest = lagged name (lag_op_of (token_of sign).kind) (place_in amount) (lag_amount amount) rest
     lag name _ rest = rest
 
-    pub lag_in : ℕ → Tree (Terminal × Token) → Indices N → Indices N
-    lag_in name (pair sign amount) rest = lagged name (lag_op_of (token_of sign).kind) (place_in amount) (lag_amount amount) rest
-    lag_in name _ rest = rest
-
     pub lag_amount : Tree (Terminal × Token) → Syntax N
-    lag_amount (node tree) = number_or_other tree
+    lag_amount (node (left tree)) = number_in tree
+    lag_amount (node (right (left tree))) = scalar tree
+    lag_amount (node (right (right tree))) = bracketed_expression tree
     lag_amount _ = no
-
-    pub number_or_other : Tree (Terminal × Token) → Syntax N
-    number_or_other (left tree) = number_in tree
-    number_or_other (right tree) = scalar_or_other tree
-    number_or_other _ = no
-
-    pub scalar_or_other : Tree (Terminal × Token) → Syntax N
-    scalar_or_other (left tree) = scalar tree
-    scalar_or_other (right tree) = bracketed_expression tree
-    scalar_or_other _ = no
 
     -- the sets of a fold or a loop, and the condition
     pub control : Tree (Terminal × Token) → Control N
-    control (node tree) = control_in tree
+    control (node (pair sets none)) = over (sets_in sets)
+    control (node (pair sets (some tree))) = over_where (sets_in sets) (condition tree)
     control _ = over []
-
-    pub control_in : Tree (Terminal × Token) → Control N
-    control_in (pair sets tree) = with_condition (sets_in sets) tree
-    control_in _ = over []
-
-    pub with_condition : List ℕ → Tree (Terminal × Token) → Control N
-    with_condition sets (some tree) = over_where sets (condition tree)
-    with_condition sets _ = over sets

@@ -1,17 +1,12 @@
--- What an expression of a program shows, and nodes made of a first part and others.
+-- What an expression of a program shows.
 use Rattle.std.specs.Prelude.{Bool, List, map}
 use Rattle.gq_number.specs.Number.{Number}
 use Rattle.gms_labels.specs.declared.place.Place.{Place}
 use Rattle.gms_ast.specs.declared.expression.Expr.{Expr}
 use Rattle.gms_ast.specs.declared.expression.RelOp.{RelOp}
-use Rattle.gms_ast.specs.Trees.{Mark, plain, placed, signed, related, chosen, Tree as Syntax, Parts, part}
-use Rattle.gms_ast.specs.TreeView.{tree_of, parts_of}
-use Rattle.gms_expressions.specs.ExpressionTrees.{or_alone}
+use Rattle.gms_ast.specs.Trees.{Mark, plain, placed, signed, related, chosen, Tree as Syntax}
+use Rattle.gms_ast.specs.TreeView.{tree_of}
 use Rattle.gms_ast.specs.Numbers.{in_numbers}
-
--- a first part alone, or the node of it and others
-abbrev pub joined : {N : Type 0} → (Parts N → Syntax N) → Mark → Syntax N → List (Mark × Syntax N) → Syntax N
-joined node mark first others = or_alone first (λ rest. node (part mark first rest)) (parts_of others)
 
 module _ {F : Type 0} (value : F → Number) where
   -- the tree over numbers that an expression shows

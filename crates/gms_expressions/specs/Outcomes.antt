@@ -56,6 +56,11 @@ abbrev pub walk_behind : List ℕ → Walk → List (Terminal × Token) → Walk
 walk_behind source walk [] = walk
 walk_behind source walk (token ∷ tokens) = walk_behind source (walk_after source walk token) tokens
 
+-- the kind of the first of the tokens, or of what stands behind them
+abbrev pub kind_ahead : List (Terminal × Token) → Terminal → Terminal
+kind_ahead [] ahead = ahead
+kind_ahead (token ∷ tokens) ahead = token.0
+
 -- where the next of the tokens stands, or the end of the source
 abbrev pub next_place : List ℕ → List (Terminal × Token) → Place
 next_place source [] = place_of source (length source)

@@ -34,9 +34,9 @@ use Rattle.gms_expressions.specs.declared.reader.Reader.{Reader}
 use Rattle.gms_expressions.specs.declared.reader.Tables.{Tables}
 use Rattle.gms_expressions.specs.declared.grammar.Inner.{Inner}
 use Rattle.gms_expressions.specs.declared.grammar.Inner.TheVariants as inner_part
-use Rattle.gms_expressions.specs.ExpressionTrees.{expression, condition, control, bracketed_arguments, optional_indices, target as target_of, index as index_of, lag as lag_of, suffix_in, name_in, label_in, names_in, sets_in, inside as inside_of, token_of, with_sign, negated_by}
+use Rattle.gms_expressions.specs.ExpressionTrees.{expression, condition, control, bracketed_arguments, optional_indices, target as target_of, index as index_of, lag as lag_of, suffix_in, name_in, label_in, names_in, sets_in, token_of, with_sign, negated_by}
 use Rattle.gms_expressions.specs.Words.{terminal_of}
-use Rattle.gms_expressions.specs.Outcomes.{Walk, walk_behind, seen, AreSound, IsFaulty, unexpected_error, next_place}
+use Rattle.gms_expressions.specs.Outcomes.{kind_ahead, Walk, walk_behind, seen, AreSound, IsFaulty, unexpected_error, next_place}
 use Rattle.gms_ast.specs.Numbers.{indices_in_numbers, control_in_numbers}
 use Rattle.gms_expressions.specs.Valuations.{IsValuation}
 use Rattle.gms_expressions.specs.Nodes.{view, plain_views}
@@ -101,8 +101,7 @@ seen_from reader at = seen reader.source.now (drop at reader.tokens.now)
 
 -- the kind of the first of the tokens, or the end
 abbrev pub kind_of : List Seen → Terminal
-kind_of [] = End
-kind_of (token ∷ tokens) = token.0
+kind_of tokens = kind_ahead tokens End
 
 -- so many parentheses are open, and these are the tables
 abbrev pub walk_of : ℕ → Tables → Walk
@@ -215,7 +214,7 @@ IsLabel source sense tree label = label ≡ label_in source sense.names sense.la
 
 -- the numbers of the names of a list
 abbrev pub AreNames : List ℕ → Sense → Derivation → Vec ℕ Global → Type 0
-AreNames source sense tree names = names.items ≡ names_in source sense.names sense.labels sense.value (inside_of tree)
+AreNames source sense tree names = names.items ≡ names_in source sense.names sense.labels sense.value tree
 
 -- the numbers of the sets of a control
 abbrev pub AreSets : List ℕ → Sense → Derivation → Vec ℕ Global → Type 0

@@ -30,9 +30,10 @@ fn mark_assigned<F: ExactField>(statements: &[Stmt<F>], store: &Store<F>, marks:
     }
 }
 
-/// Marks the set that a statement assigns, or those that its body does.
+/// Marks the set that a statement assigns, or those that its body does (GAMS User's Guide, "Dynamic Sets"), an alias as its
+/// set in a state.
 #[cycle(assigned)]
-fn mark_statement<F: ExactField>(statement: &Stmt<F>, store: &Store<F>, marks: &mut Marks)
+pub fn mark_statement<F: ExactField>(statement: &Stmt<F>, store: &Store<F>, marks: &mut Marks)
     ensures { marks.new ≡ with_marks marks.old (map (base_of store.now) (assigned statement.now)) }
 {
     match &statement.act {

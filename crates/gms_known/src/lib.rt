@@ -9,4 +9,6 @@ mod model;
 mod order;
 
 pub use data::{Data, are_ascending, positions, put_data};
+pub use dynamic::{dynamic_sets, mark_statement};
 pub use known::Known;
+pub use marks::Marks;

@@ -1,44 +1,21 @@
--- That the texts of numbers compute: a numeral is the decimal digits, and so are the rounded and the exact text.
+-- That the rounded texts of numbers compute.
 use Rattle.std.proofs.Common.{◌≡◌, ◌≢◌, ℕ, zero, suc, ◌+◌, ◌*◌, ◌/◌, ◌%◌, ◌-◌, ◌^◌, ◌<◌, ◌≤◌, ◌==◌, Bool, true, false, List, [], ◌∷◌, ◌++◌, length, refl, sym, ap, ap₂, ◌∙◌, subst, arith, inl, inr, codes, decimal, ℤ, pos, negsuc, neg_ℤ, nat_abs, get_or, replicate, add-one, if◌then◌else◌, length-append, append_assoc, mul-le-mul_right, ◌&&◌, nat_lt}
-use Rattle.std.proofs.lemmas.List.{append-nil, length-replicate}
+use Rattle.std.proofs.lemmas.List.{length-replicate}
 use Rattle.std.specs.Int.RustNames.{int_lt}
 use Rattle.gq_text.specs.Appends.{sign_text}
 use Rattle.std.proofs.Math.Nat.{div-le_self, div-le_of_le-mul, mod-lt, mod-le, mul-le-mul_left, pow-le-pow_right}
 use Rattle.std.proofs.lemmas.Bool.Decides.{nat_tests}
-use Rattle.std.proofs.lemmas.Fmt.{decimal_by_steps_wide, length-decimal-le_wide}
+use Rattle.std.proofs.lemmas.Fmt.{length-decimal-le_wide}
 use Rattle.gq_number.specs.Number.{Number, whole, ◌*ℚ◌, rounded}
 use Rattle.gq_field.specs.Fits.{fits}
-use Rattle.gq_text.specs.Numeral.{AreDigits, spelled, IsNumeral, WithSign}
-use Rattle.gq_text.specs.Shown.{with_point, IsFixed, IsFixedSigned, IsRoundedText, IsExactText}
-use Rattle.gq_text.proofs.Numerals.{spelled-append, spelled_push, AreDigits-append}
+use Rattle.gq_text.specs.Numeral.{AreDigits, spelled, WithSign}
+use Rattle.gq_text.specs.Shown.{with_point, IsFixed, IsFixedSigned, IsRoundedText}
+use Rattle.gq_text.proofs.Numerals.{spelled-append, AreDigits-append}
 use Rattle.gq_text.proofs.Literals.{tens_above}
 use Rattle.gq_text.proofs.Showings.{with_sign_of, units, rounded_units, WithSign_from}
-use Rattle.gq_text.proofs.Texts.{one_rounded, one_exact}
-use Rattle.gms_list.specs.Amounts.{in_places, fixed_text, signed_text, rounded_text, whole_text, exact_text}
-
--- ---- numerals
-
-one_digit : (n : ℕ) → n < 10 → IsNumeral n ((48 + n) ∷ [])
-one_digit n h = record { digits = (omega arith, omega arith, tt); some = omega arith; first = λ more. absurd (omega (arith, more)); spells = omega arith }
-
-first_of : (n b : ℕ) (bs : List ℕ) → 10 ≤ n → IsNumeral (n / 10) (b ∷ bs) → b ≢ 48
-first_of n b [] h m e = absurd (let s = m.spells in omega (arith, s, e, h))
-first_of n b (c ∷ bs) h m e = m.first (omega arith) e
-
-more_digits : (n : ℕ) (ds : List ℕ) → 10 ≤ n → IsNumeral (n / 10) ds → IsNumeral n (ds ++ ((48 + n % 10) ∷ []))
-more_digits n [] h m = absurd (let s = m.some in omega (arith, s))
-more_digits n (b ∷ bs) h m =
-    let low : n % 10 < 10 = mod-lt n {m = 10} (omega arith) in
-    record {
-      digits = AreDigits-append (b ∷ bs) ((48 + n % 10) ∷ []) m.digits (omega arith, omega arith, tt);
-      some = omega arith;
-      first = λ more. first_of n b bs h m;
-      spells = spelled_push (b ∷ bs) (48 + n % 10) ∙ ap (λ k. k * 10 + (48 + n % 10 - 48)) m.spells ∙ omega arith;
-    }
-
--- the decimal digits of a number are its numeral
-pub numeral_is : (n : ℕ) → n < 10 ^ 64 → IsNumeral n (decimal n)
-numeral_is n h = decimal_by_steps_wide (λ k ds. IsNumeral k ds) one_digit more_digits n h
+use Rattle.gq_text.proofs.Texts.{one_rounded}
+use Rattle.gq_text.proofs.Exacts.{numeral_is, fitting, either}
+use Rattle.gms_list.specs.Amounts.{in_places, fixed_text, signed_text, rounded_text}
 
 -- ---- decimals behind a point
 
@@ -101,10 +78,6 @@ fixed_with d n e h =
       text_is = ap (λ t. decimal (n / 10 ^ d) ++ t) (sym (tail_of d (in_places d (n % 10 ^ d)) false e) ∙ point_behind (in_places d (n % 10 ^ d)) (let l = p.places in omega (arith, l)));
     }
 
-either : (b : Bool) (P : Type 0) → (b ≡ true → P) → (b ≡ false → P) → P
-either true P t f = t refl
-either false P t f = f refl
-
 fixed_is : (d n : ℕ) → n < 10 ^ 64 → IsFixed d n (fixed_text d n)
 fixed_is d n h = either (d == 0) (IsFixed d n (fixed_text d n)) (λ e. fixed_without d n e h) (λ e. fixed_with d n e h)
 
@@ -143,38 +116,8 @@ rounded_few d x h small =
     let top : nat_abs x.numerator * 10 ^ d ≤ 2 ^ 127 * 10 ^ 8 = mul-le-mul-both (nat_abs x.numerator) (2 ^ 127) (10 ^ d) (10 ^ 8) (omega (arith, small)) (tens_few d h) in
     rw e (omega (arith, few, top))
 
--- a number that fits under a limit
-record Fitting (limit : ℕ) (x : Number) : Type 0 where
-  pub numerator : nat_abs x.numerator ≤ limit
-  pub denominator : x.denominator ≤ limit
-
-fitting : (limit : ℕ) (x : Number) → fits limit x ≡ true → Fitting limit x
-fitting limit x h = record { numerator = grind (arith, nat_tests); denominator = grind (arith, nat_tests) }
-
 -- the rounded text of a number that fits is the one that computes
 pub rounded_is : (limit d : ℕ) (x : Number) (text : List ℕ) → d ≤ 8 → limit < 2 ^ 127 → fits limit x ≡ true → IsRoundedText d x text → text ≡ rounded_text d x
 rounded_is limit d x text h l f is =
     let small : nat_abs x.numerator < 2 ^ 127 = let n = (fitting limit x f).numerator in omega (arith, n, l) in
     one_rounded d x text (rounded_text d x) is (signed_is d (rounded (x *ℚ whole (pos (10 ^ d)))) (rounded_few d x h small))
-
--- ---- exact numbers
-
-whole_is : (z : ℤ) → nat_abs z < 10 ^ 64 → WithSign IsNumeral z (whole_text z)
-whole_is (pos n) h = numeral_is n h
-whole_is (negsuc n) h = (decimal (n + 1), refl, subst (λ k. IsNumeral (suc n) (decimal k)) (sym (add-one n)) (numeral_is (suc n) h))
-
-exact_tail : (x : Number) (b : Bool) → (x.denominator == 1) ≡ b → whole_text x.numerator ++ (if b then [] else codes "/" ++ decimal x.denominator) ≡ exact_text x
-exact_tail x b e = ap (λ c. whole_text x.numerator ++ (if c then [] else codes "/" ++ decimal x.denominator)) (sym e)
-
-exact_shown : (x : Number) → nat_abs x.numerator < 10 ^ 64 → x.denominator < 10 ^ 64 → IsExactText x (exact_text x)
-exact_shown x h k =
-    either (x.denominator == 1) (IsExactText x (exact_text x))
-    (λ e. inl (grind (arith, nat_tests), subst (WithSign IsNumeral x.numerator) (sym (append-nil (whole_text x.numerator)) ∙ exact_tail x true e) (whole_is x.numerator h)))
-    (λ e. inr (grind (arith, nat_tests), (whole_text x.numerator, decimal x.denominator, sym (exact_tail x false e) ∙ sym (append_assoc (whole_text x.numerator) (codes "/") (decimal x.denominator)), whole_is x.numerator h, numeral_is x.denominator k)))
-
--- the exact text of a number that fits is the one that computes
-pub exact_is : (limit : ℕ) (x : Number) (text : List ℕ) → limit < 2 ^ 127 → fits limit x ≡ true → IsExactText x text → text ≡ exact_text x
-exact_is limit x text l f is =
-    let n = (fitting limit x f).numerator in
-    let d = (fitting limit x f).denominator in
-    one_exact x text (exact_text x) is (exact_shown x (omega (arith, n, l)) (omega (arith, d, l)))

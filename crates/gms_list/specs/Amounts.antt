@@ -23,12 +23,3 @@ signed_text decimals (negsuc n) = codes "-" ++ fixed_text decimals (n + 1)
 -- a number rounded to so many decimals, half away from zero
 abbrev pub rounded_text : ℕ → Number → List ℕ
 rounded_text decimals x = signed_text decimals (rounded (x *ℚ whole (pos (10 ^ decimals))))
-
--- a whole number
-abbrev pub whole_text : ℤ → List ℕ
-whole_text (pos n) = decimal n
-whole_text (negsuc n) = codes "-" ++ decimal (n + 1)
-
--- a number exactly: its numerator, and where the denominator is not 1 `/` and the denominator
-abbrev pub exact_text : Number → List ℕ
-exact_text x = whole_text x.numerator ++ (if x.denominator == 1 then [] else codes "/" ++ decimal x.denominator)

@@ -21,7 +21,8 @@ use Rattle.lp_core.specs.declared.program.Sense.{Sense}
 use Rattle.lp_core.specs.declared.program.Sense.TheVariants as sense
 use Rattle.lp_core.specs.DualBound.{row_lower, row_upper, objective_costs, no_costs}
 use Rattle.lp_form.specs.declared.key.Key.{Key}
-use Rattle.gms_list.specs.Amounts.{line_of, rounded_text, exact_text}
+use Rattle.gq_text.specs.ExactText.{exact_text}
+use Rattle.gms_list.specs.Amounts.{line_of, rounded_text}
 
 -- ---- numbers
 

@@ -1,6 +1,6 @@
 //! Numbers of a solve as they stand in a listing: with three decimals, or exactly.
 ghost use Rattle.std.specs.Prelude.{◌≡◌, option_map};
-ghost use Rattle.gms_list.specs.Amounts.{exact_text};
+ghost use Rattle.gq_text.specs.ExactText.{exact_text};
 ghost use Rattle.gms_list.specs.SolveText.{amount, bound_text};
 
 use gq_field::ExactField;

@@ -5,7 +5,8 @@ ghost use Rattle.lp_core.specs.Numbers.{lp_numbers, column_numbers, end_numbers}
 ghost use Rattle.lp_check.specs.BoundSteps.{bound_of};
 ghost use Rattle.lp_core.specs.Feasible.{bound_value};
 ghost use Rattle.lp_core.specs.WellFormed.{IsWellFormed};
-ghost use Rattle.gms_list.specs.Amounts.{line_of, exact_text};
+ghost use Rattle.gq_text.specs.ExactText.{exact_text};
+ghost use Rattle.gms_list.specs.Amounts.{line_of};
 ghost use Rattle.gms_list.specs.Conditions.{IsProved};
 ghost use Rattle.gms_list.specs.SolveText.{number_at, number_line, column_numbers as column_lines, row_numbers as row_lines, bound_lines, crossed_text, crossed_line, infeasible_text, step_text, proof_text};
 

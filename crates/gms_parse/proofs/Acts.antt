@@ -32,7 +32,7 @@ use Rattle.gms_grammar.specs.GamsGrammar.{Attribute, Condition, Shown, ShownList
 use Rattle.gms_grammar.specs.GamsLookAhead.{look_ahead}
 use Rattle.gms_grammar.proofs.Basics.{and_both, and_second, or_right}
 use Rattle.gms_grammar.proofs.Checks.{left_and}
-use Rattle.gms_expressions.specs.ExpressionTrees.{unquoted, suffix_of, inside as inside_of, first_in, second_in}
+use Rattle.gms_expressions.specs.ExpressionTrees.{unquoted, suffix_of, first_in, second_in}
 use Rattle.gms_expressions.specs.Outcomes.{open_after}
 use Rattle.gms_expressions.proofs.TokenKinds.{also, same_test}
 use Rattle.gms_parse.specs.declared.fault.SourceFault.{SourceFault}
@@ -41,7 +41,8 @@ use Rattle.gms_parse.specs.declared.reader.Reader.{Reader}
 use Rattle.gms_parse.specs.declared.reader.Tables.{Tables}
 use Rattle.gms_parse.specs.DataLists.{listed_in, optional_in}
 use Rattle.gms_parse.specs.Statements.{alias_act, display_act, abort_act, option_act, solve_act, shown_in, shown_list, is_maximizing, setting_in as setting_of}
-use Rattle.gms_parse.specs.Walks.{Seen, Walk, all_entered, is_name, new_labels, walk_after, IsFaulty, deep, out_of_range, many_names, many_labels, in_table, without_lines}
+use Rattle.gms_table.specs.WordLabels.{all_entered}
+use Rattle.gms_parse.specs.Walks.{Seen, Walk, is_name, new_labels, walk_after, IsFaulty, deep, out_of_range, many_names, many_labels, in_table, without_lines}
 use Rattle.gms_parse.specs.Readings.{Derivation, GamsPart, Gives, Refuses, Sense, Holds, Has, Starts, Stays, StaysOpen, Ends, Nameless, IsNext, IsLacking, IsOpened, IsGot, IsValue, IsTooLarge, seen_from, kind_of}
 use Rattle.gms_parse.specs.Meanings.{IsNamed, IsWord, IsMethod, IsObjective, IsSuffix, IsShown, AreShown, IsCondition, IsSetting, IsAct, act_view}
 use Rattle.gms_parse.proofs.TokenKinds.{begins, leads_alike, led_first, unled_next}
@@ -241,8 +242,8 @@ pub symbol_refused : {limit : ℕ} {source : List ℕ} {w v : Walk} {ts us : Lis
     Refuses limit source (the Shown) w ts e
 symbol_refused {ts = ts} unled g r = refuses_the Shown (refuses_right unled (led_first (is_among (Name ∷ Suffix ∷ [])) (opt (the Attribute)) ts (led_given g)) (refuses_second g r))
 
-shows_meant : (source : List ℕ) (sense : Sense) (tree : Derivation) (xs : List Show) → AreAll (IsShown source) sense tree xs → xs ≡ listed_in (λ item. shown_in source sense.names sense.labels sense.value (inside_of item)) tree
-shows_meant source sense tree xs h = sym (map-id xs) ∙ all_meant (IsShown source) (λ x. x) (λ item. shown_in source sense.names sense.labels sense.value (inside_of item)) sense (λ t x k. k) tree xs h
+shows_meant : (source : List ℕ) (sense : Sense) (tree : Derivation) (xs : List Show) → AreAll (IsShown source) sense tree xs → xs ≡ listed_in (shown_in source sense.names sense.labels sense.value) tree
+shows_meant source sense tree xs h = sym (map-id xs) ∙ all_meant (IsShown source) (λ x. x) (shown_in source sense.names sense.labels sense.value) sense (λ t x k. k) tree xs h
 
 -- all that is shown
 pub shown_list_got : {limit : ℕ} {reader : Reader} {at next : ℕ} {new : Tables} {w : Walk} {items : List Show} → IsGot limit (AreAll (IsShown reader.source.now)) (Stays reader new w) (list_of (is Comma) (the Shown)) reader at new w items next →

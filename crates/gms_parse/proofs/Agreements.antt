@@ -14,7 +14,8 @@ use Rattle.gms_expressions.proofs.TokenKinds.{also}
 use Rattle.gms_parse.specs.declared.fault.SourceFault.{SourceFault}
 use Rattle.gms_parse.specs.Faults.{error_of_syntax}
 use Rattle.gms_parse.specs.Tables.{labels_of_lines}
-use Rattle.gms_parse.specs.Walks.{Seen, Walk, kind_ahead, last_kind, is_index, is_name, LacksRoom, all_entered, range_start, list_labels, lines_with, new_labels, walk_after, walk_behind, IsFaulty, deep, out_of_range, many_names, many_labels, in_table, without_lines, AreSound}
+use Rattle.gms_table.specs.WordLabels.{all_entered}
+use Rattle.gms_parse.specs.Walks.{Seen, Walk, kind_ahead, last_kind, is_index, is_name, LacksRoom, range_start, list_labels, lines_with, new_labels, walk_after, walk_behind, IsFaulty, deep, out_of_range, many_names, many_labels, in_table, without_lines, AreSound}
 use Rattle.gms_parse.specs.Readings.{Optionless, Tableless}
 use Rattle.std.proofs.lemmas.Bool.{not-true, eqb-true}
 use Rattle.gms_grammar.proofs.Basics.{not_true}

@@ -1,5 +1,5 @@
 -- Statements that declare names.
-use Rattle.std.proofs.Common.{◌≡◌, ℕ, Bool, true, false, not, List, [], ◌∷◌, map, refl, ap, ◌∙◌, arith}
+use Rattle.std.proofs.Common.{◌≡◌, ℕ, Bool, true, false, not, List, [], ◌∷◌, map, refl, ap, ◌∙◌, subst, arith}
 use Rattle.std.proofs.lemmas.Bool.{not-true}
 use Rattle.gq_number.specs.Number.{Number as Rational}
 use Rattle.gms_ast.specs.declared.declaration.Decl.{Decl}
@@ -28,11 +28,11 @@ use Rattle.gms_parse.specs.declared.reader.Tables.{Tables}
 use Rattle.gms_parse.specs.Declarations.{items_in, variable_kind, variable_act}
 use Rattle.gms_parse.specs.Walks.{Seen, Walk}
 use Rattle.gms_parse.specs.Readings.{Derivation, GamsPart, Gives, Refuses, IsGot, Holds, Starts, Stays, Ends, Tableless, IsNext, seen_from}
-use Rattle.gms_parse.specs.Meanings.{IsDeclared, AreDeclared, IsDeclaration, IsVariableType, IsAct, item_part, items_part, item_meaning, act_view}
+use Rattle.gms_parse.specs.Meanings.{AreDeclared, IsDeclaration, IsVariableType, IsAct, item_part, items_part, item_meaning, act_view}
 use Rattle.gms_parse.proofs.TokenKinds.{begins, is_quiet, leads_alike}
-use Rattle.gms_parse.proofs.Steps.{gives_both, gives_the, gives_none, gives_some, refuses_the, refuses_second}
+use Rattle.gms_parse.proofs.Steps.{Within, within_the, gives_both, gives_the, gives_none, gives_some, refuses_the, refuses_second}
 use Rattle.gms_parse.proofs.Nexts.{past, led_next, gives_exact, begun_starts, begun_keyword, quiet_holds, earlier}
-use Rattle.gms_parse.proofs.Itemized.{AreItems, items_meant}
+use Rattle.gms_parse.proofs.Itemized.{ItemPart}
 
 -- the items of each form
 pub items_production : (form : Form) → productions (items_part form) ≡ items (item_part form) (items_part form)
@@ -47,15 +47,10 @@ items_heads form.Parameter ts = leads_alike (the ParameterItems) name ts refl re
 items_heads form.Scalar ts = leads_alike (the ScalarItems) name ts refl refl (same_test (may_begin look_ahead (the ScalarItems)) (is_among (Name ∷ Suffix ∷ [])) refl)
 items_heads form.Plain ts = leads_alike (the PlainItems) name ts refl refl (same_test (may_begin look_ahead (the PlainItems)) (is_among (Name ∷ Suffix ∷ [])) refl)
 
-pub declared_got : {F : Type 0} (value : F → Rational) (form : Form) {limit : ℕ} {reader : Reader} {at next : ℕ} {new : Tables} {w : Walk} (xs all : List (Decl F)) → all ≡ xs → IsGot limit (AreItems (IsDeclared value reader.source.now form)) (Stays reader new w) (the (items_part form)) reader at new w xs next →
-    IsGot limit (AreDeclared value reader.source.now form) (Stays reader new w) (the (items_part form)) reader at new w all next
-declared_got value form {reader = reader} xs all same got = record {
-  tree = got.tree;
-  behind = got.behind;
-  gives = got.gives;
-  leaves = got.leaves;
-  means = λ sense s. ap (map (declared_in value)) same ∙ items_meant (IsDeclared value reader.source.now form) (declared_in value) (item_meaning form reader.source.now sense.names sense.labels sense.value) sense (λ tree x h. h) got.tree xs (got.means sense s);
-  further = got.further;
+pub form_items : (form : Form) → ItemPart (item_part form) (items_part form)
+form_items form = record {
+  enters = λ limit source v ts. subst (λ (p : GamsPart). Within limit source (the (items_part form)) v ts p v ts node) (items_production form) (within_the (items_part form));
+  led = items_heads form;
 }
 
 -- ---- keywords of declarations

@@ -13,7 +13,6 @@ use Rattle.gms_grammar.specs.Terminals.{is}
 use Rattle.gms_grammar.specs.GamsGrammar.{Nonterminal, Expression, Domain, DomainList, DomainPosition, productions, token, name}
 use Rattle.gms_grammar.specs.GamsLookAhead.{look_ahead}
 use Rattle.gms_expressions.proofs.TokenKinds.{same_test}
-use Rattle.gms_expressions.specs.ExpressionTrees.{inside as inside_of}
 use Rattle.gms_parse.specs.declared.fault.SourceFaultOrMemory.{SourceFaultOrMemory}
 use Rattle.gms_parse.specs.declared.reader.Reader.{Reader}
 use Rattle.gms_parse.specs.declared.reader.Tables.{Tables}
@@ -61,8 +60,8 @@ pub position_refused : {limit : ℕ} {source : List ℕ} {w : Walk} {ts : List S
 position_refused unled r = refuses_the DomainPosition (refuses_other unled r)
 
 -- positions as they are meant
-pub positions_meant : (source : List ℕ) (sense : Sense) (tree : Derivation) (xs : List (Maybe Named)) → AreAll (IsPosition source) sense tree xs → xs ≡ listed_in (λ position. position_in source sense.names sense.labels sense.value (inside_of position)) tree
-positions_meant source sense tree xs h = sym (map-id xs) ∙ all_meant (IsPosition source) (λ x. x) (λ position. position_in source sense.names sense.labels sense.value (inside_of position)) sense (λ t x k. k) tree xs h
+pub positions_meant : (source : List ℕ) (sense : Sense) (tree : Derivation) (xs : List (Maybe Named)) → AreAll (IsPosition source) sense tree xs → xs ≡ listed_in (position_in source sense.names sense.labels sense.value) tree
+positions_meant source sense tree xs h = sym (map-id xs) ∙ all_meant (IsPosition source) (λ x. x) (position_in source sense.names sense.labels sense.value) sense (λ t x k. k) tree xs h
 
 -- ---- the name of a table
 

@@ -121,9 +121,6 @@ sign_none {w = w} unled h = record { tree = none; behind = w; gives = gives_none
 
 -- ---- numbers
 
-number_labels : (source : List ℕ) (w : Walk) (t : Token) (ahead : Terminal) → (walk_after source w (Number, t) ahead).labels ≡ w.labels
-number_labels source w t ahead = refl
-
 -- a number that is within its range has no fault
 number_sound : (limit : ℕ) (source : List ℕ) (w : Walk) (t : Token) (ahead : Terminal) (x : Rational) → MeansNumber (token_text source t) x → FitsLiteral limit x → (fault : SourceFault) → IsFaulty limit source w (Number, t) ahead fault → ⊥
 number_sound limit source w t ahead x means fits fault (deep e d) = cc

@@ -11,15 +11,15 @@ use Rattle.gms_grammar.specs.Reading.{read, stuck, leads, Reads, Takes, taken, r
 use Rattle.gms_grammar.specs.Terminals.{is, is_among}
 use Rattle.gms_grammar.specs.GamsGrammar.{Nonterminal, Expression, Condition, Target, Attribute, IndexList, Index, Lag, NamedStatement, AfterName, HeadIndices, AfterHeadName, AfterHeadIndex, AfterLag, AfterHead, AfterTarget, Sides, productions, token, name, bracketed}
 use Rattle.gms_grammar.specs.GamsLookAhead.{look_ahead}
-use Rattle.gms_grammar.proofs.Basics.{and_first, or_both, both_ways, end_nil}
+use Rattle.gms_grammar.proofs.Basics.{and_first, both_ways, end_nil}
 use Rattle.gms_lex.specs.TokenTexts.{token_text}
-use Rattle.gms_expressions.specs.ExpressionTrees.{is_word, suffix_of, token_of, second_in, inside, index, more_indices}
+use Rattle.gms_expressions.specs.ExpressionTrees.{is_word, suffix_of, suffix_in, token_of, index, more_indices}
 use Rattle.gms_expressions.proofs.TokenKinds.{same_test}
 use Rattle.gms_parse.specs.Statements.{target_at, target_in, head_indices, act_of_head, after_head, after_target, named_act}
 use Rattle.gms_parse.specs.Walks.{Seen}
 use Rattle.gms_parse.specs.Readings.{Derivation, GamsPart, Sense}
 use Rattle.gms_parse.specs.Meanings.{has_lag, is_unsuffixed, is_plain_target}
-use Rattle.gms_parse.proofs.TokenKinds.{leads_alike, unled_less, led_more, unled_next, led_first}
+use Rattle.gms_parse.proofs.TokenKinds.{leads_alike, unled_less, led_more, unled_next, led_first, unled_either}
 
 -- ---- a part that goes on with another behind some tokens
 
@@ -76,10 +76,6 @@ lead_same : {p inner : GamsPart} {ts rest u v : List Seen} {c : Derivation → D
 lead_same {p} {inner} {ts} {rest} {c = c} e l = subst (λ (w : List Seen). Leading p ts w inner rest c) e l
 
 -- ---- which tokens lead where
-
-unled_either : (p q : GamsPart) (ts : List Seen) → leads productions look_ahead p ts ≡ false → leads productions look_ahead q ts ≡ false → leads productions look_ahead (p ∣ q) ts ≡ false
-unled_either p q [] h k = refl
-unled_either p q (t ∷ ts) h k = or_both _ _ h k
 
 name_led : (ts : List Seen) → leads productions look_ahead (name · opt (the Lag)) ts ≡ true → leads productions look_ahead (name · the AfterHeadName) ts ≡ true
 name_led ts h = led_more (name · opt (the Lag)) (name · the AfterHeadName) ts refl refl refl h
@@ -356,6 +352,10 @@ unfolding suffix_of
 suffixed text =
     either_suffixed (is_word text (codes "lo")) _ _ refl (either_suffixed (is_word text (codes "up")) _ _ refl (either_suffixed (is_word text (codes "l")) _ _ refl (either_suffixed (is_word text (codes "m")) _ _ refl (either_suffixed (is_word text (codes "fx")) _ _ refl (either_suffixed (is_word text (codes "modelstat")) _ _ refl refl)))))
 
+-- and so has a reference that goes on with one
+attributed : {ts rest : List Seen} {attribute : Derivation} → Reads productions look_ahead (the Attribute) ts (read attribute rest) → (source : List ℕ) (s : Sense) → is_unsuffixed (suffix_in source s.names s.labels s.value (some attribute)) ≡ false
+attributed (entered (both {b = word} p q)) source s = suffixed (token_text source (token_of word))
+
 abbrev unconditioned : GamsPart
 unconditioned = the Condition ∣ token Equals · the Expression ∣ token DotDot · the Sides
 
@@ -420,7 +420,7 @@ dotted {us = us} word attribute indices r h a m = record {
   wrap = λ b. node (pair word (node (left (pair attribute (pair indices b)))));
   leading = lead_same (ap (λ v. yield word ++ (yield attribute ++ v)) (end_nil (yield indices))) (lead_the NamedStatement (lead_second r (lead_the AfterName (lead_left (dotted_led us h) (lead_second a (lead_second m lead_here))))));
   acts = λ source s b. refl;
-  other = λ source s. and_first _ _ (suffixed (token_text source (token_of (second_in (inside attribute)))));
+  other = λ source s. and_first _ _ (attributed a source s);
 }
 
 pub target_goes : {ts rest : List Seen} {tree : Derivation} → Reads productions look_ahead (the Target) ts (read tree rest) → Headed tree ts rest ⊎ Aimed tree ts rest

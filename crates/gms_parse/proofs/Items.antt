@@ -1,6 +1,7 @@
 -- Elements with their positions, and lists of them.
 use Rattle.std.proofs.Common.{◌≡◌, ℕ, Bool, true, false, ◌||◌, List, [], ◌∷◌, ◌++◌, map, Some, None, Vec, refl, sym, ap, ap₂, ◌∙◌, subst, arith}
 use Rattle.std.specs.declared.alloc.Global.{Global}
+use Rattle.std.proofs.lemmas.List.{map_push}
 use Rattle.gq_number.specs.Number.{Number as Rational, neg_ℚ}
 use Rattle.gq_extended.specs.declared.extended.Ext.{Ext}
 use Rattle.gms_ast.specs.declared.declaration.Item.{Item}
@@ -41,10 +42,6 @@ pub record Positions (limit : ℕ) (reader : Reader) (start : ℕ) (w : Walk) (n
   pub parts_are : parts ≡ map (λ (p : Position). p.labels.items) ghost
   pub bad_is : bad ≡ any_true (map (λ (p : Position). p.bad_range) ghost)
   pub listing : Listing limit (IsPart reader.source.now) (is Dot) (the ElementPart) reader start w new ghost at
-
-map_push : {A B : Type 0} (f : A → B) (xs : List A) (x : A) → map f (xs ++ x ∷ []) ≡ map f xs ++ f x ∷ []
-map_push f [] x = refl
-map_push f (y ∷ xs) x = ap (λ u. f y ∷ u) (map_push f xs x)
 
 any_push : (f : Position → Bool) (xs : List Position) (x : Position) → any_true (map f (xs ++ x ∷ [])) ≡ (any_true (map f xs) || f x)
 any_push f [] x = or_none (f x)

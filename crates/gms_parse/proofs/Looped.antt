@@ -1,5 +1,5 @@
 -- Loops, and the statements in them.
-use Rattle.std.proofs.Common.{◌≡◌, ℕ, ◌+◌, ◌-◌, ◌*◌, ◌<◌, ◌≤◌, length, Result, Ok, Err, Bool, true, false, List, [], ◌∷◌, ◌++◌, map, Vec, refl, sym, ap, ap₂, ◌∙◌, subst, arith}
+use Rattle.std.proofs.Common.{◌≡◌, ℕ, ◌+◌, ◌-◌, ◌<◌, ◌≤◌, length, Result, Ok, Err, Bool, true, false, List, [], ◌∷◌, ◌++◌, map, Vec, refl, sym, ap, ap₂, ◌∙◌, subst, arith}
 use Rattle.std.specs.declared.alloc.Global.{Global}
 use Rattle.gq_number.specs.Number.{Number}
 use Rattle.gms_ast.specs.declared.expression.Control.{Control as ControlNode}
@@ -147,16 +147,7 @@ module _ {reader : Reader} {at opening : ℕ} {word : Token} {old : Tables} {w :
 
 -- ---- a statement of a loop
 
--- inside the parenthesis it is a reader too, of one parenthesis more
-pub inner_ready : {reader inner : Reader} {at start : ℕ} → IsReady reader → IsOpened reader at inner start → IsReady inner
-inner_ready {reader} ready o = subst (λ (r : Reader). IsReady r) (sym o.inner_is) (record { tokens = ready.tokens; placed = ready.placed; end = ready.end; few = (let room = o.room in omega (arith, room)) })
-
-pub inner_deeper : {reader inner : Reader} {at start : ℕ} → IsOpened reader at inner start → (100 - inner.unclosed) * 5 + 4 < (100 - reader.unclosed) * 5
-inner_deeper {reader} {inner} o =
-    let more : inner.unclosed ≡ reader.unclosed + 1 = ap (λ (r : Reader). r.unclosed) o.inner_is in
-    let room = o.room in
-    omega (arith, more, room)
-
+-- inside the parenthesis tokens are left
 pub inner_within : {reader inner : Reader} {at start : ℕ} → IsReady reader → IsOpened reader at inner start → start < length inner.tokens.now
 inner_within {start = start} ready o = subst (λ (r : Reader). start < length r.tokens.now) (sym o.inner_is) (behind_within LeftParen ready o.next refl)
 

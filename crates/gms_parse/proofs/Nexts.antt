@@ -117,11 +117,6 @@ pub gives_quiet : {limit : ℕ} {test : Terminal → Bool} {reader : Reader} {at
     Gives limit reader.source.now (one test) w (seen_from reader at) (leaf (n.kind, t)) (past reader w n.kind t behind) (seen_from reader behind)
 gives_quiet {limit = limit} {reader = reader} {behind = behind} {t = t} {w = w} n q = gives_one n.is n.passes (quiet_sound limit reader.source.now w n.kind t (kind_of (seen_from reader behind)) q) refl
 
--- of one of some quiet kinds
-pub gives_any : {limit : ℕ} {test : Terminal → Bool} {reader : Reader} {at behind : ℕ} {t : Token} {w : Walk} (n : IsNext test reader at t behind) → implies test is_quiet ≡ true →
-    Gives limit reader.source.now (one test) w (seen_from reader at) (leaf (n.kind, t)) (past reader w n.kind t behind) (seen_from reader behind)
-gives_any {test = test} n all = gives_quiet n (also test is_quiet all n.kind n.passes)
-
 -- of one of some plain kinds
 pub gives_plain : {limit : ℕ} {test : Terminal → Bool} {reader : Reader} {at behind : ℕ} {t : Token} {w : Walk} (n : IsNext test reader at t behind) → implies test is_plain ≡ true →
     Gives limit reader.source.now (one test) w (seen_from reader at) (leaf (n.kind, t)) (past reader w n.kind t behind) (seen_from reader behind)

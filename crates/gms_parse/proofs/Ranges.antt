@@ -1,6 +1,7 @@
 -- Labels of lists, and ranges of them.
 use Rattle.std.proofs.Common.{◌≡◌, ℕ, zero, suc, get_or, ◌+◌, ◌-◌, ◌<◌, ◌≤◌, Bool, true, false, not, ◌&&◌, ◌||◌, cond, List, [], ◌∷◌, ◌++◌, length, map, take, Some, None, refl, sym, ap, ap₂, ◌∙◌, subst, inl, inr, arith, append_assoc}
 use Rattle.std.specs.Str.{IsAscii}
+use Rattle.std.proofs.lemmas.List.{append-nil, map_push}
 use Rattle.std.proofs.lemmas.Str.{IsAscii-take, IsAscii-drop}
 use Rattle.std.proofs.Math.Seq.{take-suc}
 use Rattle.gq_number.specs.Number.{neg_ℚ}
@@ -31,7 +32,9 @@ use Rattle.gms_parse.specs.declared.fault.SourceError.TheVariants.{TooManyLabels
 use Rattle.gms_parse.specs.declared.reader.Reader.{Reader}
 use Rattle.gms_parse.specs.declared.reader.Tables.{Tables}
 use Rattle.gms_parse.specs.DataLists.{range_labels}
-use Rattle.gms_parse.specs.Walks.{Seen, Walk, last_kind, range_start, range_texts, list_labels, new_labels, all_entered, LacksRoom, IsFaulty, deep, out_of_range, many_names, many_labels, in_table, without_lines}
+use Rattle.gms_table.specs.WordLabels.{all_entered}
+use Rattle.gms_table.proofs.LabelLemmas.{all_entered-append}
+use Rattle.gms_parse.specs.Walks.{Seen, Walk, last_kind, range_start, range_texts, list_labels, new_labels, LacksRoom, IsFaulty, deep, out_of_range, many_names, many_labels, in_table, without_lines}
 use Rattle.gms_parse.specs.Readings.{Gives, Refuses, Sense, IsSense, IsGot, Has, Holds, Starless, Stays, IsNext, IsLacking, IsEntered, IsNotEntered, seen_from, kind_of}
 use Rattle.gms_parse.specs.Meanings.{IsLabelToken, IsEnteredRange, IsNotEnteredRange, IsAdded, AreThere, text_of_label}
 use Rattle.gms_parse.proofs.TokenKinds.{leads_by_kind}
@@ -57,10 +60,6 @@ pub label_spelled : {source : List ℕ} {t : Token} → IsLabelToken source t �
 label_spelled {source} {t} l = let s = label_spelled_as t.kind (token_text source t) l.is l.placed.spelled in (unquoted_ascii (token_text source t) s.0, s.1)
 
 -- ---- texts that are entered
-
-all_append : (labels texts : List (List ℕ)) (text : List ℕ) → all_entered labels (texts ++ text ∷ []) ≡ entered (all_entered labels texts) text
-all_append labels [] text = refl
-all_append labels (x ∷ texts) text = all_append (entered labels x) texts text
 
 -- one more text finds no room, or one before it does not
 pub data Lacking (labels texts : List (List ℕ)) (text : List ℕ) : Type 0 where
@@ -93,16 +92,8 @@ pub record Entering (old now : List (List ℕ)) (texts : List (List ℕ)) (was n
   pub numbers_are : numbers ≡ was ++ map (λ text. or_0 (place_of now text)) texts
   pub are_there : AreThere now texts
 
-no_nil : (u : List (List ℕ)) (x : List ℕ) (v : List (List ℕ)) → [] ≡ u ++ (x ∷ v) → ⊥
-no_nil [] x v e = cc
-no_nil (y ∷ u) x v e = cc
-
-append_none : (xs : List ℕ) → xs ≡ xs ++ []
-append_none [] = refl
-append_none (x ∷ xs) = ap (λ u. x ∷ u) (append_none xs)
-
 pub entering_start : (old : List (List ℕ)) (was : List ℕ) → Entering old old [] was was
-entering_start old was = record { table = refl; room = λ l. no_nil l.before l.text l.behind l.parts; numbers_are = append_none was; are_there = tt }
+entering_start old was = record { table = refl; room = λ l. room_for_none _ [] refl l; numbers_are = sym (append-nil was); are_there = tt }
 
 kept_all : (text : List ℕ) (labels texts : List (List ℕ)) → AreThere labels texts → AreThere (entered labels text) texts × (map (λ t. or_0 (place_of labels t)) texts ≡ map (λ t. or_0 (place_of (entered labels text) t)) texts)
 kept_all text labels [] h = (tt, refl)
@@ -115,17 +106,13 @@ there_push : (labels texts : List (List ℕ)) (text : List ℕ) → AreThere lab
 there_push labels [] x h k = (k, tt)
 there_push labels (y ∷ texts) x h k = (h.0, there_push labels texts x h.1 k)
 
-map_push : {A B : Type 0} (f : A → B) (xs : List A) (x : A) → map f (xs ++ x ∷ []) ≡ map f xs ++ f x ∷ []
-map_push f [] x = refl
-map_push f (y ∷ xs) x = ap (λ u. f y ∷ u) (map_push f xs x)
-
 pub entering_on : (old now : List (List ℕ)) (texts : List (List ℕ)) (was numbers : List ℕ) → Entering old now texts was numbers → (new : List (List ℕ)) (text : List ℕ) (n : ℕ) → IsEntered now new text n → (more : List ℕ) → more ≡ numbers ++ n ∷ [] → Entering old new (texts ++ text ∷ []) was more
 entering_on old now texts was numbers e new text n f more is_more =
     let k = kept_all text now texts e.are_there in
     let there : AreThere new texts = subst (λ (z : List (List ℕ)). AreThere z texts) (sym f.table) k.0 in
     let same : map (λ t. or_0 (place_of now t)) texts ≡ map (λ t. or_0 (place_of new t)) texts = k.1 ∙ ap (λ (z : List (List ℕ)). map (λ t. or_0 (place_of z t)) texts) (sym f.table) in
     record {
-      table = f.table ∙ ap (λ z. entered z text) e.table ∙ sym (all_append old texts text);
+      table = f.table ∙ ap (λ z. entered z text) e.table ∙ sym (all_entered-append old texts (text ∷ []));
       room = λ l. lacks (lacking_of old texts text l);
       numbers_are = is_more ∙ ap₂ (λ a b. a ++ b ∷ []) e.numbers_are (sym (ap or_0 f.place)) ∙ append_assoc was (map (λ t. or_0 (place_of now t)) texts) (or_0 (place_of new text) ∷ []) ∙ ap (λ u. was ++ (u ++ or_0 (place_of new text) ∷ [])) same ∙ ap (λ u. was ++ u) (sym (map_push (λ t. or_0 (place_of new t)) texts text));
       are_there = there_push new texts text there (n, f.place);
@@ -189,7 +176,7 @@ single_room : (labels : List (List ℕ)) (text : List ℕ) → (IsFullFor labels
 single_room labels text room l = go (lacking_of labels [] text l)
   where
     go : Lacking labels [] text → ⊥
-    go (earlier_one k) = no_nil k.before k.text k.behind k.parts
+    go (earlier_one k) = room_for_none _ [] refl k
     go (this_one f) = room f
 
 starless_ahead : (ts : List Seen) → leads productions look_ahead (token Star) ts ≡ false → is Star (kind_of ts) ≡ false
@@ -235,11 +222,7 @@ module _ {reader : Reader} {at : ℕ} {old : Tables} {w : Walk} {first : Token} 
     star_stays = stays_then begun_stays (plain_stays reader (past reader w Label first next) Star star middle refl begun_stays.has)
 
     begun_gives : {limit : ℕ} → Gives limit reader.source.now (token Label) w (seen_from reader at) (leaf (Label, first)) (past reader w Label first next) (seen_from reader next)
-    begun_gives = label_gives [] n begun_new h.holds (λ l. no_nil l.before l.text l.behind l.parts)
-
-    -- what the label behind the `*` enters
-    last_new : (last : Token) (ahead : Terminal) → new_labels reader.source.now (past reader (past reader w Label first next) Star star middle) (Label, last) ahead ≡ range_texts reader.source.now (text_of_label reader.source.now first) (text_of_label reader.source.now last)
-    last_new last ahead = refl
+    begun_gives = label_gives [] n begun_new h.holds (λ l. room_for_none _ [] refl l)
 
     pub range_unfinished : {limit : ℕ} {e : SourceFaultOrMemory} → IsLacking (is Label) reader middle e → Refuses limit reader.source.now (the Range) w (seen_from reader at) e
     range_unfinished l = refuses_the Range (refuses_second begun_gives (refuses_some (leads_next (token Label) m) (refuses_second (gives_exact {kind = Star} m refl) (refuses_lacking l))))
@@ -297,9 +280,6 @@ entering_next old now all i was numbers e within text is new n f more is_more =
 pub texts_are : (source from to a b : List ℕ) (all : List (List ℕ)) → from ≡ a → to ≡ b → is_range from to ≡ true → all ≡ members from to → range_texts source a b ≡ all
 texts_are source from to a b all e f r m = ap₂ (λ x y. range_texts source x y) (sym e) (sym f) ∙ ap (λ c. cond c (members from to) []) r ∙ sym m
 
-pub texts_none : (source from to a b : List ℕ) → from ≡ a → to ≡ b → is_range from to ≡ false → range_texts source a b ≡ []
-texts_none source from to a b e f r = ap₂ (λ x y. range_texts source x y) (sym e) (sym f) ∙ ap (λ c. cond c (members from to) []) r
-
 take_all : {T : Type 0} (xs : List T) (i : ℕ) → length xs ≤ i → take i xs ≡ xs
 take_all [] zero h = refl
 take_all [] (suc i) h = refl
@@ -330,7 +310,7 @@ no_members source tables was now first last lacking items bad =
     record {
       table = ap (all_entered tables.labels) (sym texts);
       room = room_for_none tables.labels (range_texts source (text_of_label source first) (text_of_label source last)) texts;
-      labels = items ∙ append_none was.labels.items ∙ ap (λ us. was.labels.items ++ map (λ text. or_0 (place_of tables.labels text)) us) (sym texts);
+      labels = items ∙ sym (append-nil was.labels.items) ∙ ap (λ us. was.labels.items ++ map (λ text. or_0 (place_of tables.labels text)) us) (sym texts);
       are_there = subst (λ (us : List (List ℕ)). AreThere tables.labels us) (sym texts) tt;
       bad_range = bad ∙ sym (ap (λ b. was.bad_range || not b) lacking ∙ or_yes was.bad_range);
     }

@@ -9,8 +9,7 @@ use Rattle.gms_lex.specs.Tokens.{IsTokens, most_bytes}
 use Rattle.gms_lex.proofs.PlacedLemmas.{tokens_placed}
 use Rattle.gms_grammar.specs.declared.terminal.Terminal.{Terminal}
 use Rattle.gms_grammar.specs.declared.terminal.Terminal.TheVariants.{End}
-use Rattle.gms_grammar.specs.Grammar.{the, yield, Derives, Begins, Stops}
-use Rattle.gms_grammar.specs.Grammar.{IsUnexpected as IsUnexpectedNext}
+use Rattle.gms_grammar.specs.Grammar.{the, yield, Derives, Stops}
 use Rattle.gms_grammar.specs.GamsGrammar.{Program, productions}
 use Rattle.gms_grammar.specs.GamsLookAhead.{look_ahead}
 use Rattle.gms_grammar.proofs.Basics.{behind_same}
@@ -28,50 +27,10 @@ use Rattle.gms_parse.specs.Outcomes.{IsProgramOf, IsNoProgram, IsUnexpected, IsR
 use Rattle.gms_parse.specs.Walks.{Seen, Walk, start, walk_behind, IsFaulty, AreSound}
 use Rattle.gms_parse.specs.Readings.{IsStuck, IsWrong, IsOver, IsWhole, RefusesWhole, IsReady, seen_from, kind_of, unexpected}
 use Rattle.gms_parse.specs.Meanings.{IsTabled, AreStatements}
+use Rattle.gms_expressions.proofs.Doors.{front_begins}
 use Rattle.gms_parse.proofs.Walks.{ahead_append}
 use Rattle.gms_parse.proofs.EndTokens.{HasEnd, has_end, begins_other, end_behind, end_alone}
 use Rattle.gms_parse.proofs.Named.{so_far, is_so_far}
-
--- ---- fronts
-
--- Of two fronts of one list either the first goes on with the second, or the second is longer.
-data Compared {T : Type 0} (u front : List T) : Type 0 where
-  begins : (more : List T) → front ≡ u ++ more → Compared u front
-  passes : (x : T) (more : List T) → u ≡ front ++ (x ∷ more) → Compared u front
-
-compare : {T : Type 0} (u v front rest : List T) → u ++ v ≡ front ++ rest → Compared u front
-compare [] v front rest e = begins front refl
-compare (x ∷ u) v [] rest e = passes x u refl
-compare (x ∷ u) v (y ∷ front) rest e = go (compare u v front rest cc)
-  where
-    same : x ≡ y
-    same = cc
-
-    go : Compared u front → Compared (x ∷ u) (y ∷ front)
-    go (begins more h) = begins more cc
-    go (passes z more h) = passes z more cc
-
--- what begins a program is no longer than the front at which tokens cease to begin it
-front_begins : (ts front rest u v : List Seen) → Stops productions (the Program) ts front rest → ts ≡ u ++ v → Begins productions (the Program) u → (more : List Seen) × (front ≡ u ++ more)
-front_begins ts front rest u v s e b = go (compare u v front rest (sym e ∙ s.parts))
-  where
-    longer : (x : Seen) (more : List Seen) → u ≡ front ++ (x ∷ more) → (rest : List Seen) → IsUnexpectedNext productions (the Program) front rest → x ∷ (more ++ v) ≡ rest → ⊥
-    longer x more h [] ends k = cc
-    longer x more h (y ∷ rest) ends k =
-        let same : x ≡ y = cc in
-        let some : Begins productions (the Program) (front ++ (x ∷ [])) = record {
-          further = more ++ b.further;
-          derives = record {
-            tree = b.derives.tree;
-            is_tree = b.derives.is_tree;
-            yields = b.derives.yields ∙ ap (λ w. w ++ b.further) h ∙ append_assoc front (x ∷ more) b.further ∙ sym (append_assoc front (x ∷ []) (more ++ b.further));
-          };
-        } in
-        ends (subst (λ (z : Seen). Begins productions (the Program) (front ++ (z ∷ []))) same some)
-
-    go : Compared u front → (more : List Seen) × (front ≡ u ++ more)
-    go (begins more h) = (more, h)
-    go (passes x more h) = absurd (longer x more h rest s.ends (behind_same front (x ∷ (more ++ v)) rest (sym (append_assoc front (x ∷ more) v) ∙ ap (λ w. w ++ v) (sym h) ∙ sym e ∙ s.parts)))
 
 -- ---- no program
 
@@ -113,7 +72,7 @@ module _ {limit : ℕ} {source : List ℕ} {ts : List Seen} (ended : HasEnd ts) 
   wrong_none {fault} s =
       let over = gams_takes no_token Program ts (s.before ++ s.token ∷ []) s.behind s.takes in
       let stop = gams_stops no_token Program ts in
-      let more = front_begins ts stop.0 stop.1.0 (s.before ++ s.token ∷ []) s.behind stop.1.1 over.0 over.1 in
+      let more = front_begins Program ts stop.0 stop.1.0 (s.before ++ s.token ∷ []) s.behind stop.1.1 over.0 over.1 in
       let behind : s.behind ≡ more.0 ++ stop.1.0 = behind_same (s.before ++ s.token ∷ []) s.behind (more.0 ++ stop.1.0) (sym over.0 ∙ stop.1.1.parts ∙ ap (λ w. w ++ stop.1.0) more.1 ∙ append_assoc (s.before ++ s.token ∷ []) more.0 stop.1.0) in
       record {
         front = stop.0;

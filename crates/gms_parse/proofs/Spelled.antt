@@ -1,15 +1,15 @@
 -- How names and labels are spelled: they are of ASCII, and short.
-use Rattle.std.proofs.Common.{◌≡◌, ℕ, ◌≤◌, Bool, true, false, not, ◌&&◌, cond, ltb, Option, Some, None, List, [], ◌∷◌, length, refl, sym, ap, ◌∙◌, arith}
-use Rattle.std.proofs.lemmas.Bool.{ltb-false, eqb-true}
+use Rattle.std.proofs.Common.{◌≡◌, ℕ, ◌≤◌, Bool, true, false, not, ◌&&◌, cond, ltb, Option, Some, None, List, [], ◌∷◌, length, refl, sym, ap, ◌∙◌}
+use Rattle.std.proofs.lemmas.Bool.{eqb-true}
 use Rattle.std.specs.Str.{IsAscii}
 use Rattle.gms_lexemes.specs.declared.kind.Kind.{Kind}
 use Rattle.gms_lexemes.specs.declared.kind.Kind.TheVariants as kind
 use Rattle.gms_lexemes.specs.declared.kind.Sym.{Sym}
 use Rattle.gms_lexemes.specs.declared.kind.Sym.TheVariants as sym_kind
 use Rattle.gms_lex.specs.declared.token.Token.{Token}
-use Rattle.gms_lex.specs.TokenTexts.{IsSpelled, token_text}
+use Rattle.gms_lex.specs.TokenTexts.{token_text}
 use Rattle.gms_grammar.specs.declared.terminal.Terminal.{Terminal}
-use Rattle.gms_grammar.specs.declared.terminal.Terminal.TheVariants.{Name, Suffix, Text, LongText, Label, TableLine, Break, End}
+use Rattle.gms_grammar.specs.declared.terminal.Terminal.TheVariants.{Text, LongText, Label, TableLine, Break, End}
 use Rattle.gms_grammar.specs.Terminals.{is, is_among, number_of}
 use Rattle.gms_lines.specs.ControlWords.{is_among as is_listed}
 use Rattle.gms_grammar.proofs.Checks.{left_and, right_and}
@@ -18,45 +18,7 @@ use Rattle.gms_parse.specs.Meanings.{IsLabelToken}
 use Rattle.gms_parse.specs.declared.reader.Reader.{Reader}
 use Rattle.gms_parse.specs.Readings.{IsNext}
 use Rattle.gms_expressions.proofs.TokenKinds.{same_number}
-
-abbrev is_named : Terminal → Bool
-is_named = is_among (Name ∷ Suffix ∷ [])
-
-symbol_named : (s : Sym) → is_named (terminal_of_symbol s) ≡ true → ⊥
-symbol_named sym_kind.EqE h = cc
-symbol_named _ h = cc
-
-text_named : (b : Bool) → is_named (cond b LongText Text) ≡ true → ⊥
-text_named true h = cc
-text_named false h = cc
-
-named_spelled : (k : Kind) (text : List ℕ) → is_named (terminal_of k text) ≡ true → IsSpelled k text → IsAscii text × (length text ≤ 63)
-named_spelled kind.Word text h s = s
-named_spelled kind.Label text h s = cc
-named_spelled kind.Number text h s = cc
-named_spelled kind.Text text h s = absurd (text_named (ltb 65 (length text)) h)
-named_spelled (kind.Symbol symbol) text h s = absurd (symbol_named symbol h)
-named_spelled kind.Break text h s = cc
-named_spelled kind.TableLine text h s = cc
-named_spelled kind.End text h s = cc
-
-symbol_text : (s : Sym) → terminal_of_symbol s ≡ Text → ⊥
-symbol_text sym_kind.EqE h = cc
-symbol_text _ h = cc
-
-short_text : (b : Bool) → cond b LongText Text ≡ Text → b ≡ false
-short_text true h = cc
-short_text false h = refl
-
-text_spelled : (k : Kind) (text : List ℕ) → terminal_of k text ≡ Text → IsSpelled k text → IsAscii text × (length text ≤ 65)
-text_spelled kind.Word text h s = (s.0, (let l = s.1 in omega arith))
-text_spelled kind.Label text h s = cc
-text_spelled kind.Number text h s = cc
-text_spelled kind.Text text h s = (s, ltb-false 65 (length text) (short_text (ltb 65 (length text)) h))
-text_spelled (kind.Symbol symbol) text h s = absurd (symbol_text symbol h)
-text_spelled kind.Break text h s = cc
-text_spelled kind.TableLine text h s = cc
-text_spelled kind.End text h s = cc
+use Rattle.gms_expressions.proofs.Spelled.{is_named, named_spelled}
 
 -- a name is of ASCII and has at most 63 bytes
 pub name_spelled : {reader : Reader} {at behind : ℕ} {t : Token} → IsNext is_named reader at t behind → IsAscii (token_text reader.source.now t) × (length (token_text reader.source.now t) ≤ 63)

@@ -8,6 +8,7 @@ use Rattle.gms_grammar.specs.GamsGrammar.{Nonterminal, productions}
 use Rattle.gms_grammar.specs.GamsLookAhead.{look_ahead}
 use Rattle.gms_grammar.proofs.Basics.{regrouped}
 use Rattle.gms_grammar.proofs.Sound.{sound}
+pub use Rattle.gms_expressions.proofs.Steps.{takes_next}
 use Rattle.gms_parse.specs.declared.fault.SourceFault.{SourceFault}
 use Rattle.gms_parse.specs.declared.fault.SourceFaultOrMemory.{SourceFaultOrMemory}
 use Rattle.gms_parse.specs.declared.fault.SourceFaultOrMemory.TheVariants.{Fault, Memory}
@@ -156,14 +157,6 @@ module _ {limit : ℕ} {source : List ℕ} where
         inr (record { before = []; token = token; behind = rest; takes = t; are_sound = tt; is_faulty = subst (λ (x : SourceFault). IsFaulty limit source w token (kind_of rest) x) (sym same) f });
   }
 
-  -- a token of a part is wrong
-  pub refuses_wrong : {p : GamsPart} {w : Walk} {ts : List Seen} {found : SourceFault} {e : SourceFaultOrMemory} → IsWrong limit source p w ts found → e ≡ Fault found → Refuses limit source p w ts e
-  refuses_wrong {p = p} {w = w} {ts = ts} {found = found} s is = record {
-    why = λ fault k.
-        let same : fault ≡ found = cc in
-        inr (subst (λ (x : SourceFault). IsWrong limit source p w ts x) (sym same) s);
-  }
-
   -- want of memory
   pub refuses_memory : {p : GamsPart} {w : Walk} {ts : List Seen} {e : SourceFaultOrMemory} → e ≡ Memory → Refuses limit source p w ts e
   refuses_memory h = record { why = λ fault is. cc }
@@ -173,10 +166,6 @@ module _ {limit : ℕ} {source : List ℕ} where
       ((fault : SourceFault) → IsFaulty limit source w token (kind_of rest) fault → ⊥) → v ≡ walk_after source w token (kind_of rest) → Gives limit source (one test) w ts (leaf token) v rest
   gives_one {test = test} {rest = rest} {token = token} is h sound l =
       record { reads = subst (λ u. Reads productions look_ahead (one test) u (read (leaf token) rest)) (sym is) (taken h); are_sound = (sound, tt); leaves = l }
-
--- one token was gone over
-pub takes_next : {test : Terminal → Bool} {ts rest : List Seen} {token : Seen} → ts ≡ token ∷ rest → test token.0 ≡ true → Takes productions look_ahead (one test) ts (token ∷ []) rest
-takes_next {test = test} {rest = rest} {token = token} is h = subst (λ u. Takes productions look_ahead (one test) u (token ∷ []) rest) (sym is) (takes_one h)
 
 -- where a part is to be read within a larger one, and the tree around its tree
 pub record Within (limit : ℕ) (source : List ℕ) (part : GamsPart) (w : Walk) (ts : List Seen) (inner : GamsPart) (v : Walk) (rest : List Seen) (context : Derivation → Derivation) : Type 0 where

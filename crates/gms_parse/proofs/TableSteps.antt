@@ -55,7 +55,8 @@ use Rattle.gms_parse.specs.Tables.{parts_of_tokens, labels_of_lines, IsLineFault
 use Rattle.gms_parse.specs.TableReadings.{IsTableRead, IsTableRefused}
 use Rattle.gms_parse.specs.Declarations.{table_act, items_of_lines}
 use Rattle.gms_parse.specs.Outcomes.{IsTableOf, HaveItems, AreAllItems}
-use Rattle.gms_parse.specs.Walks.{Seen, Walk, kind_ahead, last_kind, ends_statement, table_name, all_entered, lines_with, walk_after, walk_behind, IsFaulty, deep, out_of_range, many_names, many_labels, in_table, without_lines}
+use Rattle.gms_table.specs.WordLabels.{all_entered}
+use Rattle.gms_parse.specs.Walks.{Seen, Walk, kind_ahead, last_kind, ends_statement, table_name, lines_with, walk_after, walk_behind, IsFaulty, deep, out_of_range, many_names, many_labels, in_table, without_lines}
 use Rattle.gms_parse.specs.Readings.{Derivation, Gives, Refuses, Sense, IsSense, Holds, Starts, Stays, IsNext, IsGot, IsLines, ends_head, seen_from, kind_of}
 use Rattle.gms_parse.specs.Meanings.{IsNamed, IsDomain, IsTabled, IsStatement}
 use Rattle.gms_parse.proofs.TokenKinds.{same_kind}

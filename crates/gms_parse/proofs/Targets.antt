@@ -3,7 +3,7 @@ use Rattle.std.proofs.Common.{◌≡◌, ℕ, List, ap}
 use Rattle.gq_number.specs.Number.{Number}
 use Rattle.gms_ast.specs.Trees.{Tree as Syntax, reference}
 use Rattle.gms_ast.specs.StatementTrees.{Target}
-use Rattle.gms_grammar.specs.Grammar.{the, pair, none, some, node, IsTree}
+use Rattle.gms_grammar.specs.Grammar.{the, pair, node, IsTree}
 use Rattle.gms_grammar.specs.GamsGrammar.{Target as TargetPart, productions}
 use Rattle.gms_expressions.specs.ExpressionTrees as trees
 use Rattle.gms_parse.specs.Statements.{target_in}
@@ -16,12 +16,7 @@ to_target other _ = other
 
 module _ (source : List ℕ) (names labels : List (List ℕ)) (value : List ℕ → Number) where
   pub target_is : (target : Target Number) (tree : Derivation) → IsTree productions (the TargetPart) tree → reference target.at target.name target.suffix target.indices ≡ trees.target source names labels value tree → target ≡ target_in source names labels value tree
-  target_is target (node (pair word (pair dotted none))) k h = ap (to_target target) h
-  target_is target (node (pair word (pair dotted (some (pair opening (pair (node (pair first others)) closing)))))) k h = ap (to_target target) h
-  target_is target (node (pair word (pair dotted (some (pair opening (pair _ closing)))))) k h = absurd k.1.1.1.0
-  target_is target (node (pair word (pair dotted (some (pair opening _))))) k h = absurd k.1.1.1
-  target_is target (node (pair word (pair dotted (some _)))) k h = absurd k.1.1
-  target_is target (node (pair word (pair dotted _))) k h = absurd k.1.1
+  target_is target (node (pair word (pair dotted indices))) k h = ap (to_target target) h
   target_is target (node (pair word _)) k h = absurd k.1
   target_is target (node _) k h = absurd k
   target_is target _ k h = absurd k

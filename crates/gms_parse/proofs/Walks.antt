@@ -10,7 +10,9 @@ use Rattle.gms_grammar.specs.Terminals.{is_among}
 use Rattle.gms_grammar.proofs.Checks.{left_and}
 use Rattle.gms_expressions.proofs.TokenKinds.{also}
 use Rattle.gms_parse.specs.declared.fault.SourceFault.{SourceFault}
-use Rattle.gms_parse.specs.Walks.{Seen, Walk, kind_ahead, is_name, all_entered, LacksRoom, new_labels, walk_after, walk_behind, IsFaulty, deep, out_of_range, many_names, many_labels, in_table, without_lines, AreSound}
+use Rattle.gms_table.specs.WordLabels.{all_entered}
+use Rattle.gms_table.proofs.LabelLemmas.{Stay-all_entered}
+use Rattle.gms_parse.specs.Walks.{Seen, Walk, kind_ahead, is_name, LacksRoom, new_labels, walk_after, walk_behind, IsFaulty, deep, out_of_range, many_names, many_labels, in_table, without_lines, AreSound}
 use Rattle.gms_parse.proofs.TokenKinds.{begins, is_quiet}
 
 -- what stands ahead of tokens is the first of those behind them, where there are none
@@ -31,8 +33,7 @@ sound_append limit source w (t ∷ u) v ahead h k =
 
 -- texts that are entered keep the places of others
 pub places_kept : (texts more : List (List ℕ)) (other : List ℕ) (n : ℕ) → place_of texts other ≡ Some n → place_of (all_entered texts more) other ≡ Some n
-places_kept texts [] other n h = h
-places_kept texts (t ∷ more) other n h = places_kept (entered texts t) more other n (place_of-entered_kept texts t other n h)
+places_kept texts more other n h = (Stay-all_entered texts more).stays other n h
 
 kept_by : (c : Bool) (texts : List (List ℕ)) (text other : List ℕ) (n : ℕ) → place_of texts other ≡ Some n → place_of (cond c (entered texts text) texts) other ≡ Some n
 kept_by true texts text other n h = place_of-entered_kept texts text other n h

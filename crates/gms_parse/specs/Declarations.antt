@@ -19,33 +19,13 @@ use Rattle.gms_parse.specs.DataLists.{listed_in, optional_in, between, elements_
 -- perhaps further items.
 abbrev mutual
   pub items_in : {A T : Type 0} → (Tree T → A) → Tree T → List A
-  items_in meaning (node tree) = item_and_others meaning tree
+  items_in meaning (node (pair item others)) = meaning item ∷ further_items meaning others
   items_in meaning _ = []
 
-  item_and_others : {A T : Type 0} → (Tree T → A) → Tree T → List A
-  item_and_others meaning (pair item others) = meaning item ∷ further_items meaning others
-  item_and_others meaning _ = []
-
   pub further_items : {A T : Type 0} → (Tree T → A) → Tree T → List A
-  further_items meaning (some tree) = behind_mark meaning tree
+  further_items meaning (some (left (pair _ tree))) = items_in meaning tree
+  further_items meaning (some (right (pair _ (some tree)))) = items_in meaning tree
   further_items meaning _ = []
-
-  behind_mark : {A T : Type 0} → (Tree T → A) → Tree T → List A
-  behind_mark meaning (left tree) = behind_comma meaning tree
-  behind_mark meaning (right tree) = behind_line_end meaning tree
-  behind_mark meaning _ = []
-
-  behind_comma : {A T : Type 0} → (Tree T → A) → Tree T → List A
-  behind_comma meaning (pair comma tree) = items_in meaning tree
-  behind_comma meaning _ = []
-
-  behind_line_end : {A T : Type 0} → (Tree T → A) → Tree T → List A
-  behind_line_end meaning (pair line_end tree) = perhaps_items meaning tree
-  behind_line_end meaning _ = []
-
-  perhaps_items : {A T : Type 0} → (Tree T → A) → Tree T → List A
-  perhaps_items meaning (some tree) = items_in meaning tree
-  perhaps_items meaning _ = []
 
 -- what `variable` declares behind a type
 abbrev pub variable_kind : List ℕ → DeclKind
@@ -60,12 +40,13 @@ module _ {N : Type 0} (source : List ℕ) (names labels : List (List ℕ)) (valu
 
   -- a position of a domain: `*`, or a set
   abbrev pub position_in : Tree (Terminal × Token) → Option Named
-  position_in (right name) = Some (named_in name)
+  position_in (node (right name)) = Some (named_in name)
   position_in _ = None
 
   -- a domain in parentheses
   abbrev pub domain_in : Tree (Terminal × Token) → List (Option Named)
-  domain_in tree = listed_in (λ position. position_in (inside position)) (inside (between (inside tree)))
+  domain_in (node (pair _ (pair (node list) _))) = listed_in position_in list
+  domain_in _ = []
 
   -- the domain that stands behind a name, or one without positions
   abbrev pub optional_domain : Tree (Terminal × Token) → List (Option Named)

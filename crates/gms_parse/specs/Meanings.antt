@@ -50,13 +50,10 @@ use Rattle.gms_parse.specs.DataLists.{listed_in, optional_in, between, any_true,
 use Rattle.gms_parse.specs.Declarations.{variable_kind, items_in, named_in, position_in, domain_in, optional_domain, plain_in, has_all, equations_in, model_in, set_in, parameter_in, scalar_item_in}
 use Rattle.gms_parse.specs.Statements.{bytes_in, word_in, shown_in, shown_list, setting_in as setting_of, condition_in, target_in, side_of, sides_in, is_maximizing}
 use Rattle.gms_parse.specs.Programs.{loop_body, inner_act, named_first, segment, statements_of}
-use Rattle.gms_parse.specs.Walks.{Seen, LacksRoom, all_entered, range_texts}
+use Rattle.gms_table.specs.WordLabels.{all_entered}
+use Rattle.gms_parse.specs.Walks.{Seen, LacksRoom, range_texts}
 use Rattle.gms_parse.specs.Outcomes.{HaveItems, AreAllItems}
 use Rattle.gms_parse.specs.Readings.{Derivation, GamsPart, Sense}
-
--- a token alone
-abbrev pub IsToken : {T : Type 0} → Sense → Derivation → T → Type 0
-IsToken sense tree x = Unit {0}
 
 module _ (source : List ℕ) (sense : Sense) (tree : Derivation) where
   -- ---- names and words
@@ -80,7 +77,7 @@ module _ (source : List ℕ) (sense : Sense) (tree : Derivation) where
   IsSuffix suffix = suffix ≡ suffix_in source sense.names sense.labels sense.value tree
 
   abbrev pub IsShown : Show → Type 0
-  IsShown show = show ≡ shown_in source sense.names sense.labels sense.value (inside_of tree)
+  IsShown show = show ≡ shown_in source sense.names sense.labels sense.value tree
 
   abbrev pub AreShown : List Show → Type 0
   AreShown shows = shows ≡ shown_list source sense.names sense.labels sense.value tree
@@ -88,7 +85,7 @@ module _ (source : List ℕ) (sense : Sense) (tree : Derivation) where
   -- ---- domains and models
 
   abbrev pub IsPosition : Option Named → Type 0
-  IsPosition position = position ≡ position_in source sense.names sense.labels sense.value (inside_of tree)
+  IsPosition position = position ≡ position_in source sense.names sense.labels sense.value tree
 
   abbrev pub IsDomain : Vec (Option Named) Global → Type 0
   IsDomain positions = positions.items ≡ domain_in source sense.names sense.labels sense.value tree
@@ -233,11 +230,6 @@ shown_sides value relation = record {
   right_at = relation.right_at;
   right = shown_tree value relation.right;
 }
-
--- an index with a lag comes first
-abbrev pub begins_lagged : {N : Type 0} → Indices N → Bool
-begins_lagged (lagged name op at amount rest) = true
-begins_lagged _ = false
 
 -- some index has a lag
 abbrev pub has_lag : {N : Type 0} → Indices N → Bool

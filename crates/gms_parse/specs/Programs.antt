@@ -13,81 +13,39 @@ use Rattle.gms_parse.specs.Statements.{named_act, assignment_act, alias_act, dis
 -- matters.
 module _ {N : Type 0} (source : List ℕ) (names labels : List (List ℕ)) (value : List ℕ → N) where
   abbrev mutual
-    -- a loop: its control, and the statements of its body
+    -- a loop
     pub loop_act : Tree (Terminal × Token) → Act N
-    loop_act (node tree) = loop_in tree
+    loop_act (node (pair _ (pair _ (pair tree _)))) = controlled tree
     loop_act _ = displays []
 
-    loop_in : Tree (Terminal × Token) → Act N
-    loop_in (pair word tree) = bracketed_loop tree
-    loop_in _ = displays []
-
-    bracketed_loop : Tree (Terminal × Token) → Act N
-    bracketed_loop (pair opening tree) = closed_loop tree
-    bracketed_loop _ = displays []
-
-    closed_loop : Tree (Terminal × Token) → Act N
-    closed_loop (pair tree closing) = controlled tree
-    closed_loop _ = displays []
-
+    -- its control, and the statements of its body
     pub controlled : Tree (Terminal × Token) → Act N
-    controlled (pair sets tree) = loop_over sets tree
+    controlled (pair sets (pair _ body)) = loops (control source names labels value sets) (loop_body body)
     controlled _ = displays []
-
-    loop_over : Tree (Terminal × Token) → Tree (Terminal × Token) → Act N
-    loop_over sets (pair comma tree) = loops (control source names labels value sets) (loop_body tree)
-    loop_over sets _ = displays []
 
     -- the statements of a loop's body
     pub loop_body : Tree (Terminal × Token) → Statements N
-    loop_body (node tree) = first_and_others tree
+    loop_body (node (pair first others)) = statement (place_in first) (inner_act first) (behind_semicolon others)
     loop_body _ = no_statement
 
-    first_and_others : Tree (Terminal × Token) → Statements N
-    first_and_others (pair first others) = statement (place_in first) (inner_act first) (behind_semicolon others)
-    first_and_others _ = no_statement
-
     pub behind_semicolon : Tree (Terminal × Token) → Statements N
-    behind_semicolon (some tree) = after_semicolon tree
+    behind_semicolon (some (pair _ (some tree))) = loop_body tree
     behind_semicolon _ = no_statement
 
-    after_semicolon : Tree (Terminal × Token) → Statements N
-    after_semicolon (pair semicolon tree) = perhaps_more tree
-    after_semicolon _ = no_statement
-
-    perhaps_more : Tree (Terminal × Token) → Statements N
-    perhaps_more (some tree) = loop_body tree
-    perhaps_more _ = no_statement
-
-    -- a statement in a loop: an assignment, a display, options, a solve, an abort, or a loop
+    -- a statement in a loop: an assignment, or another
     pub inner_act : Tree (Terminal × Token) → Act N
-    inner_act (node tree) = assignment_or_other tree
+    inner_act (node (left tree)) = assignment_act source names labels value tree
+    inner_act (node (right tree)) = display_or_other tree
     inner_act _ = displays []
 
-    assignment_or_other : Tree (Terminal × Token) → Act N
-    assignment_or_other (left tree) = assignment_act source names labels value tree
-    assignment_or_other (right tree) = display_or_other tree
-    assignment_or_other _ = displays []
-
+    -- a display, options, a solve, an abort, or a loop
     pub display_or_other : Tree (Terminal × Token) → Act N
     display_or_other (left tree) = display_act source names labels value tree
-    display_or_other (right tree) = option_or_other tree
+    display_or_other (right (left tree)) = option_act source names labels value tree
+    display_or_other (right (right (left tree))) = solve_act source names labels value tree
+    display_or_other (right (right (right (left tree)))) = abort_act source names labels value tree
+    display_or_other (right (right (right (right tree)))) = loop_act tree
     display_or_other _ = displays []
-
-    option_or_other : Tree (Terminal × Token) → Act N
-    option_or_other (left tree) = option_act source names labels value tree
-    option_or_other (right tree) = solve_or_other tree
-    option_or_other _ = displays []
-
-    solve_or_other : Tree (Terminal × Token) → Act N
-    solve_or_other (left tree) = solve_act source names labels value tree
-    solve_or_other (right tree) = abort_or_loop tree
-    solve_or_other _ = displays []
-
-    abort_or_loop : Tree (Terminal × Token) → Act N
-    abort_or_loop (left tree) = abort_act source names labels value tree
-    abort_or_loop (right tree) = loop_act tree
-    abort_or_loop _ = displays []
 
 -- The same where numbers have these opposites, and the lines of a table give these items.
 module _ {N : Type 0} (source : List ℕ) (names labels : List (List ℕ)) (value : List ℕ → N) (opposite : N → N) (table_items : List (Terminal × Token) → List (Item N)) where
@@ -121,28 +79,16 @@ module _ {N : Type 0} (source : List ℕ) (names labels : List (List ℕ)) (valu
   named_first _ others = others
 
   -- what stands between two semicolons
-  abbrev pub segment_in : Tree (Terminal × Token) → Statements N
-  segment_in (pair named others) = named_first named (keyword_statements others)
-  segment_in _ = no_statement
-
   abbrev pub segment : Tree (Terminal × Token) → Statements N
-  segment (node tree) = segment_in tree
+  segment (node (pair named others)) = named_first named (keyword_statements others)
   segment _ = no_statement
 
-  -- a semicolon, and what stands behind it
-  abbrev pub segment_behind : Tree (Terminal × Token) → Statements N
-  segment_behind (pair semicolon tree) = segment tree
-  segment_behind _ = no_statement
-
+  -- semicolons, and what stands behind each
   abbrev pub segments : Tree (Terminal × Token) → Statements N
-  segments (more first others) = followed_by (segment_behind first) (segments others)
+  segments (more (pair _ tree) others) = followed_by (segment tree) (segments others)
   segments _ = no_statement
 
   -- the statements of a program
-  abbrev pub statements_in : Tree (Terminal × Token) → Statements N
-  statements_in (pair first others) = followed_by (segment first) (segments others)
-  statements_in _ = no_statement
-
   abbrev pub statements_of : Tree (Terminal × Token) → Statements N
-  statements_of (node tree) = statements_in tree
+  statements_of (node (pair first others)) = followed_by (segment first) (segments others)
   statements_of _ = no_statement

@@ -1,6 +1,6 @@
 -- What the tokens of a program leave as they are read in order: names and labels are numbered where they first stand. And which
 -- tokens that the grammar expects have a fault (GAMS User's Guide, "Language Items", "Sets"; the limits are this project's own).
-use Rattle.std.specs.Prelude.{◌≡◌, ℕ, ◌≤◌, Bool, true, false, not, ◌&&◌, ◌||◌, ◌==◌, if◌then◌else◌, List, [], ◌∷◌, ◌++◌, reverse, take_while, Option, Some, None, fold, ⊤}
+use Rattle.std.specs.Prelude.{◌≡◌, ℕ, ◌≤◌, Bool, true, false, not, ◌&&◌, ◌||◌, ◌==◌, if◌then◌else◌, List, [], ◌∷◌, ◌++◌, map, reverse, take_while, Option, Some, None, ⊤}
 use Rattle.gms_labels.specs.declared.place.Place.{Place}
 use Rattle.gms_labels.specs.Labels.{entered, IsFullFor}
 use Rattle.gms_lex.specs.declared.token.Token.{Token}
@@ -12,8 +12,11 @@ use Rattle.gms_grammar.specs.declared.terminal.Terminal.{Terminal}
 use Rattle.gms_grammar.specs.declared.terminal.Terminal.TheVariants as terminal
 use Rattle.gms_grammar.specs.Terminals.{is, is_among}
 use Rattle.gms_set.specs.Ranges.{is_range, members}
+use Rattle.gms_table.specs.WordLabels.{all_entered}
 use Rattle.gms_expressions.specs.ExpressionTrees.{unquoted as between_marks}
+use Rattle.gms_expressions.specs.Words.{statement_words}
 use Rattle.gms_expressions.specs.Outcomes.{open_after}
+pub use Rattle.gms_expressions.specs.Outcomes.{kind_ahead}
 use Rattle.gms_parse.specs.declared.fault.SourceError.TheVariants.{Depth, Number as OutOfRange, TooManyLabels, NoHeading}
 use Rattle.gms_parse.specs.declared.fault.SourceFault.{SourceFault}
 use Rattle.gms_parse.specs.Tables.{labels_of_lines, IsLineFault}
@@ -44,15 +47,9 @@ abbrev pub last_kind : List Seen → Terminal
 last_kind [] = terminal.Semicolon
 last_kind (token ∷ tokens) = token.0
 
--- the kind of the first of the tokens, or of what stands behind them
-abbrev pub kind_ahead : List Seen → Terminal → Terminal
-kind_ahead [] ahead = ahead
-kind_ahead (token ∷ tokens) ahead = token.0
-
 -- a keyword, with which a statement begins
 abbrev pub is_keyword : Terminal → Bool
-is_keyword kind =
-    is_among (terminal.Abort ∷ terminal.Alias ∷ terminal.Display ∷ terminal.Equation ∷ terminal.Loop ∷ terminal.Model ∷ terminal.Option ∷ terminal.Parameter ∷ terminal.Scalar ∷ terminal.Set ∷ terminal.Solve ∷ terminal.Table ∷ terminal.Variable ∷ terminal.VariableType ∷ []) kind
+is_keyword kind = is_among (map (λ words. words.0) statement_words) kind
 
 -- A name: no suffix behind a dot, no word of an option, and not the word behind `using`.
 abbrev pub is_name : Walk → Terminal → Bool
@@ -79,10 +76,6 @@ table_name (name ∷ (word ∷ others)) = if is terminal.Table word.0 then name.
 -- a statement may end before a token of this kind
 abbrev pub ends_statement : Terminal → Bool
 ends_statement kind = is_among (terminal.Semicolon ∷ terminal.End ∷ []) kind || is_keyword kind
-
--- the labels after these were entered, one after another
-abbrev pub all_entered : List (List ℕ) → List (List ℕ) → List (List ℕ)
-all_entered labels texts = fold entered labels texts
 
 -- one of these texts finds no room, as they are entered one after another
 pub record LacksRoom (labels texts : List (List ℕ)) : Type 0 where

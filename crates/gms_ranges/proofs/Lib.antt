@@ -1,4 +1,3 @@
 pub mod Appended
-pub mod Exact
 pub mod Same
 pub mod Says

@@ -4,7 +4,7 @@ use Rattle.std.specs.Prelude.{◌≡◌, ℕ, ◌+◌, Bool, true, false, List, 
 use Rattle.std.specs.List.{enumerate_from}
 use Rattle.gq_number.specs.Number.{Number}
 use Rattle.gms_fmt.specs.ElementTexts.{element_text}
-use Rattle.gms_list.specs.Amounts.{exact_text}
+use Rattle.gq_text.specs.ExactText.{exact_text}
 use Rattle.gms_words.specs.CommandLine.{ranges_line, range_line, not_shown_line}
 use Rattle.lp_form.specs.declared.key.Key.{Key}
 use Rattle.lp_core.specs.declared.answer.Answer.{Answer}

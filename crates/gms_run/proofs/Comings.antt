@@ -1,6 +1,6 @@
 -- What work comes to, carried through a call that failed and through one that is done behind another.
 use Rattle.std.proofs.Common.{◌≡◌, List, ℕ, Result, Ok, Err, refl, arith}
-use Rattle.std.specs.Prelude.{IsErrOf}
+use Rattle.std.specs.Prelude.{IfOk, IsErrOf}
 use Rattle.gms_host.specs.declared.host.Failed.{Failed}
 use Rattle.gms_host.specs.declared.host.Failed.TheVariants.{Fault, Memory}
 use Rattle.gms_host.specs.Meaning.{Counts, Outside}
@@ -23,6 +23,17 @@ comes_broken Done Memory x = tt
 pub comes_err : {A B : Type 0} (Done : A → Type 0) (Other : B → Type 0) {X Y : Type 0} (failed : Failed) → (X → Y) → ComesTo (failed_with A failed) Done X → ComesTo (failed_with B failed) Other Y
 comes_err Done Other Fault f x = f x
 comes_err Done Other Memory f x = tt
+
+-- what work comes to, said in another way
+pub comes_as : {A : Type 0} (r : Result A Failed) (Done Other : A → Type 0) {X Y : Type 0} → ((x : A) → Done x → Other x) → (X → Y) → ComesTo r Done X → ComesTo r Other Y
+comes_as (Ok x) Done Other f b d = f x d
+comes_as (Err Fault) Done Other f b d = b d
+comes_as (Err Memory) Done Other f b d = tt
+
+-- what holds where work is done, by what it comes to
+pub told_as : {A : Type 0} (r : Result A Failed) (Done P Q : A → Type 0) (X : Type 0) → ((x : A) → Done x → P x → Q x) → ComesTo r Done X → IfOk r P → IfOk r Q
+told_as (Ok x) Done P Q X f d p = f x d p
+told_as (Err e) Done P Q X f d p = tt
 
 -- where writing all ends a piece of work, what it comes to
 pub comes_flushed : {A : Type 0} (r : Result A Failed) (old mid new : Outside) (due pending : List ℕ) → Passes old mid due pending → WritesAll r mid new pending → ComesTo r (λ x. new ≡ with_output old due) (WritesFront old new due)

@@ -22,8 +22,8 @@ use Rattle.gms_list.specs.ListingText.{echo_text}
 use Rattle.gms_run.specs.declared.status.Status.{Status}
 use Rattle.gms_run.specs.declared.status.Status.TheVariants.{Done, Execution}
 use Rattle.gms_run.specs.Solving.{Solvers, Solving, number_limit}
-use Rattle.gms_run.specs.Jobs.{IsSolved, Job, first_of, job_of, shown_by}
-use Rattle.gms_run.specs.InnerSteps.{Between, BreaksBehind, BreaksJob, EndsBehind, EndsJob, IsListed, work}
+use Rattle.gms_run.specs.Jobs.{IsCutOff, IsSolved, Job, body_of, first_of, job_of, shown_by}
+use Rattle.gms_run.specs.InnerSteps.{Between, BreaksBehind, Ends, EndsBehind, IsListed, work}
 use Rattle.gms_run.proofs.Listed.{listed_none, listed_more, one_more}
 use Rattle.gms_run.proofs.Rest.{Done_so, EndsWith, begin, comes_to_rest, ends_done, ends_stopped, shown_by_first, solving_with, statements, statement_of, taken_by_first}
 
@@ -190,6 +190,18 @@ pub same_many : {S : Type 0} (name : S → List ℕ) (xs ys : List S) → map na
 same_many name xs ys same = sym (length-map xs name) ∙ ap length same ∙ length-map ys name
 
 -- ---- behind the echo
+
+-- A job came to its end, and its listing as far as the last line is on its way out.
+pub record EndsJob (status : Status) (job : Job) (solving : Solving) (last : State) (programs : List (Lp Frac)) (old new : Outside) (pending : List ℕ) : Type 0 where
+  pub ends : Ends status job solving last programs
+  pub passes : Passes old new (body_of job solving) pending
+  pub room : length pending ≤ 4096
+
+-- A job was cut off.
+pub record BreaksJob (job : Job) (solving : Solving) (old new : Outside) : Type 0 where
+  pub solved : IsSolved job solving
+  pub front : WritesFront old new (body_of job solving)
+  pub cut : IsCutOff job solving (length front.1.bytes)
 
 module _ (source : List ℕ) (program : Program Frac) (old mid : Outside) (due spool rest : List ℕ) (first : Passes old mid due spool) (none : rest ≡ []) (echo : due ≡ echo_text 1 source) where
   -- a job that is not echoed is solved as the one that is

@@ -21,7 +21,6 @@ use Rattle.gms_parse.specs.declared.fault.SourceError.TheVariants.{TooLong}
 use Rattle.gms_parse.specs.contracts.fault.SourceError.{the_type}
 use Rattle.gms_parse.specs.declared.fault.SourceFault.{SourceFault}
 use Rattle.gms_parse.specs.Outcomes.{IsProgram, IsFault}
-use Rattle.gms_check.specs.declared.error.CompileError.{CompileError}
 use Rattle.gms_check.specs.CompileErrors.{compile_errors}
 use Rattle.gms_event.specs.Events.{Event, Solved}
 use Rattle.gms_exec.specs.Run.{Halt}
@@ -34,15 +33,15 @@ use Rattle.gms_ranges.specs.RangeTexts.{SaysRanges}
 use Rattle.gms_list.specs.ListingText.{echo_text, end_text, refused_echo, source_error_text, compile_errors_text}
 use Rattle.gms_run.specs.declared.status.Status.{Status}
 use Rattle.gms_run.specs.declared.status.Status.TheVariants.{Done, Usage, Compile, Execution, ReadFault, WriteFault}
-use Rattle.gms_run.specs.declared.report.Last.{Last}
 use Rattle.gms_store.specs.State.{State}
 use Rattle.gms_words.specs.CommandLine.{Asked, Origin, in_file, generated, closing_line}
 use Rattle.gms_run.specs.Solving.{Solving, SolvesNothing, number_limit, numbers_of, solves_in}
 use Rattle.gms_run.specs.Jobs.{HaltsSo, IsCutOff, IsSolved, Job, body_of, course_of, first_of, job_of, job_text, last_line, status_code}
-use Rattle.gms_run.specs.Listings.{AreClosing, IsAccepted, IsExecuted, IsFront, IsListing, IsModelLine, TellsModel, TellsRanges, TellsRangesOf, TellsRun, TellsSize, TellsSpans}
+use Rattle.gms_run.specs.Listings.{AreClosing, AreRemarks, IsAccepted, IsExecuted, IsFront, IsListing, IsModelLine, TellsModel, TellsRanges, TellsRun, TellsSpans}
 use Rattle.gms_run.specs.Statuses.{IsUnwritten}
-use Rattle.gms_run.specs.InnerReports.{IsAnsweredFor, IsRanged, IsTold, KeepsLast, KeepsRun, Lists, Prepares}
-use Rattle.gms_run.specs.InnerSteps.{BreaksJob, Ends, EndsJob, IsAnsweredAt, KeepsPrograms}
+use Rattle.gms_run.specs.InnerReports.{IsRanged, IsRemarked, IsTold, Lists, ListsErrors, Prepares}
+use Rattle.gms_run.specs.InnerSteps.{Ends, IsAnsweredAt, KeepsPrograms}
+use Rattle.gms_run.proofs.Executing.{BreaksJob, EndsJob}
 
 -- what stands behind a spool and a text that are both empty
 pub behind_nothing : (spool before text : List ℕ) → spool ++ before ≡ [] → spool ++ (before ++ text) ≡ text
@@ -78,16 +77,19 @@ prepares_refusal status solving now source spool before pending listing fault re
     all_pending status solving now source body _ (subst (λ s. IsListing s solving source (body ++ end_text (status_code s) (length solving.answers))) (sym same) is) (ap₂ (λ a b. a ++ b) kept put ∙ behind_nothing spool before body empty) same
 
 -- The listing of a program that has errors.
-pub prepares_errors : (solving : Solving) (now : Outside) (source spool before mid after : List ℕ) (program : Program Frac) (errors : List CompileError) →
-    IsProgram number_limit source frac_value program → errors ≡ compile_errors frac_value program solving.before.names → errors ≢ [] → SolvesNothing solving → spool ++ before ≡ [] →
-    mid ≡ before ++ echo_text 1 source → after ≡ mid ++ compile_errors_text errors →
-    Prepares Compile solving now now source (spool ++ after)
-prepares_errors solving now source spool before mid after program errors is_program same some none empty echoed put =
-    let found = compile_errors frac_value program solving.before.names in
-    let body : List ℕ = echo_text 1 source ++ compile_errors_text found in
-    let is : IsListing Compile solving source (body ++ end_text 2 (length solving.answers)) = (inr (record { program = program; is_program = is_program; some = λ e. some (same ∙ e); listing = ap (λ n. body ++ end_text 2 n) (ap length none.0) }), none) in
-    let put_all : after ≡ before ++ body = two_behind before (echo_text 1 source) mid (compile_errors_text found) after echoed (put ∙ ap (λ e. mid ++ compile_errors_text e) same) in
-    all_pending Compile solving now source body _ is (ap (λ t. spool ++ t) put_all ∙ behind_nothing spool before body empty) refl
+pub prepares_errors : (solving : Solving) (now : Outside) (source spool before after : List ℕ) (program : Program Frac) → IsProgram number_limit source frac_value program → SolvesNothing solving → spool ++ before ≡ [] →
+    ListsErrors true (compile_errors frac_value program solving.before.names) source before after → Prepares Compile solving now now source (spool ++ after)
+prepares_errors solving now source spool before after program is_program none empty (some, put) =
+    let body : List ℕ = echo_text 1 source ++ compile_errors_text (compile_errors frac_value program solving.before.names) in
+    let is : IsListing Compile solving source (body ++ end_text 2 (length solving.answers)) = (inr (record { program = program; is_program = is_program; some = some; listing = ap (λ n. body ++ end_text 2 n) (ap length none.0) }), none) in
+    all_pending Compile solving now source body _ is (ap (λ t. spool ++ t) put ∙ behind_nothing spool before body empty) refl
+
+-- where the errors for these solvers are listed they are those for the same solvers
+pub errors_listed : {X : Type 0} (name_of : X → List ℕ) (some b : Bool) (program : Program Frac) (slice solvers : List X) (source before after : List ℕ) → slice ≡ solvers → some ≡ b →
+    ListsErrors some (compile_errors frac_value program (map name_of slice)) source before after → ListsErrors b (compile_errors frac_value program (map name_of solvers)) source before after
+errors_listed {X} name_of some b program slice solvers source before after same is lists =
+    subst (λ (xs : List X). ListsErrors b (compile_errors frac_value program (map name_of xs)) source before after) same
+    (subst (λ (s : Bool). ListsErrors s (compile_errors frac_value program (map name_of slice)) source before after) is lists)
 
 -- ---- runs
 
@@ -130,25 +132,6 @@ prepares_job status solving old new source left program last programs is_program
       room = inr e.room;
     }
 
--- The program of a run that ended, its last state and the programs of its solves were kept.
-pub keeps_run : (status : Status) (solving : Solving) (source : List ℕ) (last : Last) → IsProgram number_limit source frac_value last.program → Ends status (job_of source last.program) solving last.store last.solved.items → KeepsLast status solving source (Some last)
-keeps_run status solving source last is_program ends = by status ends.halts
-  where
-    run : KeepsRun solving source (Some last)
-    run = record { last = last; is = refl; is_program = is_program; state = sym ends.comes; solved = ends.kept }
-
-    by : (s : Status) → HaltsSo s (course_of (job_of source last.program) solving).halted → KeepsLast s solving source (Some last)
-    by Done h = run
-    by Execution h = run
-    by Usage h = absurd h
-    by Compile h = absurd h
-    by ReadFault h = absurd h
-    by WriteFault h = absurd h
-
--- Of a source that is no program nothing was kept.
-pub keeps_nothing : (status : Status) (solving : Solving) (source : List ℕ) → status ≡ Compile → KeepsLast status solving source (let kept : Option Last = None in kept)
-keeps_nothing status solving source same = subst (λ s. KeepsLast s solving source None) (sym same) refl
-
 -- A job that was cut off.
 pub unwritten_job : (solving : Solving) (old new : Outside) (source : List ℕ) (program : Program Frac) → IsProgram number_limit source frac_value program → compile_errors frac_value program solving.before.names ≡ [] → BreaksJob (job_of source program) solving old new → IsUnwritten solving old new source
 unwritten_job solving old new source program is_program no_error b =
@@ -162,63 +145,69 @@ unwritten_job solving old new source program is_program no_error b =
 
 -- ---- what is said in the end
 
--- what is told of a run that kept its program and its last state
-told_run : (solving : Solving) (size : ℕ) (source line : List ℕ) (kept : Option Last) → KeepsRun solving source kept → IsTold (generated size) kept solving.answers line → TellsModel solving size source line
-told_run solving size source line kept keeps told =
-    let last : Last = keeps.last in
-    let of_last : IsModelLine size last.program last.store solving.answers line = subst (λ (k : Option Last). IsTold (generated size) k solving.answers line) keeps.is told in
-    record { program = last.program; is_program = keeps.is_program; told = subst (λ (state : State). IsModelLine size last.program state solving.answers line) keeps.state of_last }
-
--- of a generated model, as its status says
-told_size : (status : Status) (solving : Solving) (size : ℕ) (source line : List ℕ) (kept : Option Last) → KeepsLast status solving source kept → IsTold (generated size) kept solving.answers line → TellsSize status solving size source line
-told_size Done solving size source line kept keeps told = told_run solving size source line kept keeps told
-told_size Execution solving size source line kept keeps told = told_run solving size source line kept keeps told
-told_size Compile solving size source line kept keeps told = subst (λ (k : Option Last). IsTold (generated size) k solving.answers line) keeps told
-told_size Usage solving size source line kept keeps told = subst (λ (k : Option Last). IsTold (generated size) k solving.answers line) keeps told
-told_size ReadFault solving size source line kept keeps told = subst (λ (k : Option Last). IsTold (generated size) k solving.answers line) keeps told
-told_size WriteFault solving size source line kept keeps told = subst (λ (k : Option Last). IsTold (generated size) k solving.answers line) keeps told
-
--- what is said of the ranges of a run that kept its program and the programs of its solves
-spans_of_run : (solving : Solving) (source text : List ℕ) (kept : Option Last) → KeepsRun solving source kept → IsRanged true kept solving.answers text → TellsSpans solving source text
-spans_of_run solving source text kept keeps said =
-    let last : Last = keeps.last in
-    let of_last : IsRanged true (Some last) solving.answers text = subst (λ (k : Option Last). IsRanged true k solving.answers text) keeps.is said in
-    record {
-      program = last.program;
-      is_program = keeps.is_program;
-      in_order = keeps.solved.in_order;
-      said = subst (λ (programs : List (Lp Number)). SaysRanges last.program.names last.program.labels number_limit 1 programs (numbers_of solving.answers) text) keeps.solved.shown of_last;
-    }
-
--- of a source, as the status says
-spans_by : (status : Status) (solving : Solving) (source text : List ℕ) (kept : Option Last) → KeepsLast status solving source kept → IsRanged true kept solving.answers text → TellsRangesOf status solving source text
-spans_by Done solving source text kept keeps said = spans_of_run solving source text kept keeps said
-spans_by Execution solving source text kept keeps said = spans_of_run solving source text kept keeps said
-spans_by Compile solving source text kept keeps said = subst (λ (k : Option Last). IsRanged true k solving.answers text) keeps said
-spans_by Usage solving source text kept keeps said = subst (λ (k : Option Last). IsRanged true k solving.answers text) keeps said
-spans_by ReadFault solving source text kept keeps said = subst (λ (k : Option Last). IsRanged true k solving.answers text) keeps said
-spans_by WriteFault solving source text kept keeps said = subst (λ (k : Option Last). IsRanged true k solving.answers text) keeps said
-
--- and as it is asked for
-tells_ranges : (asked : Bool) (status : Status) (solving : Solving) (source text : List ℕ) (kept : Option Last) → KeepsLast status solving source kept → IsRanged asked kept solving.answers text → TellsRanges asked status solving source text
-tells_ranges true status solving source text kept keeps said = spans_by status solving source text kept keeps said
-tells_ranges false status solving source text kept keeps said = said
-
--- The closing lines are those that the run calls for.
-pub are_closing : (status : Status) (solving : Solving) (request : Asked) (source lines output : List ℕ) (kept : Option Last) → KeepsLast status solving source kept → output ≡ request.output →
-    (ranges line : List ℕ) × IsRanged request.ranges kept solving.answers ranges × IsTold request.source kept solving.answers line × (lines ≡ ranges ++ line ++ closing_line (status_code status) (length solving.answers) output) →
-    AreClosing status solving request source lines
-are_closing status solving request source lines output kept keeps named (ranges, line, ranged, told, split) = (
+-- The remarks on a run that came to its end are those that it calls for.
+pub remarked : (status : Status) (solving : Solving) (request : Asked) (source text : List ℕ) (program : Program Frac) (last : State) (solved : List (Lp Frac)) → IsProgram number_limit source frac_value program → Ends status (job_of source program) solving last solved →
+    IsRemarked request program last solved solving.answers text → AreRemarks status solving request source text
+remarked status solving request source text program last solved is_program ends (ranges, line, ranged, told, split) = (
   ranges,
   line,
-  tells_ranges request.ranges status solving source ranges kept keeps ranged,
-  tells request.source told,
-  split ∙ ap (λ (name : List ℕ). ranges ++ line ++ closing_line (status_code status) (length solving.answers) name) named,
+  spans request.ranges status ends.halts ranged,
+  tells request.source status ends.halts told,
+  split,
 )
   where
-    tells : (x : Origin) → IsTold x kept solving.answers line → TellsRun status solving x source line
-    tells (in_file file) told = told
-    tells (generated size) told = told_size status solving size source line kept keeps told
+    job : Job
+    job = job_of source program
+
+    of_spans : SaysRanges program.names program.labels number_limit 1 (map (lp_numbers frac_value) solved) (numbers_of solving.answers) ranges → TellsSpans solving source ranges
+    of_spans said =
+        record {
+          program = program;
+          is_program = is_program;
+          in_order = ends.kept.in_order;
+          said = subst (λ (programs : List (Lp Number)). SaysRanges program.names program.labels number_limit 1 programs (numbers_of solving.answers) ranges) ends.kept.shown said;
+        }
+
+    spans : (asked : Bool) (s : Status) → HaltsSo s (course_of job solving).halted → IsRanged asked program solved solving.answers ranges → TellsRanges asked s solving source ranges
+    spans false s h said = said
+    spans true Done h said = of_spans said
+    spans true Execution h said = of_spans said
+    spans true Usage h said = absurd h
+    spans true Compile h said = absurd h
+    spans true ReadFault h said = absurd h
+    spans true WriteFault h said = absurd h
+
+    of_model : (size : ℕ) → IsModelLine size program last solving.answers line → TellsModel solving size source line
+    of_model size told =
+        record { program = program; is_program = is_program; told = subst (λ (state : State). IsModelLine size program state solving.answers line) (sym ends.comes) told }
+
+    tells : (o : Origin) (s : Status) → HaltsSo s (course_of job solving).halted → IsTold o program last solving.answers line → TellsRun s solving o source line
+    tells (in_file file) s h told = told
+    tells (generated size) Done h told = of_model size told
+    tells (generated size) Execution h told = of_model size told
+    tells (generated size) Usage h told = absurd h
+    tells (generated size) Compile h told = absurd h
+    tells (generated size) ReadFault h told = absurd h
+    tells (generated size) WriteFault h told = absurd h
+
+-- On a source that is refused there are none.
+pub no_remarks : (status : Status) (solving : Solving) (request : Asked) (source text : List ℕ) → status ≡ Compile → text ≡ [] → AreRemarks status solving request source text
+no_remarks status solving request source text same none =
+    subst (λ s. AreRemarks s solving request source text) (sym same) ([], [], ranges request.ranges, line request.source, none)
+  where
+    ranges : (asked : Bool) → TellsRanges asked Compile solving source []
+    ranges true = refl
+    ranges false = refl
+
+    line : (o : Origin) → TellsRun Compile solving o source []
+    line (in_file file) = refl
+    line (generated size) = refl
+
+-- The closing lines are those that the run calls for.
+pub are_closing : (status : Status) (solving : Solving) (request : Asked) (source remarks lines output : List ℕ) (solves : ℕ) → AreRemarks status solving request source remarks → output ≡ request.output → solves ≡ length solving.answers →
+    lines ≡ remarks ++ closing_line (status_code status) solves output → AreClosing status solving request source lines
+are_closing status solving request source remarks lines output solves told named many closed =
+    (remarks, told, closed ∙ ap₂ (λ (n : ℕ) (name : List ℕ). remarks ++ closing_line (status_code status) n name) many named)
 
 -- ---- answers of the programs that were kept
 
@@ -234,19 +223,9 @@ answered_by rules answers programs events kept =
     at place (Some lp) (settings, stands) =
         subst (λ (o : Option (Answer Frac)). IfSome o (IsAnswered frac_value number_limit lp)) (sym stands.stands) (record { formed = stands.formed; iterlim = settings.iterlim; rule = stands.rule; is_answer = stands.is_answer })
 
--- so it is of a run that kept them
-answered_of_run : (solving : Solving) (source : List ℕ) (kept : Option Last) → KeepsRun solving source kept → IsAnsweredFor kept solving.answers
-answered_of_run solving source kept keeps =
-    subst (λ (k : Option Last). IsAnsweredFor k solving.answers) (sym keeps.is) (answered_by solving.before.rules solving.answers keeps.last.solved.items (course_of (job_of source keeps.last.program) solving).events keeps.solved)
-
--- and of every source
-pub answered_for : (status : Status) (solving : Solving) (source : List ℕ) (kept : Option Last) → KeepsLast status solving source kept → IsAnsweredFor kept solving.answers
-answered_for Done solving source kept keeps = answered_of_run solving source kept keeps
-answered_for Execution solving source kept keeps = answered_of_run solving source kept keeps
-answered_for Compile solving source kept keeps = subst (λ (k : Option Last). IsAnsweredFor k solving.answers) (sym keeps) tt
-answered_for Usage solving source kept keeps = subst (λ (k : Option Last). IsAnsweredFor k solving.answers) (sym keeps) tt
-answered_for ReadFault solving source kept keeps = subst (λ (k : Option Last). IsAnsweredFor k solving.answers) (sym keeps) tt
-answered_for WriteFault solving source kept keeps = subst (λ (k : Option Last). IsAnsweredFor k solving.answers) (sym keeps) tt
+-- so it is of a job that came to its end
+pub ends_answered : (status : Status) (job : Job) (solving : Solving) (last : State) (programs : List (Lp Frac)) → Ends status job solving last programs → AreAnswered frac_value number_limit programs solving.answers
+ends_answered status job solving last programs ends = answered_by solving.before.rules solving.answers programs (course_of job solving).events ends.kept
 
 -- ---- the last line
 
@@ -332,27 +311,20 @@ nothing_in : {X : Type 0} (xs : List X) → length xs ≡ 0 → xs ≡ []
 nothing_in [] h = refl
 nothing_in (x ∷ xs) h = absurd (omega (arith, h))
 
--- a vector that is empty
-pub emptied : {X : Type 0} (v : Vec X Global) → (vec_len v == 0) ≡ true → v.items ≡ []
-emptied v e = let counts = v.ok.0 in let none = eqb-true v.len 0 e in nothing_in v.items (omega (arith, counts, none))
+-- a list that is empty
+pub emptied : {X : Type 0} (xs : List X) → (length xs == 0) ≡ true → xs ≡ []
+emptied xs e = nothing_in xs (eqb-true (length xs) 0 e)
 
 positive : (n : ℕ) → (n == 0) ≡ false → 0 < n
 positive zero e = absurd cc
 positive (suc n) e = omega arith
 
--- a vector that is not
-pub filled : {X : Type 0} (v : Vec X Global) → (vec_len v == 0) ≡ false → v.items ≢ []
-filled v e = λ none.
-    let counts = v.ok.0 in
-    let n : length v.items ≡ 0 = ap length none in
-    let some = positive v.len e in
-    omega (arith, counts, n, some)
-
--- the errors that were found, of the names that were made
-pub errors_are : {X : Type 0} (name_of : X → List ℕ) (program : Program Frac) (errors : List CompileError) (texts names : List (String Global)) (slice solvers : List X) →
-    errors ≡ compile_errors frac_value program (map string_bytes texts) → texts ≡ names → map string_bytes names ≡ map name_of slice → slice ≡ solvers → errors ≡ compile_errors frac_value program (map name_of solvers)
-errors_are name_of program errors texts names slice solvers found same made kept =
-    found ∙ ap (λ ts. compile_errors frac_value program ts) (ap (map string_bytes) same ∙ made ∙ ap (map name_of) kept)
+-- a list that is not
+pub filled : {X : Type 0} (xs : List X) → (length xs == 0) ≡ false → xs ≢ []
+filled xs e = λ none.
+    let n : length xs ≡ 0 = ap length none in
+    let some = positive (length xs) e in
+    omega (arith, n, some)
 
 -- the names of one solver more
 pub named_more : {X : Type 0} (f : X → List ℕ) (xs : List X) (i : ℕ) (x : X) (names after : List (String Global)) (text : String Global) → i < length xs → x ≡ get_or xs i x →

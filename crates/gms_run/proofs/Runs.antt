@@ -6,7 +6,7 @@ use Rattle.std.specs.declared.alloc.Global.{Global}
 use Rattle.std.proofs.lemmas.List.{take_all}
 use Rattle.std.proofs.lemmas.Bool.{cases_lt}
 use Rattle.gms_host.specs.declared.host.Failed.{Failed}
-use Rattle.gms_host.specs.declared.host.Failed.TheVariants.{Fault}
+use Rattle.gms_host.specs.declared.host.Failed.TheVariants.{Fault, Memory}
 use Rattle.gms_host.specs.Meaning.{Counts, Meaning, Outside, Rose}
 use Rattle.gms_host.specs.Rules.{ClosesOutput, CountsReading, CountsWriting, IsThere, OpensOutput, with_kept, with_opened, with_output, with_said}
 use Rattle.gms_host.specs.Spooling.{SaysFront}
@@ -21,7 +21,9 @@ use Rattle.gms_words.specs.CommandLine.{Asked, Origin, in_file, generated, read_
 use Rattle.gms_run.specs.Solving.{Solving, SolvesNothing, number_limit}
 use Rattle.gms_run.specs.Listings.{AreClosing, IsExecuted, IsFront, IsListing, IsRefused, ShowsErrors, ShowsRefusal, TellsRanges, TellsRun, TellsSpans}
 use Rattle.gms_run.specs.Statuses.{CountsSo, EndsByNoFault, HasOrigin, IsReadyFor, IsReported, IsRun, IsSource, IsUnread, IsUnwritten, IsWriteFault, OfRequest, RanSo, SaysLine, with_listing, with_source}
-use Rattle.gms_run.specs.InnerReports.{CountsMention, CountsRun, Lists, ReadsFile}
+use Rattle.gms_run.specs.InnerReports.{CountsMention, CountsRun, EndsAs, Lists, ReadsFile}
+use Rattle.gms_run.specs.InnerSteps.{ComesTo}
+use Rattle.gms_run.proofs.Comings.{failed_with}
 
 -- ---- sources that are too long
 
@@ -95,13 +97,8 @@ long_ranges true WriteFault solving a b text long said = said
 
 -- What is said at the end of the first bytes of a file is said of the file.
 closing_of_file : (status : Status) (solving : Solving) (request : Asked) (file whole lines : List ℕ) → request.source ≡ in_file file → AreClosing status solving request (first_bytes whole) lines → AreClosing status solving request whole lines
-closing_of_file status solving request file whole lines e (ranges, line, ranged, told, split) = (
-  ranges,
-  line,
-  of_whole whole (λ (b : List ℕ). TellsRanges request.ranges status solving b ranges) (λ long more is. long_ranges request.ranges status solving (first_bytes whole) whole ranges long is) ranged,
-  tells request.source e told,
-  split,
-)
+closing_of_file status solving request file whole lines e (remarks, (ranges, line, ranged, told, split), closed) =
+    (remarks, (ranges, line, of_whole whole (λ (b : List ℕ). TellsRanges request.ranges status solving b ranges) (λ long more is. long_ranges request.ranges status solving (first_bytes whole) whole ranges long is) ranged, tells request.source e told, split), closed)
   where
     tells : (o : Origin) → o ≡ in_file file → TellsRun status solving o (first_bytes whole) line → TellsRun status solving o whole line
     tells (in_file f) e t = t
@@ -168,6 +165,16 @@ reports_so Execution solving old new request source r = r
 reports_so Usage solving old new request source r = absurd r.listing.1
 reports_so ReadFault solving old new request source r = absurd r.listing.1
 reports_so WriteFault solving old new request source r = absurd r.listing.1
+
+-- a run of a source did what its report came to
+pub ran_so : (reported : Result Status Failed) (r : Result Status AllocError) (solving : Solving) (old new : Outside) (request : Asked) (source : List ℕ) → EndsAs reported r →
+    ComesTo reported (λ status. IsReported status solving old new request source) (IsWriteFault solving old new request source) → IfOk r (λ status. RanSo status solving old new request source)
+ran_so (Ok status) r solving old new request source is done =
+    subst (λ (x : Result Status AllocError). IfOk x (λ s. RanSo s solving old new request source)) (sym is) (reports_so status solving old new request source done)
+ran_so (Err Fault) r solving old new request source is broken =
+    subst (λ (x : Result Status AllocError). IfOk x (λ s. RanSo s solving old new request source)) (sym is) broken
+ran_so (Err Memory) r solving old new request source (e, is) broken =
+    subst (λ (x : Result Status AllocError). IfOk x (λ s. RanSo s solving old new request source)) (sym is) tt
 
 -- ---- the steps of a report
 
@@ -309,6 +316,16 @@ counts_fault old new c =
 -- what a run counts that ends by want of memory
 pub counts_memory : (e : AllocError) (r : Result Status Failed) (old new : Counts) → CountsWriting r old new → CountsRun (let x : Result Status AllocError = Err e in x) (old.reliable ≡ true) old new
 counts_memory e r old new c = record { said = tt; stay = λ t. c.rest ∙ ap (λ n. record old { write_faults = n }) (c.own.steady t); unmet = λ t. tt }
+
+-- what a run counts whose report came to this
+pub counts_so : (reported : Result Status Failed) (r : Result Status AllocError) (solving : Solving) (old new : Outside) (request : Asked) (source : List ℕ) (first last : Counts) → EndsAs reported r → CountsWriting reported first last →
+    ComesTo reported (λ status. IsReported status solving old new request source) (IsWriteFault solving old new request source) → CountsRun r (first.reliable ≡ true) first last
+counts_so (Ok status) r solving old new request source first last is counts done =
+    subst (λ (x : Result Status AllocError). CountsRun x (first.reliable ≡ true) first last) (sym is) (counts_reported status first last counts (reported_status status solving old new request source done))
+counts_so (Err Fault) r solving old new request source first last is counts broken =
+    subst (λ (x : Result Status AllocError). CountsRun x (first.reliable ≡ true) first last) (sym is) (counts_fault first last counts)
+counts_so (Err Memory) r solving old new request source first last (e, is) counts broken =
+    subst (λ (x : Result Status AllocError). CountsRun x (first.reliable ≡ true) first last) (sym is) (counts_memory e (failed_with Status Memory) first last counts)
 
 -- and what it counts where nothing was done before
 pub counts_nothing : (e : AllocError) (sure : Type 0) (c : Counts) → CountsRun (let x : Result Status AllocError = Err e in x) sure c c

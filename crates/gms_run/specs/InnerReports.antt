@@ -1,28 +1,29 @@
 -- What the pieces that read a source and report it promise each other.
-use Rattle.std.specs.Prelude.{◌≡◌, ◌≤◌, ◌⊎◌, Bool, true, ℕ, ◌+◌, List, [], ◌++◌, map, take, drop, length, Option, Some, None, option_map, IfSome, IfOk, Result, Ok, Err, Vec}
+use Rattle.std.specs.Prelude.{◌≡◌, ◌≢◌, ◌≤◌, ◌⊎◌, Bool, true, false, ℕ, ◌+◌, List, [], ◌++◌, map, take, drop, length, option_map, IfSome, IfOk, Result, Ok, Err, Vec}
 use Rattle.std.specs.declared.alloc.Global.{Global}
 use Rattle.std.specs.declared.alloc.AllocError.{AllocError}
 use Rattle.gq_frac.specs.declared.frac.Frac.{Frac}
 use Rattle.gq_frac.specs.Frac.{frac_value}
 use Rattle.gms_host.specs.declared.host.Failed.{Failed}
+use Rattle.gms_host.specs.declared.host.Failed.TheVariants.{Fault as FailedSo, Memory}
 use Rattle.gms_host.specs.Meaning.{Outside, Counts}
 use Rattle.gms_host.specs.Rules.{with_output, with_said}
 use Rattle.gms_host.specs.Spooling.{Passes, SaysFront}
+use Rattle.gms_ast.specs.declared.program.Program.{Program}
 use Rattle.gms_lex.specs.Tokens.{most_bytes}
-use Rattle.gms_parse.specs.Outcomes.{IsProgram}
-use Rattle.gms_list.specs.ListingText.{end_text}
+use Rattle.gms_check.specs.declared.error.CompileError.{CompileError}
+use Rattle.gms_store.specs.State.{State}
+use Rattle.gms_list.specs.ListingText.{compile_errors_text, echo_text, end_text}
 use Rattle.lp_core.specs.declared.answer.Answer.{Answer}
+use Rattle.lp_core.specs.declared.program.Lp.{Lp}
 use Rattle.lp_core.specs.Numbers.{lp_numbers}
-use Rattle.gms_ranges.specs.Answered.{AreAnswered}
 use Rattle.gms_ranges.specs.RangeTexts.{SaysRanges}
-use Rattle.gms_words.specs.CommandLine.{Origin, in_file, generated}
+use Rattle.gms_words.specs.CommandLine.{Asked, Origin, in_file, generated}
 use Rattle.gms_run.specs.declared.status.Status.{Status}
-use Rattle.gms_run.specs.declared.status.Status.TheVariants.{Done, Compile, Execution}
-use Rattle.gms_run.specs.declared.report.Last.{Last}
+use Rattle.gms_run.specs.declared.status.Status.TheVariants.{Compile, WriteFault}
 use Rattle.gms_run.specs.Solving.{Solving, number_limit, numbers_of}
-use Rattle.gms_run.specs.Jobs.{job_of, course_of, status_code}
+use Rattle.gms_run.specs.Jobs.{status_code}
 use Rattle.gms_run.specs.Listings.{IsListing, IsModelLine}
-use Rattle.gms_run.specs.InnerSteps.{KeepsPrograms}
 use Rattle.gms_run.specs.Statuses.{CountsSo, EndsByNoFault, IsSource, IsUnread, with_source}
 
 -- ---- transfers
@@ -59,34 +60,34 @@ pub record Lists (status : Status) (solving : Solving) (old new : Outside) (sour
   pub listing : IsListing status solving source text
   pub written : new ≡ with_output old text
 
--- The program that was run, its last state and the linear programs of its solves were kept.
-pub record KeepsRun (solving : Solving) (source : List ℕ) (kept : Option Last) : Type 0 where
-  pub last : Last
-  pub is : kept ≡ Some last
-  pub is_program : IsProgram number_limit source frac_value last.program
-  pub state : last.store ≡ (course_of (job_of source last.program) solving).state
-  pub solved : KeepsPrograms solving.before.rules solving.answers last.solved.items (course_of (job_of source last.program) solving).events
+-- errors of a program are listed behind the echo of its source, or there are none and nothing is listed
+abbrev pub ListsErrors : Bool → List CompileError → List ℕ → List ℕ → List ℕ → Type 0
+ListsErrors true errors source before after = (errors ≢ []) × (after ≡ before ++ (echo_text 1 source ++ compile_errors_text errors))
+ListsErrors false errors source before after = (errors ≡ []) × (after ≡ before)
 
--- of a source that was run they were kept, and of another nothing was
-abbrev pub KeepsLast : Status → Solving → List ℕ → Option Last → Type 0
-KeepsLast Done solving source kept = KeepsRun solving source kept
-KeepsLast Execution solving source kept = KeepsRun solving source kept
-KeepsLast _ solving source kept = kept ≡ None
+-- the end of a run, by what its report came to: a fault of the host is a write fault, and want of memory has no status
+abbrev pub EndsAs : Result Status Failed → Result Status AllocError → Type 0
+EndsAs (Ok status) end = end ≡ Ok status
+EndsAs (Err FailedSo) end = end ≡ Ok WriteFault
+EndsAs (Err Memory) end = (e : AllocError) × (end ≡ Err e)
 
--- what is told of a run that kept this
-abbrev pub IsTold : Origin → Option Last → List (Answer Frac) → List ℕ → Type 0
-IsTold (generated size) (Some last) answers line = IsModelLine size last.program last.store answers line
-IsTold _ _ answers line = line ≡ []
+-- ---- remarks
 
--- each answer is one of the program that was kept for it
-abbrev pub IsAnsweredFor : Option Last → List (Answer Frac) → Type 0
-IsAnsweredFor kept answers = IfSome kept (λ (last : Last). AreAnswered frac_value number_limit last.solved.items answers)
+-- what is told of a run, by where its source comes from, its program and its last state
+abbrev pub IsTold : Origin → Program Frac → State → List (Answer Frac) → List ℕ → Type 0
+IsTold (generated size) program last answers line = IsModelLine size program last answers line
+IsTold (in_file file) program last answers line = line ≡ []
 
--- what is said of the ranges of a run that kept this, where they are asked for
-abbrev pub IsRanged : Bool → Option Last → List (Answer Frac) → List ℕ → Type 0
-IsRanged true (Some last) answers text =
-    SaysRanges last.program.names last.program.labels number_limit 1 (map (lp_numbers frac_value) last.solved.items) (numbers_of answers) text
-IsRanged _ _ answers text = text ≡ []
+-- what is said of the ranges of a run that solved these linear programs, where they are asked for
+abbrev pub IsRanged : Bool → Program Frac → List (Lp Frac) → List (Answer Frac) → List ℕ → Type 0
+IsRanged true program solved answers text =
+    SaysRanges program.names program.labels number_limit 1 (map (lp_numbers frac_value) solved) (numbers_of answers) text
+IsRanged false program solved answers text = text ≡ []
+
+-- the remarks on a run, by its program, its last state and the linear programs that it solved
+abbrev pub IsRemarked : Asked → Program Frac → State → List (Lp Frac) → List (Answer Frac) → List ℕ → Type 0
+IsRemarked request program last solved answers text =
+    (ranges line : List ℕ) × IsRanged request.ranges program solved answers ranges × IsTold request.source program last answers line × (text ≡ ranges ++ line)
 
 -- ---- counts
 

@@ -27,7 +27,7 @@ use Rattle.gms_exec.specs.Standing.{IsStanding, IsStandingSolve}
 use Rattle.gms_list.specs.ListingText.{events_text}
 use Rattle.gms_run.specs.declared.status.Status.{Status}
 use Rattle.gms_run.specs.Solving.{Solvers, Solving, HaveGrown, number_limit, numbers_of, places_of, programs_of, seen, solves_in}
-use Rattle.gms_run.specs.Jobs.{Job, IsCutOff, IsSolved, HaltsSo, body_of, course_of, first_of, shown_by}
+use Rattle.gms_run.specs.Jobs.{Job, IsSolved, HaltsSo, course_of, first_of, shown_by}
 
 -- what work over a host comes to, by its answer: this where it is done, and that where a fault of the host ends it; want of memory says nothing
 abbrev pub ComesTo : {A : Type 0} → Result A Failed → (A → Type 0) → Type 0 → Type 0
@@ -120,15 +120,3 @@ pub record BreaksBehind (job : Job) (solving : Solving) (old new : Outside) (due
   pub last : ℕ
   pub taken : (course_of (first_of (last + 1) job) solving).left ≡ []
   pub pending : length (due ++ shown_by (first_of last job) solving) ≤ length front.1.bytes + 4096
-
--- A job came to its end, and its listing as far as the last line is on its way out.
-pub record EndsJob (status : Status) (job : Job) (solving : Solving) (last : State) (programs : List (Lp Frac)) (old new : Outside) (pending : List ℕ) : Type 0 where
-  pub ends : Ends status job solving last programs
-  pub passes : Passes old new (body_of job solving) pending
-  pub room : length pending ≤ 4096
-
--- A job was cut off.
-pub record BreaksJob (job : Job) (solving : Solving) (old new : Outside) : Type 0 where
-  pub solved : IsSolved job solving
-  pub front : WritesFront old new (body_of job solving)
-  pub cut : IsCutOff job solving (length front.1.bytes)

@@ -125,8 +125,12 @@ abbrev pub TellsRanges : Bool → Status → Solving → List ℕ → List ℕ �
 TellsRanges true status solving source text = TellsRangesOf status solving source text
 TellsRanges false status solving source text = text ≡ []
 
--- what is said at the end of a run of a source whose listing was written: ranges, what is told of a generated model, and the closing line
+-- the remarks on a run, which are said before the closing line: its ranges, and what is told of a generated model
+abbrev pub AreRemarks : Status → Solving → Asked → List ℕ → List ℕ → Type 0
+AreRemarks status solving request source remarks =
+    (ranges line : List ℕ) × TellsRanges request.ranges status solving source ranges × TellsRun status solving request.source source line × (remarks ≡ ranges ++ line)
+
+-- what is said at the end of a run of a source whose listing was written: the remarks on the run, and the closing line
 abbrev pub AreClosing : Status → Solving → Asked → List ℕ → List ℕ → Type 0
 AreClosing status solving request source lines =
-    (ranges line : List ℕ) × TellsRanges request.ranges status solving source ranges × TellsRun status solving request.source source line
-    × (lines ≡ ranges ++ line ++ closing_line (status_code status) (length solving.answers) request.output)
+    (remarks : List ℕ) × AreRemarks status solving request source remarks × (lines ≡ remarks ++ closing_line (status_code status) (length solving.answers) request.output)

@@ -1,12 +1,16 @@
-//! What is said at the end of a run whose listing was written.
-ghost use Rattle.std.specs.Prelude.{◌≡◌, ◌++◌, ℕ, List, IfOk, length, string_bytes};
+//! What is said at the end of a run: the remarks on it, and the closing line.
+ghost use Rattle.std.specs.Prelude.{◌≡◌, ◌++◌, IfOk, OnOk, string_bytes};
 ghost use Rattle.gq_frac.specs.Frac.{frac_value};
+ghost use Rattle.gms_ranges.specs.Answered.{AreAnswered};
 ghost use Rattle.gms_words.specs.CommandLine.{asked_by, closing_line, origin};
-ghost use Rattle.gms_run.specs.InnerReports.{IsAnsweredFor, IsRanged, IsTold};
+ghost use Rattle.gms_run.specs.InnerReports.{IsRanged, IsRemarked, IsTold};
 ghost use Rattle.gms_run.specs.Jobs.{status_code};
 ghost use Rattle.gms_run.specs.Listings.{IsModelLine, model_status, objective_level, pivots_of};
+ghost use Rattle.gms_run.specs.Solving.{number_limit};
 
-use crate::report::{Last, Outcome};
+use crate::execution::Run;
+use crate::status::Status;
+use gms_ast::Program;
 use gms_ranges::ranges_text;
 use gms_tuple::Tuple;
 use gms_words::{Request, Source, closing_line, generated_line};
@@ -19,28 +23,6 @@ use std::alloc::{AllocError, Global};
 /// With how many decimals the level of an objective is said.
 const DECIMALS: u8 = 3;
 
-impl Last {
-    /// The status that the state has for the model `t`; 0 where there is none.
-    fn model_status(&self) -> u8
-        ensures { result ≡ model_status self.now.program self.now.store }
-    {
-        match self.program.names.find("t") {
-            Some(model) => self.store.status(model).0,
-            None => 0,
-        }
-    }
-
-    /// The level that the state has for the variable `z`; 0 where there is none.
-    fn objective_level(&self, alloc: Global) -> Frac
-        ensures { frac_value result ≡ objective_level self.now.program self.now.store }
-    {
-        match self.program.names.find("z") {
-            Some(variable) => self.store.level(variable, &Tuple::new(alloc)),
-            None => Frac::zero(),
-        }
-    }
-}
-
 /// How many pivots the answers have in all.
 fn pivots_of(answers: &[Answer<Frac>]) -> u128
     ensures { result ≡ pivots_of answers.now }
@@ -52,79 +34,110 @@ fn pivots_of(answers: &[Answer<Frac>]) -> u128
     count
 }
 
-/// The line that tells of the run of a generated model of a size.
-fn model_line(
-    alloc: Global,
-    size: u32,
-    last: &Last,
-    answers: &[Answer<Frac>],
-) -> Result<String, AllocError>
-    ensures { IfOk result (λ line. IsModelLine size last.now.program last.now.store answers.now (string_bytes line)) }
-{
-    let mut digits = Digits::new();
-    put_rounded(last.objective_level(alloc), DECIMALS, &mut digits);
-    generated_line(
-        alloc,
-        size,
-        last.model_status(),
-        digits.as_str(),
-        pivots_of(answers),
-    )
-}
-
-/// What is told of a run before the closing line: nothing, but of a generated model that was run.
-fn told(
-    alloc: Global,
-    source: Source,
-    last: &Option<Last>,
-    answers: &[Answer<Frac>],
-) -> Result<String, AllocError>
-    ensures { IfOk result (λ line. IsTold (origin source.entry) last.now answers.now (string_bytes line)) }
-{
-    match (source, last) {
-        (Source::Generate(size), Some(last)) => model_line(alloc, size, last, answers),
-        _ => Ok(String::new(alloc)),
+impl Run {
+    /// The status that the state has for the model `t`; 0 where there is none.
+    fn model_status(&self, program: &Program<Frac>) -> u8
+        ensures { result ≡ model_status program.now self.now.store }
+    {
+        match program.names.find("t") {
+            Some(model) => self.store.status(model).0,
+            None => 0,
+        }
     }
-}
 
-/// What is said of the ranges of a run, where they are asked for.
-fn ranged(
-    alloc: Global,
-    asked: bool,
-    last: &Option<Last>,
-    answers: &[Answer<Frac>],
-) -> Result<String, AllocError>
-    requires { IsAnsweredFor last.now answers.now }
-    ensures { IfOk result (λ text. IsRanged asked last.now answers.now (string_bytes text)) }
-{
-    match (asked, last) {
-        (true, Some(last)) => ranges_text(
+    /// The level that the state has for the variable `z`; 0 where there is none.
+    fn objective_level(&self, alloc: Global, program: &Program<Frac>) -> Frac
+        ensures { frac_value result ≡ objective_level program.now self.now.store }
+    {
+        match program.names.find("z") {
+            Some(variable) => self.store.level(variable, &Tuple::new(alloc)),
+            None => Frac::zero(),
+        }
+    }
+
+    /// The line that tells of the run of a generated model of a size.
+    fn model_line(
+        &self,
+        alloc: Global,
+        size: u32,
+        program: &Program<Frac>,
+        answers: &[Answer<Frac>],
+    ) -> Result<String, AllocError>
+        ensures { IfOk result (λ line. IsModelLine size program.now self.now.store answers.now (string_bytes line)) }
+    {
+        let mut digits = Digits::new();
+        put_rounded(self.objective_level(alloc, program), DECIMALS, &mut digits);
+        generated_line(
             alloc,
-            &last.program.names,
-            &last.program.labels,
-            last.solved.as_slice(),
-            answers,
-        ),
-        _ => Ok(String::new(alloc)),
+            size,
+            self.model_status(program),
+            digits.as_str(),
+            pivots_of(answers),
+        )
+    }
+
+    /// What is told of the run, by where its source comes from: nothing, but of a generated model.
+    fn told(
+        &self,
+        alloc: Global,
+        source: Source,
+        program: &Program<Frac>,
+        answers: &[Answer<Frac>],
+    ) -> Result<String, AllocError>
+        ensures { IfOk result (λ line. IsTold (origin source.entry) program.now self.now.store answers.now (string_bytes line)) }
+    {
+        match source {
+            Source::Generate(size) => self.model_line(alloc, size, program, answers),
+            Source::File(_) => Ok(String::new(alloc)),
+        }
+    }
+
+    /// What is said of the ranges of the run, where they are asked for.
+    fn ranged(
+        &self,
+        alloc: Global,
+        asked: bool,
+        program: &Program<Frac>,
+        answers: &[Answer<Frac>],
+    ) -> Result<String, AllocError>
+        requires { AreAnswered frac_value number_limit self.now.solved.items answers.now }
+        ensures { IfOk result (λ text. IsRanged asked program.now self.now.solved.items answers.now (string_bytes text)) }
+    {
+        if !asked {
+            return Ok(String::new(alloc));
+        }
+        let solved = self.solved.as_slice();
+        ranges_text(alloc, &program.names, &program.labels, solved, answers)
+    }
+
+    /// The remarks on the run: what is said of it before the closing line.
+    pub(crate) fn remark(
+        &self,
+        alloc: Global,
+        request: Request,
+        program: &Program<Frac>,
+        answers: &[Answer<Frac>],
+    ) -> Result<String, AllocError>
+        requires { AreAnswered frac_value number_limit self.now.solved.items answers.now }
+        ensures { IfOk result (λ text. IsRemarked (asked_by request.entry) program.now self.now.store self.now.solved.items answers.now (string_bytes text)) }
+    {
+        let mut text = self.ranged(alloc, request.ranges, program, answers)?;
+        let line = self.told(alloc, request.source, program, answers)?;
+        text.push_str(line.as_str())?;
+        Ok(text)
     }
 }
 
-/// What is said at the end of a run of a source whose listing was written to an output.
-pub(crate) fn closing_lines(
+/// Adds the closing line of a report to the remarks on the run.
+pub(crate) fn push_closing(
     alloc: Global,
-    request: Request,
-    outcome: &Outcome,
-    answers: &[Answer<Frac>],
+    status: Status,
+    solves: usize,
     output: &str,
-) -> Result<String, AllocError>
-    requires { IsAnsweredFor outcome.now.last answers.now }
-    ensures { IfOk result (λ lines. (ranges line : List ℕ) × IsRanged (asked_by request.entry).ranges outcome.now.last answers.now ranges × IsTold (asked_by request.entry).source outcome.now.last answers.now line
-        × (string_bytes lines ≡ ranges ++ line ++ closing_line (status_code outcome.now.status) (length answers.now) output.now)) }
+    remarks: &mut String,
+) -> Result<(), AllocError>
+    ensures { OnOk result (string_bytes remarks.new ≡ string_bytes remarks.old ++ closing_line (status_code status) solves output.now) }
 {
-    let mut lines = ranged(alloc, request.ranges, &outcome.last, answers)?;
-    let line = told(alloc, request.source, &outcome.last, answers)?;
-    lines.push_str(line.as_str())?;
-    let closing = closing_line(alloc, outcome.status.code(), answers.len(), output)?;
-    lines.push_str(closing.as_str())?;
-    Ok(lines)
+    let line = closing_line(alloc, status.code(), solves, output)?;
+    remarks.push_str(line.as_str())
 }

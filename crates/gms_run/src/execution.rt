@@ -1,5 +1,5 @@
 //! The execution of a program, whose listing goes out statement by statement.
-ghost use Rattle.std.specs.Prelude.{◌≡◌, ◌<◌, ◌≤◌, ◌^◌, ◌∷◌, ◌++◌, [], true, length, map, option_to_list, IfOk, OnOk};
+ghost use Rattle.std.specs.Prelude.{◌≡◌, ◌<◌, ◌≤◌, ◌^◌, ◌∷◌, ◌++◌, [], true, length, map, option_to_list, IfOk, OnOk, string_bytes};
 ghost use Rattle.std.specs.List.{All};
 ghost use Rattle.gq_frac.specs.Frac.{frac_value};
 ghost use Rattle.gms_event.specs.EventView.{events_in};
@@ -10,9 +10,13 @@ ghost use Rattle.gms_list.specs.Conditions.{IsListable};
 ghost use Rattle.gms_list.specs.ListingText.{events_text};
 ghost use Rattle.gms_check.specs.CompileErrors.{compile_errors};
 ghost use Rattle.gms_host.specs.Rules.{CountsWriting};
-ghost use Rattle.gms_run.specs.InnerSteps.{BreaksBehind, BreaksJob, ComesTo, EndsBehind, EndsJob, IsListed, between, programs_in, work};
-ghost use Rattle.gms_run.specs.Jobs.{job_of};
+ghost use Rattle.gms_parse.specs.Outcomes.{IsProgram};
+ghost use Rattle.gms_words.specs.CommandLine.{asked_by};
+ghost use Rattle.gms_run.specs.InnerReports.{IsRemarked, Prepares};
+ghost use Rattle.gms_run.specs.InnerSteps.{BreaksBehind, ComesTo, EndsBehind, IsListed, between, programs_in, work};
+ghost use Rattle.gms_run.specs.Listings.{AreRemarks};
 ghost use Rattle.gms_run.specs.Solving.{number_limit, numbers_of, solving};
+ghost use Rattle.gms_run.specs.Statuses.{IsUnwritten};
 
 use crate::outlet::Outlet;
 use crate::status::Status;
@@ -24,17 +28,16 @@ use gms_exec::step;
 use gms_host::{Failed, Host};
 use gms_list::Listing;
 use gms_store::Store;
+use gms_words::Request;
 use gq_frac::Frac;
 use lp_core::{Answer, Lp};
 use lp_slot::LpSolver;
 use std::alloc::{AllocError, Global};
 
-/// A run that came to its end.
+/// A run of a program on its way.
 #[derive(Drop)]
-pub(crate) struct Finish {
-    /// How it ended.
-    pub(crate) status: Status,
-    /// Its last state.
+pub(crate) struct Run {
+    /// Its state.
     pub(crate) store: Store<Frac>,
     /// The linear programs of its solves, in order.
     pub(crate) solved: Vec<Lp<Frac>>,
@@ -174,43 +177,77 @@ fn statements<H: Host>(
     Ok(Status::Done)
 }
 
+impl Run {
+    /// Executes the statements of a program from its first state on, and makes the remarks on the run.
+    fn to_end<H: Host>(
+        &mut self,
+        alloc: Global,
+        host: &mut H,
+        request: Request,
+        program: &Program<Frac>,
+        solvers: &mut Vec<Box<dyn LpSolver>>,
+        answers: &mut Vec<Answer<Frac>>,
+        outlet: &mut Outlet,
+        remarks: &mut String,
+    ) -> Result<Status, Failed>
+        requires open { (H.meaning host.old).outside.writing ≡ true }
+        requires few { length solvers.old.items < 2 ^ 32 }
+        requires settings { AreKept (length solvers.old.items) self.old.store.settings }
+        requires plain { AreOneDimensional self.old.store program.now.statements.items }
+        requires none { answers.old.items ≡ [] }
+        requires unsolved { self.old.solved.items ≡ [] }
+        requires room { length (outlet.old.spool ++ outlet.old.listing) ≤ 4096 }
+        ensures outside { ComesTo result (λ status. EndsBehind status (work program.now self.old.store program.now.statements.items) (solving name rule paths solvers.old.items solvers.new.items answers.new.items) self.new.store self.new.solved.items (H.meaning host.old).outside (H.meaning host.new).outside (outlet.old.spool ++ outlet.old.listing) (outlet.new.spool ++ outlet.new.listing))
+            (BreaksBehind (work program.now self.old.store program.now.statements.items) (solving name rule paths solvers.old.items solvers.new.items answers.new.items) (H.meaning host.old).outside (H.meaning host.new).outside (outlet.old.spool ++ outlet.old.listing)) }
+        ensures told { IfOk result (λ status. IsRemarked (asked_by request.entry) program.now self.new.store self.new.solved.items answers.new.items (string_bytes remarks.new)) }
+        ensures counts { CountsWriting result (H.meaning host.old).counts (H.meaning host.new).counts }
+    {
+        let status = statements(
+            alloc,
+            host,
+            &mut self.store,
+            program,
+            solvers,
+            answers,
+            &mut self.solved,
+            outlet,
+        )?;
+        let given = answers.as_slice();
+        let text = self.remark(alloc, request, program, given)?;
+        *remarks = text;
+        Ok(status)
+    }
+}
+
 /// Executes an accepted program from its first state on, behind the echo of its source. What a statement shows goes out before the next one is
-/// executed; after a failed write none is.
+/// executed; after a failed write none is. At its end the remarks on the run are made.
 pub(crate) fn execute<H: Host>(
     alloc: Global,
     host: &mut H,
+    request: Request,
     source: &[u8],
     program: &Program<Frac>,
     solvers: &mut Vec<Box<dyn LpSolver>>,
     answers: &mut Vec<Answer<Frac>>,
     outlet: &mut Outlet,
-) -> Result<Finish, Failed>
+    remarks: &mut String,
+) -> Result<Status, Failed>
     requires open { (H.meaning host.old).outside.writing ≡ true }
     requires few { length solvers.old.items < 2 ^ 32 }
+    requires is_program { IsProgram number_limit source.now frac_value program.now }
     requires accepted { compile_errors frac_value program.now (map name solvers.old.items) ≡ [] }
     requires none { answers.old.items ≡ [] }
     requires empty { outlet.old.spool ++ outlet.old.listing ≡ [] }
-    ensures outside { ComesTo result (λ finish. EndsJob finish.status (job_of source.now program.now) (solving name rule paths solvers.old.items solvers.new.items answers.new.items) finish.store finish.solved.items (H.meaning host.old).outside (H.meaning host.new).outside (outlet.new.spool ++ outlet.new.listing))
-        (BreaksJob (job_of source.now program.now) (solving name rule paths solvers.old.items solvers.new.items answers.new.items) (H.meaning host.old).outside (H.meaning host.new).outside) }
+    ensures outside { ComesTo result (λ status. Prepares status (solving name rule paths solvers.old.items solvers.new.items answers.new.items) (H.meaning host.old).outside (H.meaning host.new).outside source.now (outlet.new.spool ++ outlet.new.listing)) (IsUnwritten (solving name rule paths solvers.old.items solvers.new.items answers.new.items) (H.meaning host.old).outside (H.meaning host.new).outside source.now) }
+    ensures told { IfOk result (λ status. AreRemarks status (solving name rule paths solvers.old.items solvers.new.items answers.new.items) (asked_by request.entry) source.now (string_bytes remarks.new)) }
     ensures counts { CountsWriting result (H.meaning host.old).counts (H.meaning host.new).counts }
 {
     outlet.listing.echo(alloc, source)?;
     outlet.pass(host)?;
-    let mut store = load(alloc, program)?;
-    let mut solved = Vec::new(alloc);
-    let status = statements(
-        alloc,
-        host,
-        &mut store,
-        program,
-        solvers,
-        answers,
-        &mut solved,
-        outlet,
-    )?;
-    Ok(Finish {
-        status,
-        store,
-        solved,
-    })
+    let store = load(alloc, program)?;
+    let solved = Vec::new(alloc);
+    let mut run = Run { store, solved };
+    run.to_end(
+        alloc, host, request, program, solvers, answers, outlet, remarks,
+    )
 }

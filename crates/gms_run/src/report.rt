@@ -1,44 +1,30 @@
 //! The listing of a source, from its bytes, as it goes out.
 ghost use Rattle.std.specs.Prelude.{◌≡◌, ◌<◌, ◌^◌, ◌++◌, [], true, length, map, IfOk, OnOk, string_bytes};
+ghost use Rattle.gq_frac.specs.Frac.{frac_value};
+ghost use Rattle.gms_check.specs.CompileErrors.{compile_errors};
 ghost use Rattle.gms_host.specs.Rules.{CountsWriting};
 ghost use Rattle.gms_list.specs.ListingText.{refused_echo, source_error_text};
-ghost use Rattle.gms_run.specs.InnerReports.{KeepsLast, Lists, Prepares};
+ghost use Rattle.gms_parse.specs.Outcomes.{IsProgram};
+ghost use Rattle.gms_words.specs.CommandLine.{asked_by};
+ghost use Rattle.gms_run.specs.InnerReports.{Lists, ListsErrors, Prepares};
 ghost use Rattle.gms_run.specs.InnerSteps.{ComesTo};
-ghost use Rattle.gms_run.specs.Solving.{solving};
+ghost use Rattle.gms_run.specs.Listings.{AreRemarks};
+ghost use Rattle.gms_run.specs.Solving.{number_limit, solving};
 ghost use Rattle.gms_run.specs.Statuses.{IsUnwritten};
 
 use crate::execution::execute;
 use crate::outlet::Outlet;
 use crate::status::Status;
 use gms_ast::Program;
-use gms_check::check;
+use gms_check::{CompileError, check};
 use gms_host::{Failed, Host};
+use gms_list::Listing;
 use gms_parse::{SourceError, SourceFault, SourceFaultOrMemory, parse};
-use gms_store::Store;
+use gms_words::Request;
 use gq_frac::Frac;
-use lp_core::{Answer, Lp};
+use lp_core::Answer;
 use lp_slot::LpSolver;
 use std::alloc::{AllocError, Global};
-
-/// A program that was run.
-#[derive(Drop)]
-pub(crate) struct Last {
-    /// The program.
-    pub(crate) program: Program<Frac>,
-    /// The last state of its run.
-    pub(crate) store: Store<Frac>,
-    /// The linear programs of its solves, in order: one for each answer.
-    pub(crate) solved: Vec<Lp<Frac>>,
-}
-
-/// What became of a source.
-#[derive(Drop)]
-pub(crate) struct Outcome {
-    /// How its run ends.
-    pub(crate) status: Status,
-    /// The program, its last state and what was solved, where it was run.
-    pub(crate) last: Option<Last>,
-}
 
 /// The name of a solver.
 fn name_of(alloc: Global, solver: &Box<dyn LpSolver>) -> Result<String, AllocError>
@@ -77,71 +63,144 @@ fn refused(
     Ok(Status::Compile)
 }
 
-/// Parses, checks and executes a source, whose listing goes out as far as its last line, which is still to come.
+/// The errors of a program for these solvers.
+fn errors_of(
+    alloc: Global,
+    program: &Program<Frac>,
+    solvers: &[Box<dyn LpSolver>],
+) -> Result<Vec<CompileError>, AllocError>
+    ensures { IfOk result (λ errors. errors.items ≡ compile_errors frac_value program.now (map name solvers.now)) }
+{
+    let names = names_of(alloc, solvers)?;
+    check(alloc, program, &names)
+}
+
+/// Lists errors of a program behind the echo of its source, where there are any. Answers whether there are.
+fn list_errors(
+    alloc: Global,
+    source: &[u8],
+    errors: &[CompileError],
+    listing: &mut Listing,
+) -> Result<bool, AllocError>
+    ensures { IfOk result (λ some. ListsErrors some errors.now source.now listing.old listing.new) }
+{
+    if errors.is_empty() {
+        return Ok(false);
+    }
+    listing.echo(alloc, source)?;
+    listing.errors(alloc, errors)?;
+    Ok(true)
+}
+
+/// Finds the errors of a program, and lists them behind the echo of its source. Answers whether there are any; where there are none nothing is
+/// listed.
+fn has_errors(
+    alloc: Global,
+    source: &[u8],
+    program: &Program<Frac>,
+    solvers: &[Box<dyn LpSolver>],
+    listing: &mut Listing,
+) -> Result<bool, AllocError>
+    ensures { IfOk result (λ some. ListsErrors some (compile_errors frac_value program.now (map name solvers.now)) source.now listing.old listing.new) }
+{
+    let errors = errors_of(alloc, program, solvers)?;
+    list_errors(alloc, source, errors.as_slice(), listing)
+}
+
+/// Checks and executes the program of a source, whose listing goes out as far as its last line, which is still to come; the remarks on the run are
+/// made.
+fn checked<H: Host>(
+    alloc: Global,
+    host: &mut H,
+    request: Request,
+    source: &[u8],
+    program: &Program<Frac>,
+    solvers: &mut Vec<Box<dyn LpSolver>>,
+    answers: &mut Vec<Answer<Frac>>,
+    outlet: &mut Outlet,
+    remarks: &mut String,
+) -> Result<Status, Failed>
+    requires open { (H.meaning host.old).outside.writing ≡ true }
+    requires few { length solvers.old.items < 2 ^ 32 }
+    requires is_program { IsProgram number_limit source.now frac_value program.now }
+    requires none { answers.old.items ≡ [] }
+    requires empty { outlet.old.spool ++ outlet.old.listing ≡ [] }
+    requires silent { string_bytes remarks.old ≡ [] }
+    ensures outside { ComesTo result (λ status. Prepares status (solving name rule paths solvers.old.items solvers.new.items answers.new.items) (H.meaning host.old).outside (H.meaning host.new).outside source.now (outlet.new.spool ++ outlet.new.listing)) (IsUnwritten (solving name rule paths solvers.old.items solvers.new.items answers.new.items) (H.meaning host.old).outside (H.meaning host.new).outside source.now) }
+    ensures told { IfOk result (λ status. AreRemarks status (solving name rule paths solvers.old.items solvers.new.items answers.new.items) (asked_by request.entry) source.now (string_bytes remarks.new)) }
+    ensures counts { CountsWriting result (H.meaning host.old).counts (H.meaning host.new).counts }
+{
+    let listing = &mut outlet.listing;
+    let some = has_errors(alloc, source, program, solvers.as_slice(), listing)?;
+    if some {
+        return Ok(Status::Compile);
+    }
+    execute(
+        alloc, host, request, source, program, solvers, answers, outlet, remarks,
+    )
+}
+
+/// Parses, checks and executes a source, whose listing goes out as far as its last line, which is still to come; the remarks on the run are made.
 fn listed<H: Host>(
     alloc: Global,
     host: &mut H,
+    request: Request,
     source: &[u8],
     solvers: &mut Vec<Box<dyn LpSolver>>,
     answers: &mut Vec<Answer<Frac>>,
     outlet: &mut Outlet,
-) -> Result<Outcome, Failed>
+    remarks: &mut String,
+) -> Result<Status, Failed>
     requires open { (H.meaning host.old).outside.writing ≡ true }
     requires few { length solvers.old.items < 2 ^ 32 }
     requires none { answers.old.items ≡ [] }
     requires empty { outlet.old.spool ++ outlet.old.listing ≡ [] }
-    ensures outside { ComesTo result (λ outcome. Prepares outcome.status (solving name rule paths solvers.old.items solvers.new.items answers.new.items) (H.meaning host.old).outside (H.meaning host.new).outside source.now (outlet.new.spool ++ outlet.new.listing)) (IsUnwritten (solving name rule paths solvers.old.items solvers.new.items answers.new.items) (H.meaning host.old).outside (H.meaning host.new).outside source.now) }
-    ensures last { IfOk result (λ outcome. KeepsLast outcome.status (solving name rule paths solvers.old.items solvers.new.items answers.new.items) source.now outcome.last) }
+    requires silent { string_bytes remarks.old ≡ [] }
+    ensures outside { ComesTo result (λ status. Prepares status (solving name rule paths solvers.old.items solvers.new.items answers.new.items) (H.meaning host.old).outside (H.meaning host.new).outside source.now (outlet.new.spool ++ outlet.new.listing)) (IsUnwritten (solving name rule paths solvers.old.items solvers.new.items answers.new.items) (H.meaning host.old).outside (H.meaning host.new).outside source.now) }
+    ensures told { IfOk result (λ status. AreRemarks status (solving name rule paths solvers.old.items solvers.new.items answers.new.items) (asked_by request.entry) source.now (string_bytes remarks.new)) }
     ensures counts { CountsWriting result (H.meaning host.old).counts (H.meaning host.new).counts }
 {
-    let program = match parse::<Frac>(alloc, source) {
-        Ok(program) => program,
-        Err(SourceFaultOrMemory::Memory) => return Err(Failed::Memory),
+    match parse::<Frac>(alloc, source) {
+        Ok(program) => checked(
+            alloc, host, request, source, &program, solvers, answers, outlet, remarks,
+        ),
+        Err(SourceFaultOrMemory::Memory) => Err(Failed::Memory),
         Err(SourceFaultOrMemory::Fault(fault)) => {
             let status = refused(alloc, source, fault, outlet)?;
-            return Ok(Outcome { status, last: None });
+            Ok(status)
         }
-    };
-    let names = names_of(alloc, solvers.as_slice())?;
-    let errors = check(alloc, &program, &names)?;
-    if errors.is_empty() {
-        let finish = execute(alloc, host, source, &program, solvers, answers, outlet)?;
-        let last = Last {
-            program,
-            store: finish.store,
-            solved: finish.solved,
-        };
-        Ok(Outcome {
-            status: finish.status,
-            last: Some(last),
-        })
-    } else {
-        outlet.listing.echo(alloc, source)?;
-        outlet.listing.errors(alloc, &errors)?;
-        Ok(Outcome {
-            status: Status::Compile,
-            last: None,
-        })
     }
 }
 
-/// Writes the whole listing of a source to the opened output, and tells what became of it.
+/// Writes the whole listing of a source to the opened output, and makes the remarks on its run. Answers how it ends.
 pub(crate) fn report<H: Host>(
     alloc: Global,
     host: &mut H,
+    request: Request,
     source: &[u8],
     solvers: &mut Vec<Box<dyn LpSolver>>,
     answers: &mut Vec<Answer<Frac>>,
-) -> Result<Outcome, Failed>
+    remarks: &mut String,
+) -> Result<Status, Failed>
     requires open { (H.meaning host.old).outside.writing ≡ true }
     requires few { length solvers.old.items < 2 ^ 32 }
     requires none { answers.old.items ≡ [] }
-    ensures outside { ComesTo result (λ outcome. Lists outcome.status (solving name rule paths solvers.old.items solvers.new.items answers.new.items) (H.meaning host.old).outside (H.meaning host.new).outside source.now) (IsUnwritten (solving name rule paths solvers.old.items solvers.new.items answers.new.items) (H.meaning host.old).outside (H.meaning host.new).outside source.now) }
-    ensures last { IfOk result (λ outcome. KeepsLast outcome.status (solving name rule paths solvers.old.items solvers.new.items answers.new.items) source.now outcome.last) }
+    requires silent { string_bytes remarks.old ≡ [] }
+    ensures outside { ComesTo result (λ status. Lists status (solving name rule paths solvers.old.items solvers.new.items answers.new.items) (H.meaning host.old).outside (H.meaning host.new).outside source.now) (IsUnwritten (solving name rule paths solvers.old.items solvers.new.items answers.new.items) (H.meaning host.old).outside (H.meaning host.new).outside source.now) }
+    ensures told { IfOk result (λ status. AreRemarks status (solving name rule paths solvers.old.items solvers.new.items answers.new.items) (asked_by request.entry) source.now (string_bytes remarks.new)) }
     ensures counts { CountsWriting result (H.meaning host.old).counts (H.meaning host.new).counts }
 {
     let mut outlet = Outlet::new(alloc)?;
-    let outcome = listed(alloc, host, source, solvers, answers, &mut outlet)?;
-    outlet.end(alloc, host, outcome.status, answers.len())?;
-    Ok(outcome)
+    let status = listed(
+        alloc,
+        host,
+        request,
+        source,
+        solvers,
+        answers,
+        &mut outlet,
+        remarks,
+    )?;
+    outlet.end(alloc, host, status, answers.len())?;
+    Ok(status)
 }

@@ -1,13 +1,13 @@
 //! The top call: from the words of the command line to the bytes of the listing.
-ghost use Rattle.std.specs.Prelude.{◌≡◌, ◌<◌, ◌≤◌, ◌^◌, ◌↔◌, ◌⊎◌, [], true, length, map, IfOk, OnOk};
+ghost use Rattle.std.specs.Prelude.{◌≡◌, ◌<◌, ◌≤◌, ◌^◌, ◌↔◌, ◌⊎◌, [], true, length, map, IfOk, OnOk, string_bytes};
 ghost use Rattle.gms_host.specs.Rules.{CountsReading, CountsWriting, IsThere};
 ghost use Rattle.gms_words.specs.CommandLine.{texts, request_of, asked_by, in_file, generated, read_fault_line};
-ghost use Rattle.gms_run.specs.InnerReports.{CountsMention, CountsRun, ReadsFile};
+ghost use Rattle.gms_run.specs.InnerReports.{CountsMention, CountsRun, EndsAs, ReadsFile};
 ghost use Rattle.gms_run.specs.InnerSteps.{ComesTo};
 ghost use Rattle.gms_run.specs.Solving.{solving};
 ghost use Rattle.gms_run.specs.Statuses.{CountsSo, EndsByNoFault, HasOrigin, IsReadyFor, IsReported, IsRun, IsWriteFault, MeetsNoFault, NamesProgram, OfRequest, RanSo, SaysLine};
 
-use crate::closing::closing_lines;
+use crate::closing::push_closing;
 use crate::report::report;
 use crate::status::Status;
 use crate::transfer::{read_source, say_line};
@@ -37,7 +37,7 @@ fn read_file<H: Host>(alloc: Global, host: &mut H, file: &str) -> Result<Vec<u8>
     read_source(alloc, host)
 }
 
-/// Writes the listing of a source to the output that a request names, and says the closing lines.
+/// Writes the listing of a source to the output that a request names, closes it, and says the closing lines: the remarks on the run, and a last line.
 fn write_report<H: Host>(
     alloc: Global,
     host: &mut H,
@@ -46,20 +46,32 @@ fn write_report<H: Host>(
     output: &str,
     solvers: &mut Vec<Box<dyn LpSolver>>,
     answers: &mut Vec<Answer<Frac>>,
+    remarks: &mut String,
 ) -> Result<Status, Failed>
     requires few { length solvers.old.items < 2 ^ 32 }
     requires none { answers.old.items ≡ [] }
     requires named { output.now ≡ (asked_by request).output }
+    requires silent { string_bytes remarks.old ≡ [] }
     ensures outside { ComesTo result (λ status. IsReported status (solving name rule paths solvers.old.items solvers.new.items answers.new.items) (H.meaning host.old).outside (H.meaning host.new).outside (asked_by request.entry) source.now) (IsWriteFault (solving name rule paths solvers.old.items solvers.new.items answers.new.items) (H.meaning host.old).outside (H.meaning host.new).outside (asked_by request.entry) source.now) }
     ensures counts { CountsWriting result (H.meaning host.old).counts (H.meaning host.new).counts }
 {
     host.open_out(output)?;
-    let outcome = report(alloc, host, source, solvers, answers)?;
+    let status = report(alloc, host, request, source, solvers, answers, remarks)?;
     host.close_out()?;
-    let solved = answers.as_slice();
-    let lines = closing_lines(alloc, request, &outcome, solved, output)?;
-    say_line(host, lines.as_str().as_bytes())?;
-    Ok(outcome.status)
+    push_closing(alloc, status, answers.len(), output, remarks)?;
+    say_line(host, remarks.as_str().as_bytes())?;
+    Ok(status)
+}
+
+/// The end of a run, by what its report came to: a fault of the host is a write fault.
+fn status_of(reported: Result<Status, Failed>) -> Result<Status, AllocError>
+    ensures { EndsAs reported result }
+{
+    match reported {
+        Ok(status) => Ok(status),
+        Err(Failed::Fault) => Ok(Status::WriteFault),
+        Err(Failed::Memory) => Err(AllocError),
+    }
 }
 
 /// Says a line. A fault in saying it changes nothing else.
@@ -100,12 +112,17 @@ fn run_source<H: Host>(
     ensures counts { CountsRun result ((H.meaning host.old).counts.reliable ≡ true) (H.meaning host.old).counts (H.meaning host.new).counts }
 {
     let output = output_of(alloc, request)?;
-    let name = output.as_str();
-    match write_report(alloc, host, request, source, name, solvers, answers) {
-        Ok(status) => Ok(status),
-        Err(Failed::Fault) => Ok(Status::WriteFault),
-        Err(Failed::Memory) => Err(AllocError),
-    }
+    let mut remarks = String::new(alloc);
+    status_of(write_report(
+        alloc,
+        host,
+        request,
+        source,
+        output.as_str(),
+        solvers,
+        answers,
+        &mut remarks,
+    ))
 }
 
 /// Runs the source in the file of a name, which a request asks for.

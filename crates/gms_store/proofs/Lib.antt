@@ -1,3 +1,5 @@
-mod Maps
-mod Views
-mod Writes
+pub mod Maps
+pub mod Overlays
+pub mod Refilling
+pub mod Views
+pub mod Writes

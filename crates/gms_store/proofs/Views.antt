@@ -1,5 +1,5 @@
 -- Laws of what the store shows of its maps and of its symbols.
-use Rattle.std.proofs.Common.{◌≡◌, ℕ, Bool, true, false, not, ◌&&◌, List, [], ◌∷◌, length, map, refl, sym, ap, ◌∙◌, cond, Option, Some, None, unwrap_or, option_map, T, subst, ◌||◌, ◌==◌, is_some, pos}
+use Rattle.std.proofs.Common.{◌≡◌, ℕ, Bool, true, false, not, ◌&&◌, List, [], ◌∷◌, length, map, refl, sym, ap, ◌∙◌, cond, Option, Some, None, unwrap_or, option_map, T, subst, ◌||◌, ◌==◌, is_some, pos, ◌≤◌, arith}
 use Rattle.std.specs.declared.cmp.Ordering.{Ordering}
 use Rattle.std.specs.declared.cmp.Ordering.TheVariants.{Less, Equal, Greater}
 use Rattle.std.specs.Ordering.{is_lt, is_eq, eq_by_cmp}
@@ -10,6 +10,8 @@ use Rattle.std.specs.FinMap as finite
 use Rattle.std.specs.FinMap.Entries.{is_sorted, below_all}
 use Rattle.gq_number.specs.Number.{Number, whole}
 use Rattle.gq_number.proofs.Compares.{number_cmp_total}
+use Rattle.gq_field.specs.Fits.{fits}
+use Rattle.std.proofs.lemmas.Bool.Decides.{nat_tests}
 use Rattle.std.proofs.lemmas.Cmp.{tied_itself}
 use Rattle.gms_tuple.specs.TupleOrder.{tuple_cmp, IsOrdered}
 use Rattle.gms_tuple.specs.OrderLaws.{tuple_cmp-total}
@@ -19,9 +21,10 @@ use Rattle.gms_store.specs.declared.attributes.Attributes as own
 use Rattle.gms_store.specs.declared.content.Content.TheVariants as variant
 use Rattle.gms_store.specs.declared.kind.VariableType.{VariableType}
 use Rattle.gq_extended.specs.declared.extended.Ext.{Ext}
+use Rattle.gq_extended.specs.declared.extended.Ext.TheVariants as ext
 use Rattle.gq_extended.specs.Meaning.{extended}
 use Rattle.std.proofs.lemmas.Bool.{eqb-true, eq-eqb}
-use Rattle.gms_store.specs.State.{Entries, Attributes, Content, undeclared, alias_of, set_of, parameter_of, variable_of, equation_of, model_with, Symbol, after_write, if_fits, with_value, with_attributes, with_membership, is_given, zero, same_number, same_bound, same_attributes, absent_variable, unbounded, given_in, differs_in, IsKept, AreDifferent}
+use Rattle.gms_store.specs.State.{Entries, Attributes, Content, undeclared, alias_of, set_of, parameter_of, variable_of, equation_of, model_with, Symbol, after_write, if_fits, with_value, with_attributes, with_membership, is_given, zero, same_number, same_bound, same_attributes, absent_variable, unbounded, given_in, differs_in, IsKept, AreDifferent, value_fits, bound_fits, attributes_fit, fits_at}
 use Rattle.gms_store.specs.Declarations.{content_of}
 use Rattle.gms_store.specs.declared.kind.VariableType.TheVariants as type
 use Rattle.gms_ast.specs.declared.declaration.DeclKind.{DeclKind}
@@ -247,7 +250,7 @@ same_bound-refl (Some x) = same_number-refl x
 same_attributes-refl : (a : Attributes) → same_attributes a a ≡ true
 same_attributes-refl a = rw (same_bound-refl a.lower, same_bound-refl a.upper, same_number-refl a.level, same_number-refl a.marginal) refl
 
-has-keys_of_map : {X : Type 0} (m : Entries X) (t : List ℕ) → has (finite.keys m) t ≡ is_some (finite.get m t)
+pub has-keys_of_map : {X : Type 0} (m : Entries X) (t : List ℕ) → has (finite.keys m) t ≡ is_some (finite.get m t)
 has-keys_of_map m t =
     has-keys (finite.entries m) t ∙ ap is_some (sym (find-lookup t (finite.entries m)) ∙ sym (finite.get-entries m t))
 
@@ -266,10 +269,10 @@ kept-arity differs arity m kept t there = by (finite.get m t) refl (sym (has-key
     by None e none = absurd cc
     by (Some x) e _ = (kept t x e).0
 
-no_difference : (a : Attributes) → not (same_attributes a a) ≡ false
+pub no_difference : (a : Attributes) → not (same_attributes a a) ≡ false
 no_difference a = ap not (same_attributes-refl a)
 
-zero_is_none : is_given zero ≡ false
+pub zero_is_none : is_given zero ≡ false
 zero_is_none = ap not (same_number-refl (whole (pos 0)))
 
 -- a tuple is given just where what is read there differs from what an absent entry reads as
@@ -292,3 +295,54 @@ given-arity arity (parameter_of entries) kept t there = kept-arity is_given arit
 given-arity arity (variable_of type entries) kept t there = kept-arity (λ a. not (same_attributes a (absent_variable type))) arity entries kept t there
 given-arity arity (equation_of entries) kept t there = kept-arity (λ a. not (same_attributes a unbounded)) arity entries kept t there
 given-arity arity (model_with model solver) kept t there = absurd cc
+
+-- ---- what fits
+
+zero_fits : (limit : ℕ) → 127 ≤ limit → fits limit (whole (pos 0)) ≡ true
+unfolding whole
+zero_fits limit some = grind (arith, nat_tests)
+
+module _ {F : Type 0} (value : F → Number) (limit : ℕ) (some : 127 ≤ limit) (within : (x : F) → fits limit (value x) ≡ true) where
+  extended-fits : (x : Ext F) → value_fits limit (extended value x) ≡ true
+  extended-fits (ext.Number x) = within x
+  extended-fits ext.PlusInf = refl
+  extended-fits ext.MinusInf = refl
+  extended-fits ext.Na = refl
+
+  bound-fits : (x : Option F) → bound_fits limit (option_map value x) ≡ true
+  bound-fits None = refl
+  bound-fits (Some x) = within x
+
+  attributes-fit : (a : own.Attributes F) → attributes_fit limit (attributes_shown value a) ≡ true
+  attributes-fit a = rw (bound-fits a.lower, bound-fits a.upper, within a.level, within a.marginal) refl
+
+  -- what a type has where nothing is given
+  absent-fits : (type : VariableType) → attributes_fit limit (absent_variable type) ≡ true
+  absent-fits type.Free = rw (zero_fits limit some) refl
+  absent-fits type.Positive = rw (zero_fits limit some) refl
+  absent-fits type.Negative = rw (zero_fits limit some) refl
+  absent-fits type.Discrete = rw (zero_fits limit some) refl
+
+  value-at : (o : Option (Ext F)) → value_fits limit (unwrap_or (option_map (extended value) o) zero) ≡ true
+  value-at None = zero_fits limit some
+  value-at (Some x) = extended-fits x
+
+  attributes-at : (o : Option (own.Attributes F)) (absent : Attributes) → attributes_fit limit absent ≡ true → attributes_fit limit (unwrap_or (option_map (attributes_shown value) o) absent) ≡ true
+  attributes-at None absent fit = fit
+  attributes-at (Some a) absent fit = attributes-fit a
+
+  -- the numbers of what is shown of a content fit
+  pub content-fits : (content : kept.Content F) (t : List ℕ) → fits_at limit (content_shown value content) t ≡ true
+  content-fits variant.Undeclared t = refl
+  content-fits (variant.Alias base) t = refl
+  content-fits (variant.Set members) t = refl
+  content-fits (variant.Parameter entries) t = ap (λ o. value_fits limit (unwrap_or o zero)) (get-shown (extended value) entries t) ∙ value-at (finite.get entries t)
+  content-fits (variant.Variable kind entries) t =
+      ap (λ o. attributes_fit limit (unwrap_or o (absent_variable kind))) (get-shown (attributes_shown value) entries t) ∙ attributes-at (finite.get entries t) (absent_variable kind) (absent-fits kind)
+  content-fits (variant.Equation entries) t =
+      ap (λ o. attributes_fit limit (unwrap_or o unbounded)) (get-shown (attributes_shown value) entries t) ∙ attributes-at (finite.get entries t) unbounded (absent-fits type.Free)
+  content-fits (variant.Model model solver) t = refl
+
+-- the same of a symbol that shows a content
+pub fits-seen : {F : Type 0} (value : F → Number) (limit : ℕ) (domain : List (Option ℕ)) (inside : kept.Content F) (s : Symbol) → record { domain = domain; content = content_shown value inside } ≡ s → 127 ≤ limit → ((x : F) → fits limit (value x) ≡ true) → (t : List ℕ) → fits_at limit s.content t ≡ true
+fits-seen value limit domain inside s view some within t = subst (λ (s : Symbol). fits_at limit s.content t ≡ true) view (content-fits value limit some within inside t)

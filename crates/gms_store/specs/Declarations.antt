@@ -53,6 +53,11 @@ abbrev pub is_free : Content → Bool
 is_free (variable_of type.Free entries) = true
 is_free content = false
 
+-- whether a content is that of another name of a set
+abbrev pub is_alias : Content → Bool
+is_alias (alias_of base) = true
+is_alias content = false
+
 -- whether a content is that of a set, or of another name of one
 abbrev pub is_set : Content → Bool
 is_set (set_of members) = true

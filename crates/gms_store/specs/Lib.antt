@@ -1,4 +1,5 @@
 pub mod Codes
 pub mod Declarations
+pub mod Overlays
 pub mod Shown
 pub mod State

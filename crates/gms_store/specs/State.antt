@@ -5,6 +5,7 @@ use Rattle.std.specs.FinMap as finite
 use Rattle.std.specs.Ordering.{eq_by_cmp}
 use Rattle.gq_number.specs.Number.{Number, whole}
 use Rattle.gq_number.specs.Order.{number_cmp}
+use Rattle.gq_field.specs.Fits.{fits}
 use Rattle.gq_extended.specs.Extended as extended
 use Rattle.gms_tuple.specs.TupleOrder.{tuple_cmp}
 use Rattle.gms_tuple.specs.TupleSet.{has, inserted, removed}
@@ -176,6 +177,27 @@ differs_in (set_of members) t = has members t
 differs_in (parameter_of entries) t = is_given (value_in (parameter_of entries) t)
 differs_in content t = not (same_attributes (attributes_in content t) (absent content))
 
+-- whether a value fits under a limit
+abbrev pub value_fits : ℕ → extended.Extended → Bool
+value_fits limit (extended.number x) = fits limit x
+value_fits limit value = true
+
+-- whether a bound fits
+abbrev pub bound_fits : ℕ → Option Number → Bool
+bound_fits limit None = true
+bound_fits limit (Some x) = fits limit x
+
+-- whether attributes fit
+abbrev pub attributes_fit : ℕ → Attributes → Bool
+attributes_fit limit a = bound_fits limit a.lower && (bound_fits limit a.upper && (fits limit a.level && fits limit a.marginal))
+
+-- whether the numbers at a tuple fit
+abbrev pub fits_at : ℕ → Content → List ℕ → Bool
+fits_at limit (parameter_of entries) t = value_fits limit (value_in (parameter_of entries) t)
+fits_at limit (variable_of type entries) t = attributes_fit limit (attributes_in (variable_of type entries) t)
+fits_at limit (equation_of entries) t = attributes_fit limit (attributes_in (equation_of entries) t)
+fits_at limit content t = true
+
 -- the entries of a map stand at tuples of this length, and differ from an absent entry
 abbrev pub AreDifferent : {X : Type 0} → (X → Bool) → ℕ → Entries X → Type 0
 AreDifferent differs arity entries = (t : List ℕ) (x : _) → finite.get entries t ≡ Some x → (length t ≡ arity) × (differs x ≡ true)
@@ -193,6 +215,11 @@ IsKept arity content = Unit {0}
 -- a map after a write: the entry is kept where it differs from an absent one
 abbrev pub after_write : {X : Type 0} → Bool → Entries X → List ℕ → X → Entries X
 after_write differs entries t x = if differs then finite.insert entries t x else finite.remove entries t
+
+-- a value put into a map at a tuple, where there is one
+abbrev pub put_where : {X : Type 0} → Option X → Entries X → List ℕ → Entries X
+put_where None entries t = entries
+put_where (Some x) entries t = finite.insert entries t x
 
 -- a set with a tuple put in or taken out
 abbrev pub with_membership : Content → List ℕ → Bool → Content

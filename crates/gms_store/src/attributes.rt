@@ -7,18 +7,23 @@ use crate::kind::VariableType;
 use gq_field::ExactField;
 use std::cmp::Ordering;
 
-/// The bounds, the level and the marginal of an element. A bound that is `None` is no finite one.
+/// What an element of a variable or an equation has: its bounds, its level and its marginal (GAMS User's Guide,
+/// "Variables", "Equations").
 #[derive(Clone, Copy)]
 pub struct Attributes<F> {
+    /// The lower bound, `None` where there is no finite one.
     pub lower: Option<F>,
+    /// The upper bound, `None` where there is no finite one.
     pub upper: Option<F>,
+    /// The level.
     pub level: F,
+    /// The marginal.
     pub marginal: F,
 }
 
 impl<F: ExactField> Attributes<F> {
     /// No bounds, level 0 and marginal 0: what an element of an equation has where nothing is given.
-    pub fn unbounded() -> Attributes<F>
+    pub(crate) fn unbounded() -> Attributes<F>
         ensures { attributes_shown F.value result ≡ unbounded }
     {
         Attributes {
@@ -30,7 +35,7 @@ impl<F: ExactField> Attributes<F> {
     }
 
     /// What an element of a variable has where nothing is given.
-    pub fn of_type(kind: VariableType) -> Attributes<F>
+    pub(crate) fn of_type(kind: VariableType) -> Attributes<F>
         ensures { attributes_shown F.value result ≡ absent_variable kind }
     {
         let free = Attributes::unbounded();
@@ -50,7 +55,7 @@ impl<F: ExactField> Attributes<F> {
     }
 
     /// Whether both elements have the same.
-    pub fn is_same(self, other: Attributes<F>) -> bool
+    pub(crate) fn is_same(self, other: Attributes<F>) -> bool
         ensures { result ≡ same_attributes (attributes_shown F.value self) (attributes_shown F.value other) }
     {
         is_same_bound(self.lower, other.lower)
@@ -61,7 +66,7 @@ impl<F: ExactField> Attributes<F> {
 }
 
 /// Whether two numbers are the same.
-pub fn is_same_number<F: ExactField>(a: F, b: F) -> bool
+pub(crate) fn is_same_number<F: ExactField>(a: F, b: F) -> bool
     ensures { result ≡ same_number (F.value a) (F.value b) }
 {
     a.cmp_value(b) == Ordering::Equal

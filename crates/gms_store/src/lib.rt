@@ -11,6 +11,7 @@ mod settings;
 mod store;
 mod symbol;
 
+pub use attributes::Attributes;
 pub use kind::SymbolKind;
 pub use laws::write_laws;
 pub use settings::Settings;

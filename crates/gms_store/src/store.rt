@@ -4,8 +4,9 @@ ghost use Rattle.gq_extended.specs.Meaning.{extended};
 ghost use Rattle.gms_tuple.specs.TupleOrder.{IsOrdered};
 ghost use Rattle.gms_tuple.specs.TupleSet.{has};
 ghost use Rattle.gms_store.specs.Shown.{attributes_shown};
-ghost use Rattle.gms_store.specs.State.{base_of, symbol_of, symbol_at, members_of, value_of, attributes_of, given_of, statuses_in, differs_in, after_membership, after_value, after_attributes, after_statuses, with_lower, with_upper, with_level, with_marginal, with_settings};
-ghost use Rattle.gms_store.specs.Declarations.{is_free, kind_in, declared_state, first_settings, blank_state};
+ghost use Rattle.gms_store.specs.State.{base_of, symbol_of, symbol_at, members_of, value_of, attributes_of, given_of, statuses_in, differs_in, fits_at, after_membership, after_value, after_attributes, after_statuses, with_lower, with_upper, with_level, with_marginal, with_settings};
+ghost use Rattle.gms_store.specs.Overlays.{overlaid, overlaid_symbols};
+ghost use Rattle.gms_store.specs.Declarations.{is_alias, is_free, kind_in, declared_state, first_settings, blank_state};
 
 use crate::attributes::Attributes;
 use crate::kind::SymbolKind;
@@ -94,6 +95,16 @@ impl<F: ExactField> Store<F> {
         }
     }
 
+    /// Whether a name is another name of a set (GAMS User's Guide, "Set Definition", aliases).
+    pub fn is_alias(&self, name: u32) -> bool
+        ensures { result ≡ is_alias (symbol_at self.now name).content }
+    {
+        match self.symbols.get(name as usize) {
+            Some(symbol) => symbol.is_alias(),
+            None => false,
+        }
+    }
+
     /// The set of each declared position, `None` where there is none. An alias has the positions of its set.
     pub fn domain_of(&self, name: u32) -> &[Option<u32>]
         ensures { result.now ≡ (symbol_of self.now name).domain }
@@ -109,6 +120,8 @@ impl<F: ExactField> Store<F> {
         ensures differs { (t : List ℕ) → has result.now t ≡ differs_in (symbol_of self.now name).content t }
         ensures arity { (t : List ℕ) → has result.now t ≡ true → length t ≡ length (symbol_of self.now name).domain }
         ensures ordered { IsOrdered result.now }
+        // The numbers at each tuple are within the field's limit.
+        ensures fit { (t : List ℕ) → fits_at F.limit (symbol_of self.now name).content t ≡ true }
     {
         match self.symbol(name).given() {
             Some(given) => given,
@@ -199,32 +212,39 @@ impl<F: ExactField> Store<F> {
         Ok(())
     }
 
+    /// The bounds, the level and the marginal of an element: those of its type where nothing is given.
+    pub fn attributes(&self, name: u32, t: &Tuple) -> Attributes<F>
+        ensures { attributes_shown F.value result ≡ attributes_of self.now name t.now }
+    {
+        self.symbol(name).attributes(t)
+    }
+
     /// The lower bound of an element, `None` where there is no finite one.
     pub fn lower(&self, name: u32, t: &Tuple) -> Option<F>
         ensures { option_map F.value result ≡ (attributes_of self.now name t.now).lower }
     {
-        self.symbol(name).attributes(t).lower
+        self.attributes(name, t).lower
     }
 
     /// The upper bound of an element, `None` where there is no finite one.
     pub fn upper(&self, name: u32, t: &Tuple) -> Option<F>
         ensures { option_map F.value result ≡ (attributes_of self.now name t.now).upper }
     {
-        self.symbol(name).attributes(t).upper
+        self.attributes(name, t).upper
     }
 
     /// The level of an element.
     pub fn level(&self, name: u32, t: &Tuple) -> F
         ensures { F.value result ≡ (attributes_of self.now name t.now).level }
     {
-        self.symbol(name).attributes(t).level
+        self.attributes(name, t).level
     }
 
     /// The marginal of an element.
     pub fn marginal(&self, name: u32, t: &Tuple) -> F
         ensures { F.value result ≡ (attributes_of self.now name t.now).marginal }
     {
-        self.symbol(name).attributes(t).marginal
+        self.attributes(name, t).marginal
     }
 
     /// Puts the lower bound of an element, `None` for no finite one.
@@ -239,7 +259,7 @@ impl<F: ExactField> Store<F> {
             (self.new ≡ after_attributes self.old name t.now (with_lower (attributes_of self.old name t.now) (option_map F.value v))) }
         ensures err { OnErr result (self.new ≡ self.old) }
     {
-        let mut new = self.symbol(name).attributes(t);
+        let mut new = self.attributes(name, t);
         new.lower = v;
         self.put_attributes(alloc, name, t, new)
     }
@@ -256,7 +276,7 @@ impl<F: ExactField> Store<F> {
             (self.new ≡ after_attributes self.old name t.now (with_upper (attributes_of self.old name t.now) (option_map F.value v))) }
         ensures err { OnErr result (self.new ≡ self.old) }
     {
-        let mut new = self.symbol(name).attributes(t);
+        let mut new = self.attributes(name, t);
         new.upper = v;
         self.put_attributes(alloc, name, t, new)
     }
@@ -267,7 +287,7 @@ impl<F: ExactField> Store<F> {
             (self.new ≡ after_attributes self.old name t.now (with_level (attributes_of self.old name t.now) (F.value v))) }
         ensures err { OnErr result (self.new ≡ self.old) }
     {
-        let mut new = self.symbol(name).attributes(t);
+        let mut new = self.attributes(name, t);
         new.level = v;
         self.put_attributes(alloc, name, t, new)
     }
@@ -284,13 +304,13 @@ impl<F: ExactField> Store<F> {
             (self.new ≡ after_attributes self.old name t.now (with_marginal (attributes_of self.old name t.now) (F.value v))) }
         ensures err { OnErr result (self.new ≡ self.old) }
     {
-        let mut new = self.symbol(name).attributes(t);
+        let mut new = self.attributes(name, t);
         new.marginal = v;
         self.put_attributes(alloc, name, t, new)
     }
 
-    /// Puts the attributes of an element.
-    fn put_attributes(
+    /// Puts the bounds, the level and the marginal of an element.
+    pub fn put_attributes(
         &mut self,
         alloc: Global,
         name: u32,
@@ -339,4 +359,32 @@ impl<F: ExactField> Store<F> {
     {
         self.settings = s;
     }
+
+    /// Puts what another state has over this one: at each name that is declared there all that is given of it there, and its
+    /// settings. What it does not declare stays (GAMS User's Guide, "Save and Restart"). After want of memory some names may
+    /// have what the other state has, and others what was there.
+    pub fn overlay(&mut self, alloc: Global, other: &Store<F>) -> Result<(), AllocError>
+        ensures { OnOk result (self.new ≡ overlaid self.old other.now) }
+    {
+        overlay_symbols(alloc, &mut self.symbols, &other.symbols)?;
+        self.settings = other.settings;
+        Ok(())
+    }
+}
+
+/// Puts symbols in the places of others, where they are declared.
+fn overlay_symbols<F: ExactField>(
+    alloc: Global,
+    symbols: &mut [Symbol<F>],
+    others: &[Symbol<F>],
+) -> Result<(), AllocError>
+    ensures { OnOk result (symbols.new ≡ overlaid_symbols symbols.old others.now) }
+{
+    for (name, other) in others.iter().enumerate() {
+        if name < symbols.len() {
+            let symbol = &mut symbols[name];
+            symbol.overlay(alloc, other)?;
+        }
+    }
+    Ok(())
 }

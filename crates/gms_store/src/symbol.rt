@@ -1,11 +1,12 @@
 //! A name of the program: the sets of its positions, and what it stands for.
-ghost use Rattle.std.specs.Prelude.{◌≡◌, ◌==◌, ℕ, List, [], length, option_map, OnOk, OnErr, IfOk, IfSome, IfNone};
+ghost use Rattle.std.specs.Prelude.{◌≡◌, ◌==◌, ℕ, List, [], true, length, option_map, OnOk, OnErr, IfOk, IfSome, IfNone};
 ghost use Rattle.gq_extended.specs.Meaning.{extended};
 ghost use Rattle.gms_tuple.specs.TupleOrder.{IsOrdered};
 ghost use Rattle.gms_tuple.specs.TupleSet.{has};
 ghost use Rattle.gms_store.specs.Shown.{attributes_shown, content_shown};
-ghost use Rattle.gms_store.specs.State.{no_symbol, behind, if_fits, given_in, members_in, value_in, attributes_in, statuses_in, with_content, with_membership, with_value, with_attributes, with_statuses, is_given, IsKept};
-ghost use Rattle.gms_store.specs.Declarations.{symbol_of_kind, positions_of, names_of, declared_again, retyped, content_of, alias_symbol, model_symbol, is_free, is_set, is_undeclared, kind_in};
+ghost use Rattle.gms_store.specs.State.{no_symbol, behind, if_fits, fits_at, given_in, members_in, value_in, attributes_in, statuses_in, with_content, with_membership, with_value, with_attributes, with_statuses, is_given, IsKept};
+ghost use Rattle.gms_store.specs.Overlays.{chosen};
+ghost use Rattle.gms_store.specs.Declarations.{symbol_of_kind, positions_of, names_of, declared_again, retyped, content_of, alias_symbol, model_symbol, is_alias, is_free, is_set, is_undeclared, kind_in};
 
 use crate::attributes::{Attributes, is_same_number};
 use crate::content::Content;
@@ -107,6 +108,16 @@ impl<F: ExactField> Symbol<F> {
         }
     }
 
+    /// Whether the name is another name of a set.
+    pub fn is_alias(&self) -> bool
+        ensures { result ≡ is_alias self.now.content }
+    {
+        match &self.content {
+            Content::Alias(_) => true,
+            _ => false,
+        }
+    }
+
     /// Whether the name is that of a set, or another name of one.
     pub fn is_set(&self) -> bool
         ensures { result ≡ is_set self.now.content }
@@ -150,6 +161,30 @@ impl<F: ExactField> Symbol<F> {
         }
     }
 
+    /// An equal symbol.
+    pub fn copy(&self, alloc: Global) -> Result<Symbol<F>, AllocError>
+        ensures { IfOk result (λ copy. copy ≡ self.now) }
+    {
+        let domain = copied(alloc, self.domain.as_slice())?;
+        let content = self.content.copy(alloc)?;
+        Ok(Symbol {
+            domain: Sequence::new(domain),
+            content,
+        })
+    }
+
+    /// Becomes another symbol, where that is declared.
+    pub fn overlay(&mut self, alloc: Global, other: &Symbol<F>) -> Result<(), AllocError>
+        ensures { OnOk result (self.new ≡ chosen self.old other.now) }
+    {
+        if other.is_undeclared() {
+            return Ok(());
+        }
+        let copy = other.copy(alloc)?;
+        *self = copy;
+        Ok(())
+    }
+
     /// What the name is declared as.
     pub fn kind(&self) -> SymbolKind
         ensures { result ≡ kind_in self.now.content }
@@ -188,6 +223,7 @@ impl<F: ExactField> Symbol<F> {
         ensures none { IfNone result (given_in self.now.content ≡ []) }
         ensures ordered { IfSome result (λ set. IsOrdered set.now) }
         ensures kept { IsKept (length self.now.domain) self.now.content }
+        ensures fit { (t : List ℕ) → fits_at F.limit self.now.content t ≡ true }
     {
         match &self.content {
             Content::Set(members) => {
@@ -328,6 +364,17 @@ impl<F: ExactField> Symbol<F> {
         };
         self.content = Content::Model(model, solver);
     }
+}
+
+/// The same positions.
+fn copied(alloc: Global, domain: &[Option<u32>]) -> Result<Vec<Option<u32>>, AllocError>
+    ensures { IfOk result (λ copy. copy.items ≡ domain.now) }
+{
+    let mut copy = Vec::with_capacity(alloc, domain.len())?;
+    for position in domain {
+        copy.push(*position)?;
+    }
+    Ok(copy)
 }
 
 /// Whether a value is one that a parameter keeps: it is not 0.

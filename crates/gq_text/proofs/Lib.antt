@@ -11,3 +11,5 @@ pub mod Showings
 pub mod Texts
 pub mod Slashes
 pub mod Nearness
+pub mod Exacts
+pub mod ReadingBack

@@ -6,3 +6,4 @@ pub mod Faults
 pub mod Appends
 pub mod Parts
 pub mod Shortest
+pub mod ExactText

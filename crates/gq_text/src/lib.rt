@@ -1,8 +1,9 @@
-//! Floor 1, numbers. The texts of exact numbers: how decimals are read, and how numbers are shown.
+//! Floor 1, numbers. The texts of exact numbers: how decimals are read, how numbers are shown, and how what is shown exactly is read back.
 #![tactic(auto)]
 
 mod digits;
 mod division;
+mod exact;
 mod fault;
 mod laws;
 mod literal;
@@ -11,7 +12,8 @@ mod read;
 mod show;
 
 pub use digits::Digits;
+pub use exact::{read_exact, read_whole};
 pub use fault::NumberFault;
 pub use laws::{reading_laws, showing_laws};
 pub use read::read_decimal;
-pub use show::{MOST_DECIMALS, put_exact, put_rounded};
+pub use show::{MOST_DECIMALS, put_exact, put_rounded, put_whole};

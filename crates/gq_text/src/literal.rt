@@ -12,7 +12,7 @@ use crate::parts::Exponent;
 use gq_field::ExactField;
 
 /// The number that is spelled by the digits of `front` and `digits` behind them, where it is below 2^128.
-fn spelled(front: u128, digits: &[u8]) -> Option<u128>
+pub(crate) fn spelled(front: u128, digits: &[u8]) -> Option<u128>
     requires { AreDigits digits.now }
     ensures { SomeIff result (front * 10 ^ length digits.now + spelled digits.now < 2 ^ 128)
         (front * 10 ^ length digits.now + spelled digits.now) }

@@ -29,7 +29,7 @@ fn digit_count(text: &[u8]) -> usize
 }
 
 /// The digits that the text begins with, and what stands behind them.
-fn split_digits(text: &[u8]) -> (&[u8], &[u8])
+pub(crate) fn split_digits(text: &[u8]) -> (&[u8], &[u8])
     ensures { SplitsDigits text.now result.0.now result.1.now }
 {
     text.split_at(digit_count(text))
@@ -58,7 +58,7 @@ pub(crate) fn split_pointed(text: &[u8]) -> Pointed<'_>
 }
 
 /// Whether the text begins with `-`, and what stands behind its sign.
-fn split_sign(text: &[u8]) -> (bool, &[u8])
+pub(crate) fn split_sign(text: &[u8]) -> (bool, &[u8])
     ensures { SplitsSign text.now result.0 result.1.now }
 {
     match text {

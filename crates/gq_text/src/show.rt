@@ -1,6 +1,7 @@
 //! How numbers are shown: rounded to so many decimals, or exactly.
-ghost use Rattle.std.specs.Prelude.{◌≤◌};
+ghost use Rattle.std.specs.Prelude.{◌≡◌, ◌≤◌, decimal};
 ghost use Rattle.gq_text.specs.Shown.{IsRoundedText, IsExactText};
+ghost use Rattle.gq_text.specs.ExactText.{exact_text};
 
 use crate::digits::Digits;
 use crate::division::rounded;
@@ -28,11 +29,20 @@ pub fn put_rounded<F: ExactField>(v: F, decimals: u8, into: &mut Digits)
 /// Puts the value exactly, in place of what `into` has: the numerator, and where the denominator is not 1 then `/` and the
 /// denominator. `-` stands before the text of a number below 0.
 pub fn put_exact<F: ExactField>(v: F, into: &mut Digits)
-    ensures { IsExactText (F.value v) into.new }
+    ensures exact { IsExactText (F.value v) into.new }
+    ensures text { into.new ≡ exact_text (F.value v) }
 {
     let (numerator, denominator) = v.parts();
     into.clear();
     into.push_sign(numerator < 0);
     into.push_numeral(numerator.unsigned_abs());
     into.push_denominator(denominator);
+}
+
+/// Puts the decimal digits of a whole number, in place of what `into` has.
+pub fn put_whole(n: u128, into: &mut Digits)
+    ensures { into.new ≡ decimal n }
+{
+    into.clear();
+    into.push_numeral(n);
 }

@@ -1,5 +1,5 @@
 -- What is kept is what callers see.
-use Rattle.std.proofs.Common.{◌≡◌, ℕ, ◌*◌, ◌≤◌, sym, ap, ◌∙◌, subst}
+use Rattle.std.proofs.Common.{◌≡◌, ℕ, ◌≤◌, sym, ap, ◌∙◌, subst}
 use Rattle.gq_number.specs.Number.{Number}
 use Rattle.lp_dict.specs.declared.body.Body.{Body}
 use Rattle.lp_dict.specs.declared.body.Body.TheVariants as body
@@ -14,5 +14,5 @@ module _ {F : Type 0} (value : F → Number) (t : Tableau F) (b : Body F) (view 
   upcoming_is = ap upcoming_of (sym is) ∙ ap (λ (t : Tableau F). t.upcoming) view
 
 -- what whole numbers keep
-pub bounded_whole : {F : Type 0} (value : F → Number) (limit : ℕ) (b : Body F) (w : WholeTableau) (n : ℕ) → IsKept value limit b → b ≡ body.Whole w n → 2 * (w.bound * w.bound) ≤ limit
+pub bounded_whole : {F : Type 0} (value : F → Number) (limit : ℕ) (b : Body F) (w : WholeTableau) (n : ℕ) → IsKept value limit b → b ≡ body.Whole w n → w.bound ≤ limit
 bounded_whole value limit b w n h is = subst (IsBounded limit) is h.bounded

@@ -1,5 +1,5 @@
 -- The entries of rows as numerators and denominators, and as lines of whole numbers.
-use Rattle.std.proofs.Common.{◌≡◌, ◌≢◌, ℕ, zero, suc, ◌+◌, ◌*◌, ◌<◌, ◌≤◌, inl, inr, pos, List, [], ◌∷◌, ◌++◌, length, map, take, get_or, Option, Some, None, refl, sym, ap, ap₂, ◌∙◌, subst, arith}
+use Rattle.std.proofs.Common.{◌≡◌, ◌≢◌, ℕ, zero, suc, ◌+◌, ◌<◌, ◌≤◌, inl, inr, pos, List, [], ◌∷◌, ◌++◌, length, map, take, get_or, Option, Some, None, refl, sym, ap, ap₂, ◌∙◌, subst, arith}
 use mathlib.Core.Path.{fun_ext}
 use Rattle.std.specs.Prelude.{◌⊎◌, slice_get, slice_index_or, Result, Ok, Err, IfOk, IfSome, MatchOption, Vec}
 use Rattle.std.specs.declared.alloc.Global.{Global}
@@ -208,6 +208,6 @@ pub found_same : (o : Option WholeTableau) (d e : Dictionary) → d ≡ e → Ma
 found_same (Some w) d e same is = is ∙ same
 found_same None d e same is = tt
 
-pub found_bounded : (o : Option WholeTableau) (bound limit : ℕ) → 2 * (bound * bound) ≤ limit → MatchOption o (Unit {0}) (λ w. w.bound ≡ bound) → IfSome o (λ w. 2 * (w.bound * w.bound) ≤ limit)
-found_bounded (Some w) bound limit h same = subst (λ n. 2 * (n * n) ≤ limit) (sym same) h
+pub found_bounded : (o : Option WholeTableau) (bound limit : ℕ) → bound ≤ limit → MatchOption o (Unit {0}) (λ w. w.bound ≡ bound) → IfSome o (λ w. w.bound ≤ limit)
+found_bounded (Some w) bound limit h same = subst (λ n. n ≤ limit) (sym same) h
 found_bounded None bound limit h same = tt

@@ -1,5 +1,5 @@
 -- A dictionary as its callers see it, and the two ways in which it is kept (Chvatal, Linear Programming, chapter 2).
-use Rattle.std.specs.Prelude.{ℕ, ◌*◌, ◌≤◌, List, length}
+use Rattle.std.specs.Prelude.{ℕ, ◌≤◌, List, length}
 use Rattle.gq_number.specs.Number.{Number}
 use Rattle.lp_core.specs.Dictionary.{Dictionary}
 use Rattle.lp_exact.specs.Pivots.{IsProper}
@@ -35,12 +35,12 @@ tableau value b =
 abbrev pub dictionary : {F : Type 0} → (F → Number) → Tableau F → Dictionary
 dictionary value t = record { variables = t.variables; basic = t.basic; numbers = (kept value t.body).numbers }
 
--- whole numbers are so small that no step on them passes the limit of the field
+-- no part of a row of whole numbers passes the limit of the field
 abbrev pub IsBounded : {F : Type 0} → ℕ → Body F → Type 0
-IsBounded limit (body.Whole w upcoming) = 2 * (w.bound * w.bound) ≤ limit
+IsBounded limit (body.Whole w upcoming) = w.bound ≤ limit
 IsBounded limit (body.Exact t) = Unit {0}
 
--- What each dictionary keeps: it is one of a program, and no step on whole numbers is refused.
+-- What each dictionary keeps: it is one of a program, and its whole numbers are numbers of the field.
 pub record IsKept {F : Type 0} (value : F → Number) (limit : ℕ) (b : Body F) : Type 0 where
   pub proper : IsProper (kept value b)
   pub few : length (kept value b).basic ≤ (kept value b).variables

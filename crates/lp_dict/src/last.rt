@@ -1,5 +1,5 @@
 //! What is read off a last dictionary whose rows are whole numbers.
-ghost use Rattle.std.specs.Prelude.{◌≡◌, ◌*◌, ◌+◌, ◌≤◌, ◌<◌, map, length, Some, Contains, IfOk};
+ghost use Rattle.std.specs.Prelude.{◌≡◌, ◌+◌, ◌≤◌, ◌<◌, map, length, Some, Contains, IfOk};
 ghost use Rattle.lp_core.specs.Answers.{last_of, last_along};
 ghost use Rattle.lp_whole.specs.Whole.{dictionary as dictionary_of};
 ghost use Rattle.lp_dict.specs.Reading.{AreByVariable, AreOfRow};
@@ -17,7 +17,7 @@ fn by_variable<F: ExactField>(
     rows: &Whole,
     column: usize,
 ) -> Result<Vec<F>, AllocError>
-    requires bounded { 2 * (rows.now.bound * rows.now.bound) ≤ F.limit }
+    requires bounded { rows.now.bound ≤ F.limit }
     requires column { column ≤ (dictionary_of rows.now).variables + 1 }
     ensures { IfOk result (λ list. AreByVariable F.value (dictionary_of rows.now) ((dictionary_of rows.now).variables + 1) column (length (dictionary_of rows.now).basic) list.items) }
 {
@@ -31,7 +31,7 @@ fn by_variable<F: ExactField>(
 
 /// The number of each variable in a row.
 fn row_of<F: ExactField>(alloc: Global, rows: &Whole, row: usize) -> Result<Vec<F>, AllocError>
-    requires bounded { 2 * (rows.now.bound * rows.now.bound) ≤ F.limit }
+    requires bounded { rows.now.bound ≤ F.limit }
     requires row { row ≤ length (dictionary_of rows.now).basic }
     ensures { IfOk result (λ list. AreOfRow F.value (dictionary_of rows.now) row ((dictionary_of rows.now).variables + 1) list.items) }
 {
@@ -45,7 +45,7 @@ fn row_of<F: ExactField>(alloc: Global, rows: &Whole, row: usize) -> Result<Vec<
 
 /// The value of each variable where those that are not basic are 0.
 pub(crate) fn values<F: ExactField>(alloc: Global, rows: &Whole) -> Result<Vec<F>, AllocError>
-    requires { 2 * (rows.now.bound * rows.now.bound) ≤ F.limit }
+    requires { rows.now.bound ≤ F.limit }
     ensures { IfOk result (λ list. map F.value list.items ≡ (last_of (dictionary_of rows.now)).values) }
 {
     rows.keeps();
@@ -54,7 +54,7 @@ pub(crate) fn values<F: ExactField>(alloc: Global, rows: &Whole) -> Result<Vec<F
 
 /// The coefficient of each variable in the row by which pivots are chosen; 0 for a basic one.
 pub(crate) fn costs<F: ExactField>(alloc: Global, rows: &Whole) -> Result<Vec<F>, AllocError>
-    requires { 2 * (rows.now.bound * rows.now.bound) ≤ F.limit }
+    requires { rows.now.bound ≤ F.limit }
     ensures { IfOk result (λ list. map F.value list.items ≡ (last_of (dictionary_of rows.now)).costs) }
 {
     rows.keeps();
@@ -72,7 +72,7 @@ pub(crate) fn ray<F: ExactField>(
     rows: &Whole,
     enter: u32,
 ) -> Result<Vec<F>, AllocError>
-    requires bounded { 2 * (rows.now.bound * rows.now.bound) ≤ F.limit }
+    requires bounded { rows.now.bound ≤ F.limit }
     requires there { enter ≤ (dictionary_of rows.now).variables }
     requires free { ¬ (Contains (dictionary_of rows.now).basic enter) }
     ensures { IfOk result (λ list. map F.value list.items ≡ (last_along (dictionary_of rows.now) enter).changes) }

@@ -1,5 +1,5 @@
 //! What is read from rows of whole numbers, and from those of fractions.
-ghost use Rattle.std.specs.Prelude.{◌≡◌, ◌+◌, ◌*◌, ◌≤◌, ◌<◌, ◌↔◌, ℕ, pos, length, slice_get, Some, Contains, IsTrue};
+ghost use Rattle.std.specs.Prelude.{◌≡◌, ◌+◌, ◌≤◌, ◌<◌, ◌↔◌, ℕ, pos, length, slice_get, Some, Contains, IsTrue};
 ghost use Rattle.gq_number.specs.Number.{whole};
 ghost use Rattle.lp_core.specs.Dictionary.{constant_at, entry_at, IsPriced};
 ghost use Rattle.lp_core.specs.Answers.{priced_row};
@@ -78,7 +78,7 @@ pub(crate) fn priced(rows: &Whole) -> usize
 
 /// The constant of a variable's row; 0 for a variable that is not basic.
 pub(crate) fn amount<F: ExactField>(rows: &Whole, v: u32) -> F
-    requires { 2 * (rows.now.bound * rows.now.bound) ≤ F.limit }
+    requires { rows.now.bound ≤ F.limit }
     ensures basic { (k : ℕ) → slice_get (dictionary_of rows.now).basic k ≡ Some v → F.value result ≡ constant_at (dictionary_of rows.now) k }
     ensures other { ¬ (Contains (dictionary_of rows.now).basic v) → F.value result ≡ whole (pos 0) }
 {
@@ -91,7 +91,7 @@ pub(crate) fn amount<F: ExactField>(rows: &Whole, v: u32) -> F
 
 /// The number of a variable in a row; 0 where it is basic or no variable.
 fn free_entry<F: ExactField>(rows: &Whole, row: usize, v: u32) -> F
-    requires bounded { 2 * (rows.now.bound * rows.now.bound) ≤ F.limit }
+    requires bounded { rows.now.bound ≤ F.limit }
     requires row { row ≤ length (dictionary_of rows.now).basic }
     ensures free { ¬ (Contains (dictionary_of rows.now).basic v) → F.value result ≡ entry_at (dictionary_of rows.now) row v }
     ensures basic { Contains (dictionary_of rows.now).basic v → F.value result ≡ whole (pos 0) }
@@ -107,7 +107,7 @@ fn free_entry<F: ExactField>(rows: &Whole, row: usize, v: u32) -> F
 /// The number of a variable in the row of a basic one; 0 where the first is not basic, and where the second is basic or no
 /// variable.
 pub(crate) fn entry<F: ExactField>(rows: &Whole, basic: u32, other: u32) -> F
-    requires { 2 * (rows.now.bound * rows.now.bound) ≤ F.limit }
+    requires { rows.now.bound ≤ F.limit }
     ensures row { (k : ℕ) → slice_get (dictionary_of rows.now).basic k ≡ Some basic → ¬ (Contains (dictionary_of rows.now).basic other) → F.value result ≡ entry_at (dictionary_of rows.now) k other }
     ensures not_basic { ¬ (Contains (dictionary_of rows.now).basic basic) → F.value result ≡ whole (pos 0) }
     ensures both_basic { Contains (dictionary_of rows.now).basic other → F.value result ≡ whole (pos 0) }
@@ -122,7 +122,7 @@ pub(crate) fn entry<F: ExactField>(rows: &Whole, basic: u32, other: u32) -> F
 
 /// The number of a variable in the row by which pivots are chosen; 0 for a basic variable, and for a number that is no variable.
 pub(crate) fn coefficient<F: ExactField>(rows: &Whole, v: u32) -> F
-    requires { 2 * (rows.now.bound * rows.now.bound) ≤ F.limit }
+    requires { rows.now.bound ≤ F.limit }
     ensures priced { (k : ℕ) → IsPriced (dictionary_of rows.now) k → ¬ (Contains (dictionary_of rows.now).basic v) → F.value result ≡ entry_at (dictionary_of rows.now) k v }
     ensures basic { Contains (dictionary_of rows.now).basic v → F.value result ≡ whole (pos 0) }
     ensures no_variable { (dictionary_of rows.now).variables < v → F.value result ≡ whole (pos 0) }

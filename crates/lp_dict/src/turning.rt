@@ -1,5 +1,5 @@
 //! From fractions to whole numbers, from whole numbers to fractions, and a pivot of either.
-ghost use Rattle.std.specs.Prelude.{◌≡◌, ◌*◌, ◌+◌, ◌≤◌, ℕ, map, length, IfOk, IfErr, IfSome};
+ghost use Rattle.std.specs.Prelude.{◌≡◌, ◌+◌, ◌≤◌, ℕ, map, length, IfOk, IfErr, IfSome};
 ghost use Rattle.lp_core.specs.Dictionary.{InPhaseOne, IsLegal};
 ghost use Rattle.lp_exact.specs.First.{IsFilled};
 ghost use Rattle.lp_exact.specs.Rows.{IsRow};
@@ -10,7 +10,7 @@ ghost use Rattle.lp_dict.specs.Tableau.{kept, upcoming_of, IsKept};
 ghost use Rattle.lp_dict.specs.Turning.{part_of, all_rows, IsLineOf, AreLinesOf, AreFilled, Follows, StopsBy};
 
 use crate::body::Body;
-use crate::number::{bound_of, number_at};
+use crate::number::number_at;
 use gq_field::ExactField;
 use lp_core::Pivot;
 use lp_exact::{Entry, ExactDict, push_unless_zero};
@@ -34,7 +34,7 @@ fn parts_of<F: ExactField>(alloc: Global, row: &[Entry<F>]) -> Result<Vec<Part>,
     Ok(parts)
 }
 
-/// A row by whole numbers over one denominator; none where some part of it has more than 63 bits.
+/// A row by whole numbers over one denominator; none where some part of it has more than 127 bits.
 fn line_of<F: ExactField>(
     alloc: Global,
     width: usize,
@@ -47,7 +47,7 @@ fn line_of<F: ExactField>(
     line_of_parts(alloc, width, parts.as_slice())
 }
 
-/// The lines of the rows, and behind them that of the objective; none where some part of them has more than 63 bits.
+/// The lines of the rows, and behind them that of the objective; none where some part of them has more than 127 bits.
 fn lines_of<F: ExactField>(
     alloc: Global,
     dict: &ExactDict<F>,
@@ -75,14 +75,14 @@ fn lines_of<F: ExactField>(
 fn whole_of<F: ExactField>(alloc: Global, dict: &ExactDict<F>) -> Result<Option<Whole>, AllocError>
     requires { ¬ (InPhaseOne (exact.dictionary F.value dict.now)) }
     ensures same { IfOk result (λ found. IfSome found (λ rows. dictionary_of rows ≡ exact.dictionary F.value dict.now)) }
-    ensures bounded { IfOk result (λ found. IfSome found (λ rows. 2 * (rows.bound * rows.bound) ≤ F.limit)) }
+    ensures bounded { IfOk result (λ found. IfSome found (λ rows. rows.bound ≤ F.limit)) }
 {
     dict.keeps();
     let Some(lines) = lines_of(alloc, dict)? else {
         return Ok(None);
     };
     let basic = Vec::from_slice(alloc, dict.basic())?;
-    Ok(Whole::of_lines(dict.variables(), basic, lines, bound_of::<F>()))
+    Ok(Whole::of_lines(dict.variables(), basic, lines, F::limit()))
 }
 
 /// The body of a first dictionary: whole numbers where they are small, else the fractions.
@@ -106,7 +106,7 @@ fn exact_row<F: ExactField>(
     rows: &Whole,
     row: usize,
 ) -> Result<Vec<Entry<F>>, AllocError>
-    requires bounded { 2 * (rows.now.bound * rows.now.bound) ≤ F.limit }
+    requires bounded { rows.now.bound ≤ F.limit }
     requires row { row ≤ length (dictionary_of rows.now).basic }
     ensures { IfOk result (λ made. IsFilled F.value ((dictionary_of rows.now).numbers row) ((dictionary_of rows.now).variables + 2) made.items) }
 {
@@ -121,7 +121,7 @@ fn exact_row<F: ExactField>(
 
 /// The rows by fractions.
 fn exact_rows<F: ExactField>(alloc: Global, rows: &Whole) -> Result<Vec<Vec<Entry<F>>>, AllocError>
-    requires { 2 * (rows.now.bound * rows.now.bound) ≤ F.limit }
+    requires { rows.now.bound ≤ F.limit }
     ensures { IfOk result (λ made. AreFilled F.value (dictionary_of rows.now) (rows_of made.items) (length (dictionary_of rows.now).basic)) }
 {
     let mut made = Vec::new(alloc);
@@ -137,7 +137,7 @@ pub(crate) fn exact_of<F: ExactField>(
     rows: &Whole,
     upcoming: u64,
 ) -> Result<ExactDict<F>, AllocError>
-    requires bounded { 2 * (rows.now.bound * rows.now.bound) ≤ F.limit }
+    requires bounded { rows.now.bound ≤ F.limit }
     requires few { length (dictionary_of rows.now).basic ≤ (dictionary_of rows.now).variables }
     ensures same { IfOk result (λ dict. exact.dictionary F.value dict ≡ dictionary_of rows.now) }
     ensures upcoming { IfOk result (λ dict. dict.upcoming ≡ upcoming) }
@@ -160,14 +160,14 @@ fn exact_pivot<F: ExactField>(alloc: Global, dict: ExactDict<F>, p: Pivot) -> Re
     Ok(Body::Exact(after))
 }
 
-/// The dictionary after a legal pivot, by whole numbers, or by fractions where the whole numbers might pass their bound.
+/// The dictionary after a legal pivot, by whole numbers, or by fractions where those of a step might pass the limit.
 fn whole_pivot<F: ExactField>(
     alloc: Global,
     rows: Whole,
     upcoming: u64,
     p: Pivot,
 ) -> Result<Body<F>, Stop>
-    requires bounded { 2 * (rows.bound * rows.bound) ≤ F.limit }
+    requires bounded { rows.bound ≤ F.limit }
     requires few { length (dictionary_of rows).basic ≤ (dictionary_of rows).variables }
     requires legal { (k : ℕ) × IsLegal (dictionary_of rows) p k }
     ensures follows { IfOk result (Follows F.value F.limit (dictionary_of rows) upcoming p) }

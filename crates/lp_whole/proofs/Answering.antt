@@ -1,19 +1,16 @@
 -- What a pivot answers, by the row of the variable that leaves.
-use Rattle.std.proofs.Common.{◌≡◌, ℕ, ◌*◌, ◌≤◌, Some, Result, Ok, Err, ap, ◌∙◌, subst}
+use Rattle.std.proofs.Common.{◌≡◌, ℕ, ◌+◌, ◌≤◌, inr, List, length, Some, Result, Ok, Err, ap, ◌∙◌, subst}
 use Rattle.std.specs.Prelude.{slice_get, Contains, IfOk, IfErr}
 use Rattle.lp_core.specs.declared.answer.Pivot.{Pivot}
 use Rattle.lp_core.specs.Dictionary.{IsLegal, exchanged}
 use Rattle.lp_core.specs.Steps.{AllFit, exchange_steps}
 use Rattle.lp_exact.proofs.Proper.{leaves_at}
 use Rattle.lp_exact.proofs.Kept.{contains_get}
-use Rattle.lp_whole.specs.Whole.{WholeTableau, dictionary, IsWhole, IsPivoted}
-use Rattle.lp_whole.proofs.Bounds.{every_exchange_fits}
-use Rattle.lp_whole.proofs.Wholes.{bounded}
+use Rattle.lp_whole.specs.Pairs.{ArePairsFit, IsSomePairCrowded}
+use Rattle.lp_whole.specs.Whole.{WholeTableau, dictionary, IsWhole, AreCrowded, IsPivotCrowded, IsPivoted}
+use Rattle.lp_whole.proofs.Pairing.{steps_fit}
+use Rattle.lp_whole.proofs.Plans.{get_within}
 use Rattle.lp_whole.proofs.Pivoting.{pivot_there}
-
-pub if_ok : {A E : Type 0} (P Q : A → Type 0) (r : Result A E) → ((a : A) → P a → Q a) → IfOk r P → IfOk r Q
-if_ok P Q (Ok a) f h = f a h
-if_ok P Q (Err e) f h = tt
 
 module _ (t : WholeTableau) (w : IsWhole t) (p : Pivot) (legal : (k : ℕ) × IsLegal (dictionary t) p k) where
   leaves : slice_get t.basic legal.0 ≡ Some p.leave
@@ -25,16 +22,38 @@ module _ (t : WholeTableau) (w : IsWhole t) (p : Pivot) (legal : (k : ℕ) × Is
   pub legal_at : (place : ℕ) → slice_get t.basic place ≡ Some p.leave → IsLegal (dictionary t) p place
   legal_at place at = subst (IsLegal (dictionary t) p) (w.proper.distinct legal.0 place p.leave leaves at) legal.1
 
-  pub fits_at : (limit pivot k : ℕ) → 2 * (t.bound * t.bound) ≤ limit → slice_get t.basic k ≡ Some p.leave → AllFit (exchange_steps limit pivot (dictionary t) p.enter k)
-  fits_at limit pivot k room at = every_exchange_fits limit t.bound (dictionary t) room (bounded t w) pivot p.enter k (pivot_there t w p k (legal_at k at))
+  pub fits_at : (place : ℕ) → slice_get t.basic place ≡ Some p.leave → ArePairsFit t.lines t.deferred place (p.enter + 1) t.bound (length t.lines) → (limit pivot k : ℕ) → t.bound ≤ limit → slice_get t.basic k ≡ Some p.leave → AllFit (exchange_steps limit pivot (dictionary t) p.enter k)
+  fits_at place there h limit pivot k room at =
+      let same : place ≡ k = w.proper.distinct place k p.leave there at in
+      steps_fit t w p.enter k (get_within t.basic k p.leave at) (pivot_there t w p k (legal_at k at))
+      (subst (λ j. ArePairsFit t.lines t.deferred j (p.enter + 1) t.bound (length t.lines)) same h) limit pivot room
 
   pub exchanged_at : (place : ℕ) → slice_get t.basic place ≡ Some p.leave → (r : Result WholeTableau WholeTableau) → IsPivoted t p place r → IfOk r (λ after. (k : ℕ) → slice_get t.basic k ≡ Some p.leave → dictionary after ≡ exchanged (dictionary t) p.enter k)
   exchanged_at place at (Ok after) h = λ k there. h.0.0 ∙ ap (exchanged (dictionary t) p.enter) (w.proper.distinct place k p.leave at there)
   exchanged_at place at (Err same) h = tt
+
+  pub crowded_at : (place : ℕ) → slice_get t.basic place ≡ Some p.leave → IsSomePairCrowded t.lines t.deferred place (p.enter + 1) t.bound → (k : ℕ) → slice_get t.basic k ≡ Some p.leave → IsSomePairCrowded t.lines t.deferred k (p.enter + 1) t.bound
+  crowded_at place there h k at = subst (λ j. IsSomePairCrowded t.lines t.deferred j (p.enter + 1) t.bound) (w.proper.distinct place k p.leave there at) h
+
+  crowded_in : (place : ℕ) → slice_get t.basic place ≡ Some p.leave → (r : Result WholeTableau WholeTableau) → IfErr r (λ same. (dictionary same ≡ dictionary t) × (same.bound ≡ t.bound) × AreCrowded same p place) → IfErr r (λ same. (k : ℕ) → slice_get t.basic k ≡ Some p.leave → AreCrowded same p k)
+  crowded_in place at (Ok after) h = tt
+  crowded_in place at (Err same) h = λ k there. subst (AreCrowded same p) (w.proper.distinct place k p.leave at there) h.2
+
+  pub cause_at : (place : ℕ) → slice_get t.basic place ≡ Some p.leave → (r : Result WholeTableau WholeTableau) → IsPivoted t p place r → IfErr r (λ same. (k : ℕ) → slice_get t.basic k ≡ Some p.leave → AreCrowded same p k)
+  cause_at place at r h = crowded_in place at r h.1
 
 pub bound_at : (t : WholeTableau) (p : Pivot) (place : ℕ) (r : Result WholeTableau WholeTableau) → IsPivoted t p place r → IfOk r (λ after. after.bound ≡ t.bound)
 bound_at t p place (Ok after) h = h.0.1
 bound_at t p place (Err same) h = tt
 
 pub same_at : (t : WholeTableau) (p : Pivot) (place : ℕ) (r : Result WholeTableau WholeTableau) → IsPivoted t p place r → IfErr r (λ same. (dictionary same ≡ dictionary t) × (same.bound ≡ t.bound))
-same_at t p place r h = h.1
+same_at t p place r h = without r h.1
+  where
+    without : (r : Result WholeTableau WholeTableau) → IfErr r (λ same. (dictionary same ≡ dictionary t) × (same.bound ≡ t.bound) × AreCrowded same p place) → IfErr r (λ same. (dictionary same ≡ dictionary t) × (same.bound ≡ t.bound))
+    without (Ok after) h = tt
+    without (Err same) h = (h.0, h.1)
+
+pub pivot_crowded : {E : Type 0} (basic : List ℕ) (p : Pivot) (r : Result (Result WholeTableau WholeTableau) E) → IfOk r (λ s. IfErr s (λ same. (k : ℕ) → slice_get basic k ≡ Some p.leave → AreCrowded same p k)) → IfOk r (λ s. IfErr s (λ same. (k : ℕ) → slice_get basic k ≡ Some p.leave → IsPivotCrowded same p k))
+pivot_crowded basic p (Ok (Ok after)) h = tt
+pivot_crowded basic p (Ok (Err same)) h = λ k at. inr (h k at)
+pivot_crowded basic p (Err e) h = tt

@@ -1,14 +1,14 @@
--- The one bound by which every step fits.
-use Rattle.std.proofs.Common.{◌≡◌, ◌≢◌, ℕ, zero, suc, ◌+◌, ◌*◌, ◌/◌, ◌<◌, ◌≤◌, inl, inr, true, ℤ, pos, ◌+ℤ◌, ◌*ℤ◌, neg_ℤ, nat_abs, refl, sym, ap, ap₂, ◌∙◌, subst, subst₂, arith, mul_comm, mul_assoc, eq-zero-or-pos}
+-- When the steps on whole numbers fit: those of a ratio test by one bound, those of an exchange by one for each two rows.
+use Rattle.std.proofs.Common.{◌≡◌, ◌≢◌, ℕ, zero, suc, ◌+◌, ◌*◌, ◌/◌, ◌<◌, ◌≤◌, inl, inr, true, ℤ, pos, negsuc, ◌+ℤ◌, ◌*ℤ◌, neg_ℤ, nat_abs, refl, sym, ap, ap₂, ◌∙◌, subst, subst₂, arith, mul_comm, mul_assoc, mul-pos, eq-zero-or-pos}
 use Rattle.std.specs.Int.{◌∣◌}
 use Rattle.std.proofs.lemmas.Int.{ints}
 use Rattle.std.proofs.lemmas.Bool.Decides.{nat_tests}
-use Rattle.std.proofs.Math.Nat.{dvd-mul_left, div-mul_cancel, eq_of_mul-eq-mul_right, mul-le-mul, mul-le-mul_left, div-le_self}
+use Rattle.std.proofs.Math.Nat.{dvd-mul_left, div-mul_cancel, eq_of_mul-eq-mul_right, mul-le-mul_left, div-le_self}
 use Rattle.gq_number.specs.Gcd.{gcd}
 use Rattle.gq_number.specs.Reduced.{nat_abs-neg}
 use Rattle.gq_number.specs.Number.{Number, whole, ratio, ◌*ℚ◌, ◌/ℚ◌, neg_ℚ}
 use Rattle.gq_number.proofs.Gcd.{gcd_comm, gcd_pos, gcd-times_left, gcd-times_right, dvd_of_coprime, coprime-rest}
-use Rattle.gq_number.proofs.Whole.{*ℤ_assoc, *ℤ-+ℤ, cancel_ℤ, nat_abs-*ℤ}
+use Rattle.gq_number.proofs.Whole.{*ℤ_assoc, *ℤ_swap, *ℤ-+ℤ, cancel_ℤ, nat_abs-*ℤ}
 use Rattle.gq_number.proofs.Means.{Means, ratio_means}
 use Rattle.gq_number.proofs.Field.{means_same, means-*ℚ, means-neg_ℚ}
 use Rattle.gq_number.proofs.Quotients.{zero-/ℚ}
@@ -16,11 +16,12 @@ use Rattle.gq_number.proofs.Naming.{ratio_is}
 use Rattle.gq_number.proofs.Signs.{≢-zero_above}
 use Rattle.gq_field.specs.Fits.{fits, sum_fits}
 use Rattle.gq_field.proofs.Sums.{none_large}
-use Rattle.lp_core.specs.Dictionary.{Dictionary, entry_at}
-use Rattle.lp_core.specs.Steps.{AllFit, product_fits, quotient_fits, difference_fits, ratio_steps, exchange_steps}
+use Rattle.lp_core.specs.Dictionary.{Dictionary}
+use Rattle.lp_core.specs.Steps.{AllFit, product_fits, quotient_fits, difference_fits, ratio_steps}
 use Rattle.lp_whole.specs.Bounds.{IsBounded}
+use Rattle.lp_whole.specs.Pairs.{HasPairRoom}
 use Rattle.lp_whole.proofs.Lessening.{with_sign, with_sign_within, quotient_means}
-use Rattle.lp_whole.proofs.Steps.{ratios_fit, exchange_fits}
+use Rattle.lp_whole.proofs.Steps.{ratios_fit}
 
 -- ---- a fraction that a number means is a multiple of its reduced one
 
@@ -129,34 +130,12 @@ sum_fits_by_means limit x y p r m mx my low top other total =
     within : (a c e n limit : ℕ) → c ≤ e → a * e ≡ n → n ≤ limit → a * c ≤ limit
     within a c e n limit less is most = let grown : a * c ≤ a * e = mul-le-mul_left a less in omega arith
 
--- ---- the steps of a dictionary
-
-product_within : (a b bound : ℕ) → a ≤ bound → b ≤ bound → a * b ≤ bound * bound
-product_within a b bound h k = mul-le-mul h k
-
-bound_within : (bound limit : ℕ) → 0 < bound → 2 * (bound * bound) ≤ limit → (bound ≤ limit) × (bound * bound ≤ limit)
-bound_within zero limit above h = absurd (omega arith)
-bound_within (suc b) limit above h = (omega arith, omega arith)
-
-moved : (n : ℤ) (d k : ℕ) → n *ℤ pos (d * k) ≡ n *ℤ pos k *ℤ pos d
-moved n d k = ap (λ t. n *ℤ pos t) (mul_comm d k) ∙ sym (*ℤ_assoc n (pos k) (pos d))
+-- ---- a ratio test
 
 ratio_none : (d : ℕ) → ratio (pos 0) d ≡ whole (pos 0)
 ratio_none d = ratio_is (pos 0) d ∙ zero-/ℚ (whole (pos d))
 
-sum_within : (a b : ℤ) → nat_abs (a +ℤ b) ≤ nat_abs a + nat_abs b
-sum_within a b = omega (arith, ints)
-
-module _ (limit bound : ℕ) (d : Dictionary) (room : 2 * (bound * bound) ≤ limit) (h : IsBounded d bound) where
-  some_bound : (i : ℕ) → 0 < bound
-  some_bound i = let a = h.positive i in let b = h.denominator_within i in omega arith
-
-  bounds : (i : ℕ) → (bound ≤ limit) × (bound * bound ≤ limit)
-  bounds i = bound_within bound limit (some_bound i) room
-
-  number_means : (i c : ℕ) → Means (d.numbers i c) (h.number i c) (h.denominator i)
-  number_means i c = subst (λ x. Means x (h.number i c) (h.denominator i)) (sym (h.numbers i c)) (ratio_means (h.number i c) (h.denominator i) (h.positive i))
-
+module _ (limit bound : ℕ) (d : Dictionary) (room : bound ≤ limit) (h : IsBounded d bound) where
   -- a number of a row over another that is not 0
   module _ (i q : ℕ) (some : d.numbers i q ≢ whole (pos 0)) where
     some_number : h.number i q ≢ pos 0
@@ -166,63 +145,111 @@ module _ (limit bound : ℕ) (d : Dictionary) (room : 2 * (bound * bound) ≤ li
     over_means c =
         subst₂ (λ x y. Means (x /ℚ y) (with_sign (h.number i q) (h.number i c)) (nat_abs (h.number i q))) (sym (h.numbers i c)) (sym (h.numbers i q)) (quotient_means (h.number i c) (h.number i q) (h.denominator i) (h.positive i) some_number)
 
-    over_within : (c : ℕ) → nat_abs (with_sign (h.number i q) (h.number i c)) ≤ bound
-    over_within c = subst (λ n. n ≤ bound) (sym (with_sign_within (h.number i q) (h.number i c))) (h.number_within i c)
-
     pub over_fits : (c : ℕ) → quotient_fits limit (d.numbers i c) (d.numbers i q) ≡ true
     over_fits c =
-        let most = (bounds i).0 in
-        let top = over_within c in
+        let high = h.number_within i c in
+        let top : nat_abs (with_sign (h.number i q) (h.number i c)) ≤ bound = subst (λ n. n ≤ bound) (sym (with_sign_within (h.number i q) (h.number i c))) high in
         let low = h.number_within i q in
         fits_by_means limit (over_means c) (omega arith) (omega arith)
-
-    module _ (j c : ℕ) where
-      abbrev low : ℕ
-      low = h.denominator j * nat_abs (h.number i q)
-
-      abbrev top : ℤ
-      top = h.number j q *ℤ with_sign (h.number i q) (h.number i c)
-
-      product_means : Means (d.numbers j q *ℚ (d.numbers i c /ℚ d.numbers i q)) top low
-      product_means = means-*ℚ (number_means j q) (over_means c)
-
-      low_within : low ≤ bound * bound
-      low_within = product_within (h.denominator j) (nat_abs (h.number i q)) bound (h.denominator_within j) (h.number_within i q)
-
-      top_within : nat_abs top ≤ bound * bound
-      top_within = subst (λ n. n ≤ bound * bound) (sym (nat_abs-*ℤ (h.number j q) (with_sign (h.number i q) (h.number i c)))) (product_within (nat_abs (h.number j q)) (nat_abs (with_sign (h.number i q) (h.number i c))) bound (h.number_within j q) (over_within c))
-
-      pub times_fits : product_fits limit (d.numbers j q) (d.numbers i c /ℚ d.numbers i q) ≡ true
-      times_fits =
-          let most = (bounds i).1 in
-          let first = top_within in
-          let second = low_within in
-          fits_by_means limit product_means (omega arith) (omega arith)
-
-      abbrev front : ℤ
-      front = h.number j c *ℤ pos (nat_abs (h.number i q))
-
-      front_means : Means (d.numbers j c) front low
-      front_means =
-          means_same (number_means j c) (product_means.positive) (moved (h.number j c) (h.denominator j) (nat_abs (h.number i q)))
-
-      front_within : nat_abs front ≤ bound * bound
-      front_within = subst (λ n. n ≤ bound * bound) (sym (nat_abs-*ℤ (h.number j c) (pos (nat_abs (h.number i q))))) (product_within (nat_abs (h.number j c)) (nat_abs (h.number i q)) bound (h.number_within j c) (h.number_within i q))
-
-      pub less_fits : difference_fits limit (d.numbers j c) (d.numbers j q *ℚ (d.numbers i c /ℚ d.numbers i q)) ≡ true
-      less_fits =
-          let most = (bounds i).1 in
-          let first = front_within in
-          let second : nat_abs (neg_ℤ top) ≤ bound * bound = subst (λ n. n ≤ bound * bound) (sym (nat_abs-neg top)) top_within in
-          let third = low_within in
-          let total = sum_within front (neg_ℤ top) in
-          sum_fits_by_means limit (d.numbers j c) (neg_ℚ (d.numbers j q *ℚ (d.numbers i c /ℚ d.numbers i q))) front (neg_ℤ top) low front_means (means-neg_ℚ product_means) (omega arith) (omega arith) (omega arith) (omega arith)
 
   -- every step of a ratio test fits
   pub every_ratio_fits : (pivot q : ℕ) → AllFit (ratio_steps limit pivot d q)
   every_ratio_fits pivot q = ratios_fit limit pivot d q (λ i within above. over_fits i (q + 1) (≢-zero_above (d.numbers i (q + 1)) above) 0)
 
-  -- and every step of an exchange at a number that is not 0
-  pub every_exchange_fits : (pivot q k : ℕ) → entry_at d k q ≢ whole (pos 0) → AllFit (exchange_steps limit pivot d q k)
-  every_exchange_fits pivot q k some =
-      exchange_fits limit pivot d q k (λ c. over_fits k (q + 1) some c) (λ i other c. (times_fits k (q + 1) some i c, less_fits k (q + 1) some i c))
+-- ---- two rows in an exchange
+
+-- a factor above and below
+shorter_means : (x : Number) (n : ℤ) (d g : ℕ) → 0 < d → 0 < g → Means x (n *ℤ pos g) (d * g) → Means x n d
+shorter_means x n d g positive some m =
+    record {
+      positive = positive;
+      cross = cancel_ℤ (x.numerator *ℤ pos d) (n *ℤ pos x.denominator) g some
+          (*ℤ_assoc x.numerator (pos d) (pos g) ∙ m.cross ∙ *ℤ_swap n (pos g) (pos x.denominator));
+    }
+
+sum_within : (a b : ℤ) → nat_abs (a +ℤ b) ≤ nat_abs a + nat_abs b
+sum_within a b = omega (arith, ints)
+
+moved : (n : ℤ) (d k : ℕ) → n *ℤ pos (d * k) ≡ n *ℤ pos k *ℤ pos d
+moved n d k = ap (λ t. n *ℤ pos t) (mul_comm d k) ∙ sym (*ℤ_assoc n (pos k) (pos d))
+
+module _ (limit : ℕ) (ni nk f p : ℤ) (di dk mi mk : ℕ) (above_i : 0 < di) (above_k : 0 < dk) (some : p ≢ pos 0) (top_i : nat_abs ni ≤ mi) (low_i : di ≤ mi) (top_k : nat_abs nk ≤ mk) (h : HasPairRoom f p mi mk limit) where
+  abbrev a : ℤ
+  a = h.of_row
+
+  abbrev b : ℤ
+  b = h.of_leaving
+
+  abbrev g : ℕ
+  g = h.shared
+
+  -- the number of the pivot row with the sign of p
+  abbrev turned : ℤ
+  turned = with_sign p nk
+
+  abbrev low : ℕ
+  low = di * nat_abs a
+
+  abbrev top : ℤ
+  top = b *ℤ turned
+
+  abbrev front : ℤ
+  front = ni *ℤ pos (nat_abs a)
+
+  p_is : nat_abs p ≡ nat_abs a * g
+  p_is = ap nat_abs (sym h.first) ∙ nat_abs-*ℤ a (pos g)
+
+  some_a : 0 < nat_abs a
+  some_a = some_factor g (nat_abs a) (nat_abs p) some_p (p_is ∙ mul_comm (nat_abs a) g)
+    where
+      some_p : 0 < nat_abs p
+      some_p = above_zero p some
+        where
+          above_zero : (z : ℤ) → z ≢ pos 0 → 0 < nat_abs z
+          above_zero (pos zero) other = absurd (other refl)
+          above_zero (pos (suc n)) other = omega arith
+          above_zero (negsuc n) other = omega arith
+
+  product_means : Means (ratio f di *ℚ (ratio nk dk /ℚ ratio p dk)) top low
+  product_means =
+      let whole_means = means-*ℚ (ratio_means f di above_i) (quotient_means nk p dk above_k some) in
+      let top_is : f *ℤ turned ≡ top *ℤ pos g = ap (λ z. z *ℤ turned) (sym h.second) ∙ *ℤ_swap b (pos g) turned in
+      let low_is : di * nat_abs p ≡ low * g = ap (λ n. di * n) p_is ∙ sym (mul_assoc di (nat_abs a) g) in
+      shorter_means (ratio f di *ℚ (ratio nk dk /ℚ ratio p dk)) top low g (mul-pos above_i some_a) h.positive
+      (subst₂ (λ n d. Means (ratio f di *ℚ (ratio nk dk /ℚ ratio p dk)) n d) top_is low_is whole_means)
+
+  low_within : low ≤ nat_abs a * mi
+  low_within = let grown : nat_abs a * di ≤ nat_abs a * mi = mul-le-mul_left (nat_abs a) low_i in let same = mul_comm di (nat_abs a) in omega arith
+
+  top_within : nat_abs top ≤ nat_abs b * mk
+  top_within =
+      let is : nat_abs top ≡ nat_abs b * nat_abs nk = nat_abs-*ℤ b turned ∙ ap (λ n. nat_abs b * n) (with_sign_within p nk) in
+      let grown : nat_abs b * nat_abs nk ≤ nat_abs b * mk = mul-le-mul_left (nat_abs b) top_k in
+      omega arith
+
+  front_within : nat_abs front ≤ nat_abs a * mi
+  front_within =
+      let is : nat_abs front ≡ nat_abs ni * nat_abs a = nat_abs-*ℤ ni (pos (nat_abs a)) in
+      let grown : nat_abs a * nat_abs ni ≤ nat_abs a * mi = mul-le-mul_left (nat_abs a) top_i in
+      let same = mul_comm (nat_abs ni) (nat_abs a) in
+      omega arith
+
+  front_means : Means (ratio ni di) front low
+  front_means = means_same (ratio_means ni di above_i) (mul-pos above_i some_a) (moved ni di (nat_abs a))
+
+  pub pair_product : product_fits limit (ratio f di) (ratio nk dk /ℚ ratio p dk) ≡ true
+  pair_product =
+      let room = h.room in
+      let first = top_within in
+      let second = low_within in
+      fits_by_means limit product_means (omega arith) (omega arith)
+
+  pub pair_difference : difference_fits limit (ratio ni di) (ratio f di *ℚ (ratio nk dk /ℚ ratio p dk)) ≡ true
+  pair_difference =
+      let room = h.room in
+      let one = top_within in
+      let two = low_within in
+      let three = front_within in
+      let other : nat_abs (neg_ℤ top) ≡ nat_abs top = nat_abs-neg top in
+      let total = sum_within front (neg_ℤ top) in
+      sum_fits_by_means limit (ratio ni di) (neg_ℚ (ratio f di *ℚ (ratio nk dk /ℚ ratio p dk))) front (neg_ℤ top) low front_means (means-neg_ℚ product_means) (omega arith) (omega arith) (omega arith) (omega arith)

@@ -12,7 +12,7 @@ use Rattle.lp_exact.specs.Pivots.{IsProper}
 use Rattle.lp_exact.specs.Tableau.{IsPlace}
 use Rattle.lp_exact.proofs.Proper.{enters_new}
 use Rattle.lp_whole.specs.declared.line.Line.{Line}
-use Rattle.lp_whole.specs.Lines.{whole_at}
+use Rattle.lp_numbers.specs.Lines.{whole_at}
 use Rattle.lp_whole.specs.Form.{wholes, line_number, number_or_none, lines_number, numbers_above, IsLine, AreLines, AreSameLines, IsRaisedAt, IsRaisedLine}
 use Rattle.lp_whole.specs.Room.{HasRoomFor, IsPutOff, HasRoom}
 use Rattle.lp_whole.specs.Turning.{turned_at, negated}

@@ -3,10 +3,8 @@ pub mod Lessening
 pub mod Steps
 pub mod Bounds
 pub mod Above
-pub mod Lines
 pub mod Updating
 pub mod Plans
-pub mod Wide
 pub mod Reading
 pub mod Rooms
 pub mod Choices
@@ -17,4 +15,6 @@ pub mod Putting
 pub mod Pivoting
 pub mod Crowding
 pub mod Answering
+pub mod Pairing
+pub mod Results
 pub mod Filling

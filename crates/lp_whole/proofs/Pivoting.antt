@@ -15,7 +15,7 @@ use Rattle.lp_exact.proofs.Proper.{proper_after, place_within, pivot_some, enter
 use Rattle.lp_exact.proofs.Kept.{get_index, contains_get}
 use Rattle.lp_whole.specs.declared.line.Line.{Line}
 use Rattle.lp_whole.specs.declared.line.Factors.{Factors}
-use Rattle.lp_whole.specs.Lines.{whole_at}
+use Rattle.lp_numbers.specs.Lines.{whole_at}
 use Rattle.lp_whole.specs.Form.{wholes, line_number, number_or_none, lines_number, numbers_above, IsLine, AreLines, AreBounded, IsWithinFactors, AreForgotten, IsRaisedAt, IsRaisedLine, AreSwapped}
 use Rattle.lp_whole.specs.Room.{IsPutOff, HasRoom, AreWhole, KeepsRoom, zero_after, AreTurnedInRoom}
 use Rattle.lp_whole.specs.Turning.{turned_at, swapped, negated, IsAbove}

@@ -5,7 +5,7 @@ use Rattle.std.specs.Prelude.{slice_get, slice_set, slice_index_or}
 use Rattle.lp_whole.specs.declared.line.Line.{Line}
 use Rattle.lp_whole.specs.declared.line.Factors.{Factors}
 use Rattle.lp_whole.specs.Form.{IsPlanned, ArePlanned, IsLine, wholes, line_number, number_or_none, lines_number, IsWithinFactors, IsSameLine, AreSameLines, IsLessenedLine, IsDividedLine, AreLines, AreExchanged, AreTurned, IsPlan, own_factors}
-use Rattle.lp_whole.specs.Lines.{whole_at}
+use Rattle.lp_numbers.specs.Lines.{whole_at}
 use Rattle.gq_number.specs.Number.{◌-ℚ◌, ◌*ℚ◌, ◌/ℚ◌}
 use Rattle.lp_whole.specs.Turning.{turned_at}
 use Rattle.lp_whole.proofs.Turning.{turned_row, turned_other}

@@ -1,5 +1,5 @@
 -- Lines in which variable 0 is put off, one after another.
-use Rattle.std.proofs.Common.{◌≡◌, ◌≢◌, ℕ, zero, suc, ◌+◌, ◌<◌, ◌≤◌, ◌^◌, cond, inl, inr, ℤ, pos, negsuc, ◌-ℤ◌, neg_ℤ, ◌<ℤ◌, ◌≤ℤ◌, nat_abs, List, length, set, length-set, get_or-set_same, get_or-set_other, Some, refl, sym, ap, ap₂, ◌∙◌, subst, subst₂, arith}
+use Rattle.std.proofs.Common.{◌≡◌, ◌≢◌, ℕ, zero, suc, ◌+◌, ◌<◌, ◌≤◌, ◌^◌, cond, inl, inr, ℤ, pos, negsuc, neg_ℤ, ◌<ℤ◌, ◌≤ℤ◌, nat_abs, List, length, set, length-set, get_or-set_same, get_or-set_other, Some, refl, sym, ap, ap₂, ◌∙◌, subst, subst₂, arith}
 use Rattle.std.specs.Prelude.{slice_get, slice_set}
 use Rattle.std.proofs.lemmas.Int.{ints}
 use Rattle.std.proofs.lemmas.Bool.{cases_eq, eq-eqb, ne_eqb}
@@ -7,24 +7,10 @@ use Rattle.gq_number.specs.Number.{whole, ratio, neg_ℚ, ◌/ℚ◌}
 use Rattle.gq_number.proofs.Naming.{ratio_is, neg-whole}
 use Rattle.gq_number.proofs.Quotients.{neg-/ℚ}
 use Rattle.lp_whole.specs.declared.line.Line.{Line}
-use Rattle.lp_whole.specs.Lines.{whole_at, AreNegatedTo}
+use Rattle.lp_numbers.specs.Lines.{whole_at}
 use Rattle.lp_whole.specs.Form.{wholes, IsLine, line_number, IsForgottenLine, IsRaisedLine, AreForgotten, IsRaisedAt, AreSwapped}
 use Rattle.lp_whole.proofs.Plans.{get_within, set_same, set_other, same_some}
 use Rattle.lp_whole.proofs.Updating.{ratio_none}
-
-pub negative : (n : ℤ) → pos 0 -ℤ n ≡ neg_ℤ n
-negative n = omega (arith, ints)
-
-pub negated_more : (before after : List ℤ) (n : ℕ) (v : ℤ) → AreNegatedTo before after n → n < length after → v ≡ neg_ℤ (whole_at before n) → AreNegatedTo before (set after n v) (n + 1)
-negated_more before after n v h within is =
-    record {
-      sized = length-set after n v ∙ h.sized;
-      done = λ c below. elim (cases_eq c n) [
-        | inl same ↦ subst (λ k. whole_at (set after n v) k ≡ neg_ℤ (whole_at before k)) (sym same) (get_or-set_same after n v (pos 0) within ∙ is)
-        | inr other ↦ get_or-set_other after n c v (pos 0) other ∙ h.done c (omega arith)
-      ];
-      left = λ c from. get_or-set_other after n c v (pos 0) (λ same. absurd (omega arith)) ∙ h.left c (omega arith);
-    }
 
 pub ratio_negated : (n : ℤ) (d : ℕ) → ratio (neg_ℤ n) d ≡ neg_ℚ (ratio n d)
 ratio_negated n d =
@@ -44,7 +30,7 @@ raised_negated before after is sized numbers denominator most below =
         positive = subst (λ d. 0 < d) (sym denominator) is.positive;
         numbers_within = λ c. subst₂ (λ a b. a ≤ b) (sym (ap nat_abs (numbers c) ∙ magnitude_negated (whole_at (wholes before) c))) (sym most) (is.numbers_within c);
         denominator_within = subst₂ (λ a b. a ≤ b) (sym denominator) (sym most) is.denominator_within;
-        small = subst (λ m. m < 2 ^ 63) (sym most) is.small;
+        small = subst (λ m. m < 2 ^ 127) (sym most) is.small;
       };
       sized = sized;
       most = most;
@@ -66,7 +52,7 @@ forgotten_line before after is within items denominator most =
           | inr apart ↦ subst₂ (λ z m. nat_abs z ≤ m) (sym (other c apart)) (sym most) (is.numbers_within c)
         ];
         denominator_within = subst₂ (λ a b. a ≤ b) (sym denominator) (sym most) is.denominator_within;
-        small = subst (λ m. m < 2 ^ 63) (sym most) is.small;
+        small = subst (λ m. m < 2 ^ 127) (sym most) is.small;
       };
       sized = ap length items ∙ length-set (wholes before) 1 (pos 0);
       most = omega arith;

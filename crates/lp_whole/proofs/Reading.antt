@@ -1,5 +1,5 @@
 -- What lines stand for where variable 0 is put off, number by number.
-use Rattle.std.proofs.Common.{◌≡◌, ◌≢◌, ℕ, ◌+◌, ◌*◌, ◌<◌, ◌≤◌, ◌^◌, ℤ, pos, ◌-ℤ◌, ◌*ℤ◌, ◌<ℤ◌, nat_abs, inl, inr, cond, List, length, Some, refl, sym, ap, ap₂, ◌∙◌, subst, subst₂, arith, mul_comm, mul-pos, mul-one}
+use Rattle.std.proofs.Common.{◌≡◌, ◌≢◌, ℕ, ◌+◌, ◌*◌, ◌<◌, ◌≤◌, ◌^◌, ℤ, pos, ◌-ℤ◌, ◌*ℤ◌, ◌<ℤ◌, nat_abs, inl, inr, cond, List, length, Some, None, refl, sym, ap, ap₂, ◌∙◌, subst, subst₂, arith, mul_comm, mul-pos, mul-one}
 use Rattle.std.specs.Prelude.{slice_get, slice_index_or, Option}
 use Rattle.std.proofs.lemmas.Int.{ints}
 use Rattle.std.proofs.lemmas.Bool.{cases_eq, eq-eqb, ne_eqb}
@@ -10,12 +10,12 @@ use Rattle.gq_number.proofs.Naming.{times_one, ratio-one}
 use Rattle.gq_number.proofs.Means.{ratio_means}
 use Rattle.gq_number.proofs.Order
 use Rattle.lp_whole.specs.declared.line.Line.{Line}
-use Rattle.lp_whole.specs.Lines.{whole_at}
+use Rattle.lp_numbers.specs.Lines.{whole_at}
 use Rattle.lp_whole.specs.Form.{wholes, line_number, number_or_none, lines_number, numbers_above, IsLine, AreBounded}
 use Rattle.lp_whole.specs.Room.{HasRoom, AreWhole, denominator_or_one, zero_or_one, row_denominator}
 use Rattle.lp_whole.proofs.Turning.{turned_row, turned_other}
 use Rattle.lp_whole.proofs.Lessening.{divided_line, lessened}
-use Rattle.lp_whole.proofs.Lines.{left_within}
+use Rattle.lp_numbers.proofs.Lines.{left_within}
 use Rattle.lp_whole.proofs.Updating.{zero_times}
 use Rattle.lp_whole.proofs.Plans.{same_some, get_within, index_get}
 
@@ -164,7 +164,7 @@ pub record IsReady (l p : Line) (column : ℕ) : Type 0 where
   pub within : column < length (wholes l)
   pub sized : length (wholes p) ≡ length (wholes l)
   pub zero : 1 < length (wholes l)
-  pub room : l.most * nat_abs (whole_at (wholes p) 1) + nat_abs (whole_at (wholes l) 1) * p.most < 2 ^ 63
+  pub room : l.most * nat_abs (whole_at (wholes p) 1) + nat_abs (whole_at (wholes l) 1) * p.most < 2 ^ 127
 
 module _ (lines : List Line) (deferred : Option ℕ) (k width bound : ℕ) (is : deferred ≡ Some k) (wd : AreWhole lines deferred width bound) where
   abbrev wk : AreWhole lines (Some k) width bound
@@ -220,3 +220,18 @@ module _ (lines : List Line) (deferred : Option ℕ) (k width bound : ℕ) (is :
         room = let small = wk.small in
             let room = subst (λ (t : Line). l.most * nat_abs (whole_at (wholes t) 1) + nat_abs (whole_at (wholes l) 1) * t.most ≤ bound) p_is (wk.room.room.others place l other there) in omega arith;
       }
+
+pub read_at_plain : (lines : List Line) (deferred : Option ℕ) (width bound place c : ℕ) (l : Line) (n : ℤ) (d : ℕ) → deferred ≡ None → AreWhole lines deferred width bound → slice_get lines place ≡ Some l → n ≡ whole_at (wholes l) c → d ≡ l.denominator → IsRead lines deferred place c n d
+read_at_plain lines deferred width bound place c l n d is w there n_is d_is =
+    let of_line = (w.are_lines place l there).0 in
+    subst (λ o. IsRead lines o place c n d) (sym is)
+    (record {
+      positive = subst (λ t. 0 < t) (sym d_is) of_line.positive;
+      number = ap₂ ratio n_is d_is ∙ sym (at_line lines place l there c);
+      shared = d_is ∙ sym (ap denominator_or_one there);
+      within = λ b h.
+          let most = h place l there in
+          let top = of_line.numbers_within c in
+          let low = of_line.denominator_within in
+          (subst (λ z. nat_abs z ≤ b) (sym n_is) (omega arith), subst (λ t. t ≤ b) (sym d_is) (omega arith));
+    })

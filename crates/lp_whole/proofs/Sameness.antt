@@ -6,7 +6,7 @@ use Rattle.gq_number.specs.Number.{whole}
 use Rattle.gq_number.specs.Order.{◌<ℚ◌}
 use Rattle.lp_whole.specs.declared.line.Line.{Line}
 use Rattle.lp_whole.specs.declared.line.Factors.{Factors}
-use Rattle.lp_whole.specs.Lines.{whole_at}
+use Rattle.lp_numbers.specs.Lines.{whole_at}
 use Rattle.lp_whole.specs.Form.{wholes, AreLines, AreBounded, AreSameLines, IsSameLine, ArePlanned, IsPlan, lines_number, number_or_none}
 use Rattle.lp_whole.proofs.Plans.{get_within, some_at, same_some, get_past}
 use Rattle.lp_whole.proofs.Updating.{same_itself}
@@ -48,7 +48,7 @@ line_above width lines i c l are there above =
     number_above (whole_at (wholes l) c) l.denominator (are i l there).0.positive (subst (λ x. whole (pos 0) <ℚ x) (at_line lines i l there c) above)
 
 -- a plan from the factors of all lines
-pub plan_of : (bound column place width : ℕ) (lines : List Line) (plans : List Factors) (x : Line) → AreLines width lines → slice_get lines place ≡ Some x → bound < 2 ^ 63 → whole (pos 0) <ℚ lines_number lines place column → ArePlanned bound column place lines x plans (length lines) → (p : Line) → slice_get lines place ≡ Some p → IsPlan bound column place lines p plans
+pub plan_of : (bound column place width : ℕ) (lines : List Line) (plans : List Factors) (x : Line) → AreLines width lines → slice_get lines place ≡ Some x → bound < 2 ^ 127 → whole (pos 0) <ℚ lines_number lines place column → ArePlanned bound column place lines x plans (length lines) → (p : Line) → slice_get lines place ≡ Some p → IsPlan bound column place lines p plans
 plan_of bound column place width lines plans x are there small above planned p at =
     subst (λ t. IsPlan bound column place lines t plans) (same_some x p (sym there ∙ at))
     (record { small = small; above = line_above width lines place column x are there above; planned = planned })

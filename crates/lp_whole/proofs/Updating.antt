@@ -1,6 +1,6 @@
 -- The factors of an exchange, and what a line becomes in it.
-use Rattle.std.proofs.Common.{◌≡◌, ℕ, zero, suc, ◌*◌, ◌/◌, ◌<◌, ◌≤◌, ◌^◌, inl, inr, ℤ, pos, negsuc, ◌-ℤ◌, ◌*ℤ◌, neg_ℤ, ◌<ℤ◌, nat_abs, int_div, length, FitsSigned, to_z, of_z, w64, sym, refl, ap, ap₂, ◌∙◌, subst, arith, mul-pos, mul_comm, mul-one, ◌+◌}
-use Rattle.std.specs.Int.{◌∣◌}
+use Rattle.std.proofs.Common.{◌≡◌, ℕ, zero, suc, ◌*◌, ◌/◌, ◌<◌, ◌≤◌, ◌^◌, inl, inr, ℤ, pos, negsuc, ◌-ℤ◌, ◌*ℤ◌, neg_ℤ, ◌<ℤ◌, nat_abs, int_div, length, FitsSigned, to_z, of_z, sym, refl, ap, ap₂, ◌∙◌, subst, arith, mul-pos, mul_comm, mul-one, ◌+◌}
+use Rattle.std.specs.Int.{◌∣◌, w128}
 use Rattle.std.proofs.lemmas.Int.{ints, to_z-of_z, to_z_pos, quot_fits}
 use Rattle.std.proofs.lemmas.Nat.Gcd.{le_of_dvd}
 use Rattle.std.proofs.lemmas.Bool.{cases_lt}
@@ -9,14 +9,15 @@ use Rattle.gq_number.specs.Gcd.{gcd}
 use Rattle.gq_number.specs.Number.{Number, whole, ratio, ◌-ℚ◌, ◌*ℚ◌, ◌/ℚ◌}
 use Rattle.gq_number.proofs.Gcd.{gcd_pos, gcd-dvd_left, gcd-dvd_right, gcd_comm, gcd-zero}
 use Rattle.gq_number.proofs.Whole.{nat_abs-*ℤ, int_div-*ℤ}
-use Rattle.gq_number.proofs.Naming.{ratio-times, ratio_is}
+use Rattle.gq_number.proofs.Naming.{ratio-times, ratio_is, times_one}
 use Rattle.gq_number.proofs.Quotients.{zero-/ℚ}
 use Rattle.gq_number.proofs.Ring.{ring_ℚ}
 use Rattle.lp_whole.specs.declared.line.Line.{Line}
 use Rattle.lp_whole.specs.declared.line.Factors.{Factors}
-use Rattle.lp_whole.specs.Lines.{whole_at, AreWithin}
+use Rattle.lp_numbers.specs.Lines.{whole_at, AreWithin}
 use Rattle.lp_whole.specs.Form.{wholes, line_number, IsLine, AreFactors, IsPlanned, IsWithinFactors, IsLessenedLine, IsSameLine, IsDividedLine, own_factors}
-use Rattle.lp_whole.proofs.Lines.{whole_past}
+use Rattle.lp_numbers.proofs.Lines.{whole_past}
+use Rattle.lp_numbers.proofs.Places.{one_time, one_times, times_none, less_none}
 use Rattle.lp_whole.proofs.Lessening.{lessened, divided_line}
 
 -- ---- the factors
@@ -24,14 +25,14 @@ use Rattle.lp_whole.proofs.Lessening.{lessened, divided_line}
 -- a divisor that two numbers share, the second of them above 0
 pub record IsShared (f p : ℤ) (g : ℕ) : Type 0 where
   pub positive : 0 < g
-  pub small : g < 2 ^ 63
+  pub small : g < 2 ^ 127
   pub first : g ∣ nat_abs f
   pub second : g ∣ nat_abs p
 
-pub shared_is : (f p : ℤ) (g : ℕ) → FitsSigned w64 p → pos 0 <ℤ p → g ≡ gcd (nat_abs f) (nat_abs p) → IsShared f p g
+pub shared_is : (f p : ℤ) (g : ℕ) → FitsSigned w128 p → pos 0 <ℤ p → g ≡ gcd (nat_abs f) (nat_abs p) → IsShared f p g
 shared_is f p g fits above is =
     let some : 0 < nat_abs p = omega (arith, ints) in
-    let small : nat_abs p < 2 ^ 63 = omega (arith, ints, fits.sfits) in
+    let small : nat_abs p < 2 ^ 127 = omega (arith, ints, fits.sfits) in
     let inside : g ∣ nat_abs p = subst (λ d. d ∣ nat_abs p) (sym is) (gcd-dvd_right (nat_abs f) (nat_abs p)) in
     let most : g ≤ nat_abs p = le_of_dvd some inside in
     record {
@@ -43,18 +44,18 @@ shared_is f p g fits above is =
 
 -- what the code's quotient by a divisor is
 pub record IsDividedBy (n : ℤ) (g : ℕ) : Type 0 where
-  pub fits : FitsSigned w64 (int_div (to_z w64 (of_z w64 n)) (to_z w64 g))
-  pub value : to_z w64 (of_z w64 (int_div (to_z w64 (of_z w64 n)) (to_z w64 g))) *ℤ pos g ≡ n
+  pub fits : FitsSigned w128 (int_div (to_z w128 (of_z w128 n)) (to_z w128 g))
+  pub value : to_z w128 (of_z w128 (int_div (to_z w128 (of_z w128 n)) (to_z w128 g))) *ℤ pos g ≡ n
 
-pub divided_by : (n : ℤ) (g : ℕ) → FitsSigned w64 n → 0 < g → g < 2 ^ 63 → g ∣ nat_abs n → IsDividedBy n g
+pub divided_by : (n : ℤ) (g : ℕ) → FitsSigned w128 n → 0 < g → g < 2 ^ 127 → g ∣ nat_abs n → IsDividedBy n g
 divided_by n g fits positive small divides =
-    let g_is : to_z w64 g ≡ pos g = to_z_pos w64 g small in
-    let n_is : to_z w64 (of_z w64 n) ≡ n = to_z-of_z w64 n fits in
-    let quotient : FitsSigned w64 (int_div n (pos g)) = quot_fits w64 n (pos g) fits (omega (arith, ints)) in
-    let same : int_div (to_z w64 (of_z w64 n)) (to_z w64 g) ≡ int_div n (pos g) = ap₂ int_div n_is g_is in
+    let g_is : to_z w128 g ≡ pos g = to_z_pos w128 g small in
+    let n_is : to_z w128 (of_z w128 n) ≡ n = to_z-of_z w128 n fits in
+    let quotient : FitsSigned w128 (int_div n (pos g)) = quot_fits w128 n (pos g) fits (omega (arith, ints)) in
+    let same : int_div (to_z w128 (of_z w128 n)) (to_z w128 g) ≡ int_div n (pos g) = ap₂ int_div n_is g_is in
     record {
-      fits = subst (λ z. FitsSigned w64 z) (sym same) quotient;
-      value = ap (λ z. to_z w64 (of_z w64 z) *ℤ pos g) same ∙ ap (λ z. z *ℤ pos g) (to_z-of_z w64 (int_div n (pos g)) quotient) ∙ int_div-*ℤ n g divides;
+      fits = subst (λ z. FitsSigned w128 z) (sym same) quotient;
+      value = ap (λ z. to_z w128 (of_z w128 z) *ℤ pos g) same ∙ ap (λ z. z *ℤ pos g) (to_z-of_z w128 (int_div n (pos g)) quotient) ∙ int_div-*ℤ n g divides;
     }
 
 none_times : (g : ℕ) → 0 ≡ 0 * g
@@ -65,17 +66,14 @@ above_factor (pos zero) p g positive e above = absurd (let f : pos 0 ≡ p = ap 
 above_factor (pos (suc k)) p g positive e above = omega (arith, ints)
 above_factor (negsuc k) p g positive e above = absurd (let f : neg_ℤ (pos (suc k * g)) ≡ p = e in omega (arith, ints))
 
+-- two numbers that share nothing are their own factors
+pub once_factors : (f p : ℤ) → pos 0 <ℤ p → 1 ≡ gcd (nat_abs f) (nat_abs p) → AreFactors f p p f
+once_factors f p above is = record { shared = 1; greatest = is; positive = omega arith; above = above; first = times_one p; second = times_one f }
+
 -- ---- the line
 
-times_none : (k : ℕ) → suc k * 0 ≡ 0
-times_none k = omega arith
-
-zero_product : (a : ℤ) → a *ℤ pos 0 ≡ pos 0
-zero_product (pos k) = ap pos (omega arith)
-zero_product (negsuc k) = ap (λ n. neg_ℤ (pos n)) (times_none k)
-
 none_left : (a b : ℤ) → pos 0 ≡ a *ℤ pos 0 -ℤ b *ℤ pos 0
-none_left a b = sym (ap₂ (λ x y. x -ℤ y) (zero_product a) (zero_product b))
+none_left a b = sym (ap₂ (λ x y. x -ℤ y) (times_none a) (times_none b))
 
 -- the whole numbers of a line after its update
 pub record IsUpdated (before pivot after : Line) (a b : ℤ) : Type 0 where
@@ -85,7 +83,7 @@ pub record IsUpdated (before pivot after : Line) (a b : ℤ) : Type 0 where
   pub numbers_within : AreWithin (wholes after) after.most
   pub denominator_within : after.denominator ≤ after.most
   pub most : after.most ≤ nat_abs a * before.most + nat_abs b * pivot.most
-  pub small : after.most < 2 ^ 63
+  pub small : after.most < 2 ^ 127
 
 same_le : {x y : ℕ} → x ≡ y → x ≤ y
 same_le is = omega arith
@@ -145,22 +143,12 @@ module _ (before pivot after : Line) (column : ℕ) (a b : ℤ) (f : Factors) (o
 
 -- ---- a line whose number at the column is 0 stays as it is
 
-one_time : (n : ℕ) → 1 * n ≡ n
-one_time n = omega arith
-
 no_time : (n : ℕ) → 0 * n ≡ 0
 no_time n = omega arith
-
-pub one_times : (z : ℤ) → pos 1 *ℤ z ≡ z
-one_times (pos n) = ap pos (one_time n)
-one_times (negsuc n) = ap (λ m. neg_ℤ (pos m)) (one_time (suc n))
 
 pub zero_times : (z : ℤ) → pos 0 *ℤ z ≡ pos 0
 zero_times (pos n) = ap pos (no_time n)
 zero_times (negsuc n) = ap (λ m. neg_ℤ (pos m)) (no_time (suc n))
-
-less_none : (z : ℤ) → z -ℤ pos 0 ≡ z
-less_none z = omega (arith, ints)
 
 pub own_number : (z w : ℤ) → pos 1 *ℤ z -ℤ pos 0 *ℤ w ≡ z
 own_number z w = ap₂ (λ x y. x -ℤ y) (one_times z) (zero_times w) ∙ less_none z
@@ -285,7 +273,7 @@ divided_by_pivot before after column of_before above same denominator_is most_is
         positive = subst (λ d. 0 < d) (sym denominator_is) some;
         numbers_within = λ c. subst (λ m. nat_abs (whole_at (wholes after) c) ≤ m) (sym most_is) (subst (λ l. nat_abs (whole_at l c) ≤ before.most) (sym same) (of_before.numbers_within c));
         denominator_within = subst (λ m. after.denominator ≤ m) (sym most_is) (subst (λ d. d ≤ before.most) (sym denominator_is) (of_before.numbers_within column));
-        small = subst (λ m. m < 2 ^ 63) (sym most_is) of_before.small;
+        small = subst (λ m. m < 2 ^ 127) (sym most_is) of_before.small;
       };
       sized = ap length same;
       numbers = λ c.

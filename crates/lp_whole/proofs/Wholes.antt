@@ -17,7 +17,7 @@ use Rattle.lp_exact.specs.Tableau.{IsPlace}
 use Rattle.lp_exact.proofs.Kept.{contains_get}
 use Rattle.lp_whole.specs.declared.line.Line.{Line}
 use Rattle.lp_whole.specs.declared.choice.Candidate.{Candidate}
-use Rattle.lp_whole.specs.Lines.{whole_at}
+use Rattle.lp_numbers.specs.Lines.{whole_at}
 use Rattle.lp_whole.specs.Form.{wholes, number_or_none, lines_number, numbers_above, IsLine, AreLines}
 use Rattle.lp_whole.specs.Room.{AreWhole}
 use Rattle.lp_whole.specs.Turning.{turned_at, IsAbove}
@@ -26,7 +26,7 @@ use Rattle.lp_whole.specs.Choice.{IsFirstOf, IsLeastConstant, IsLeastRatio, IsFi
 use Rattle.lp_whole.specs.Whole.{row_of, WholeTableau, whole_dictionary, dictionary, IsWhole}
 use Rattle.lp_whole.proofs.Turning.{turned_row, turned_other}
 use Rattle.lp_whole.proofs.Above.{bounded_above}
-use Rattle.lp_whole.proofs.Lines.{whole_past}
+use Rattle.lp_numbers.proofs.Lines.{whole_past}
 use Rattle.lp_whole.proofs.Updating.{ratio_none}
 use Rattle.lp_whole.proofs.Largest.{greatest_tells}
 use Rattle.lp_whole.proofs.Plans.{get_within, index_get, some_at, same_some}

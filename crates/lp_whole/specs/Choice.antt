@@ -5,16 +5,16 @@ use Rattle.gq_number.specs.Order.{◌<ℚ◌}
 use Rattle.lp_whole.specs.declared.line.Line.{Line}
 use Rattle.lp_whole.specs.declared.read.Fraction.{Fraction}
 use Rattle.lp_whole.specs.declared.choice.Candidate.{Candidate}
-use Rattle.lp_whole.specs.Lines.{whole_at}
+use Rattle.lp_numbers.specs.Lines.{whole_at}
 use Rattle.lp_whole.specs.Form.{wholes}
 
 -- the number that a fraction is
 abbrev pub fraction : Fraction → Number
 fraction f = ratio f.numerator f.denominator
 
--- what a fraction is over is above 0, and below 2 to the 63rd
+-- what a fraction is over is above 0, and below 2 to the 127th
 abbrev pub IsFraction : Fraction → Type 0
-IsFraction f = (0 < f.denominator) × (f.denominator < 2 ^ 63)
+IsFraction f = (0 < f.denominator) × (f.denominator < 2 ^ 127)
 
 -- a number and a variable come first before others: the number is less, or it is the same and the variable is at most the other
 abbrev pub ComesFirst : Number → ℕ → Number → ℕ → Type 0

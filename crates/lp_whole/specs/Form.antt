@@ -4,23 +4,23 @@ use Rattle.gq_number.specs.Number.{Number, whole, ratio, ◌-ℚ◌, ◌*ℚ◌,
 use Rattle.gq_number.specs.Gcd.{gcd}
 use Rattle.lp_whole.specs.declared.line.Line.{Line}
 use Rattle.lp_whole.specs.declared.line.Factors.{Factors}
-use Rattle.lp_whole.specs.Lines.{whole_at, AreWithin}
+use Rattle.lp_numbers.specs.Lines.{whole_at, AreWithin}
 use Rattle.lp_whole.specs.Turning.{turned_at}
 
 -- the whole numbers of a line
 abbrev pub wholes : Line → List ℤ
-wholes l = l.numbers.items
+wholes l = l.numbers
 
 -- the number of a line at a column: its whole number there over its denominator
 abbrev pub line_number : Line → ℕ → Number
 line_number l c = ratio (whole_at (wholes l) c) l.denominator
 
--- What each line keeps: all its parts have at most 63 bits, and none passes its greatest magnitude.
+-- What each line keeps: all its parts have at most 127 bits, and none passes its greatest magnitude.
 pub record IsLine (l : Line) : Type 0 where
   pub positive : 0 < l.denominator
   pub numbers_within : AreWithin (wholes l) l.most
   pub denominator_within : l.denominator ≤ l.most
-  pub small : l.most < 2 ^ 63
+  pub small : l.most < 2 ^ 127
 
 -- a and b are p and f without their greatest common divisor, and a is above 0.
 pub record AreFactors (f p a b : ℤ) : Type 0 where
@@ -146,7 +146,7 @@ pub record AreExchanged (column place : ℕ) (pivot : Line) (plans : List Factor
 
 -- The factors of all lines are those of an exchange at a column, at which the pivot line is above 0.
 pub record IsPlan (bound column place : ℕ) (lines : List Line) (pivot : Line) (plans : List Factors) : Type 0 where
-  pub small : bound < 2 ^ 63
+  pub small : bound < 2 ^ 127
   pub above : pos 0 <ℤ whole_at (wholes pivot) column
   pub planned : ArePlanned bound column place lines pivot plans (length lines)
 

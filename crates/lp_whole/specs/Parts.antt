@@ -1,9 +1,9 @@
 -- Rows by fractions at their columns.
-use Rattle.std.specs.Prelude.{◌≡◌, ◌≢◌, ℕ, ◌<◌, ◌-◌, ◌^◌, ℤ, pos, List, length, slice_get, Some}
+use Rattle.std.specs.Prelude.{◌≡◌, ◌≢◌, ℕ, ◌*◌, ◌/◌, ◌<◌, ◌≤◌, ◌-◌, ◌^◌, ℤ, pos, nat_abs, List, length, slice_get, Some}
 use Rattle.std.specs.Int.{◌∣◌}
 use Rattle.gq_number.specs.Number.{Number, whole, ratio}
 use Rattle.lp_whole.specs.declared.parts.Part.{Part}
-use Rattle.lp_whole.specs.Lines.{whole_at, AreWithin}
+use Rattle.lp_numbers.specs.Lines.{whole_at, AreWithin}
 
 -- so many zeros
 pub record AreZeros (count : ℕ) (list : List ℤ) : Type 0 where
@@ -18,16 +18,40 @@ AreThere width parts = (i : ℕ) (p : Part) → slice_get parts i ≡ Some p →
 abbrev pub AreApart : List Part → Type 0
 AreApart parts = (i j : ℕ) (p q : Part) → slice_get parts i ≡ Some p → slice_get parts j ≡ Some q → p.column ≡ q.column → i ≡ j
 
--- A number of at most 63 bits is a multiple of what the first n parts are over.
+-- a number is a multiple of what the first n parts are over
+abbrev pub DivideAll : List Part → ℕ → ℕ → Type 0
+DivideAll parts n m = (i : ℕ) (p : Part) → i < n → slice_get parts i ≡ Some p → p.denominator ∣ m
+
+-- A number of at most 127 bits is the least common multiple of what the first n parts are over.
 pub record IsMultiple (parts : List Part) (n m : ℕ) : Type 0 where
   pub positive : 0 < m
-  pub small : m < 2 ^ 63
-  pub divides : (i : ℕ) (p : Part) → i < n → slice_get parts i ≡ Some p → p.denominator ∣ m
+  pub small : m < 2 ^ 127
+  pub divides : DivideAll parts n m
+  pub least : (k : ℕ) → 0 < k → DivideAll parts n k → m ∣ k
+
+-- no common multiple of two numbers has at most 127 bits
+abbrev pub HaveNoMultiple : ℕ → ℕ → Type 0
+HaveNoMultiple m d = (k : ℕ) → 0 < k → m ∣ k → d ∣ k → 2 ^ 127 ≤ k
+
+-- no common multiple of what parts are over has at most 127 bits
+abbrev pub HaveNoCommonMultiple : List Part → Type 0
+HaveNoCommonMultiple parts = (k : ℕ) → 0 < k → DivideAll parts (length parts) k → 2 ^ 127 ≤ k
+
+-- Over a multiple of its denominator some part has a whole number of more than 127 bits.
+pub record IsSomePast (parts : List Part) (multiple : ℕ) : Type 0 where
+  pub at : ℕ
+  pub part : Part
+  pub there : slice_get parts at ≡ Some part
+  pub past : 2 ^ 127 ≤ nat_abs part.numerator * (multiple / part.denominator)
+
+-- over each common multiple of at most 127 bits some part has a whole number of more
+abbrev pub HaveNoLine : List Part → Type 0
+HaveNoLine parts = (m : ℕ) → 0 < m → m < 2 ^ 127 → DivideAll parts (length parts) m → IsSomePast parts m
 
 -- Whole numbers over a multiple are the first n parts at their columns, and 0 elsewhere.
 pub record AreFilled (parts : List Part) (multiple width n : ℕ) (numbers : List ℤ) : Type 0 where
   pub sized : length numbers ≡ width
-  pub small : AreWithin numbers (2 ^ 63 - 1)
+  pub small : AreWithin numbers (2 ^ 127 - 1)
   pub here : (i : ℕ) (p : Part) → i < n → slice_get parts i ≡ Some p → ratio (whole_at numbers p.column) multiple ≡ ratio p.numerator p.denominator
   pub elsewhere : (c : ℕ) → ((i : ℕ) (p : Part) → i < n → slice_get parts i ≡ Some p → p.column ≢ c) → whole_at numbers c ≡ pos 0
 

@@ -1,14 +1,27 @@
 -- Lines with variable 0 put off or not, and the room below a bound of what they stand for.
-use Rattle.std.specs.Prelude.{◌≡◌, ◌≢◌, ℕ, ◌+◌, ◌*◌, ◌<◌, ◌≤◌, ◌^◌, ◌==◌, pos, ◌-ℤ◌, ◌*ℤ◌, ◌<ℤ◌, nat_abs, List, slice_get, Option, Some, None, if◌then◌else◌}
+use Rattle.std.specs.Prelude.{◌≡◌, ◌≢◌, ℕ, ◌+◌, ◌*◌, ◌<◌, ◌≤◌, ◌^◌, ◌==◌, ◌⊎◌, pos, ◌-ℤ◌, ◌*ℤ◌, ◌<ℤ◌, nat_abs, List, slice_get, Option, Some, None, if◌then◌else◌}
 use Rattle.lp_whole.specs.declared.line.Line.{Line}
 use Rattle.lp_whole.specs.declared.line.Factors.{Factors}
-use Rattle.lp_whole.specs.Lines.{whole_at}
-use Rattle.lp_whole.specs.Form.{wholes, AreLines, AreBounded, AreSameLines, AreTurned, IsPlan}
+use Rattle.lp_numbers.specs.Lines.{whole_at}
+use Rattle.lp_whole.specs.Form.{wholes, AreLines, AreBounded, AreSameLines, AreTurned, IsPlan, IsSomeCrowded}
 
 -- Where the line p is that of the row k which variable 0 is to enter, there is room for what that exchange makes of each line.
 pub record HasRoomFor (k : ℕ) (p : Line) (lines : List Line) (bound : ℕ) : Type 0 where
   pub own : p.most ≤ bound
   pub others : (i : ℕ) (l : Line) → i ≢ k → slice_get lines i ≡ Some l → l.most * nat_abs (whole_at (wholes p) 1) + nat_abs (whole_at (wholes l) 1) * p.most ≤ bound
+
+-- There is no room for the exchange of variable 0 into the row k.
+pub record HasNoRoomFor (k : ℕ) (lines : List Line) (bound : ℕ) : Type 0 where
+  pub pivot : Line
+  pub there : slice_get lines k ≡ Some pivot
+  pub crowded : ¬ (HasRoomFor k pivot lines bound)
+
+-- The greatest magnitude of some line passes a bound.
+pub record IsSomeGreat (bound : ℕ) (lines : List Line) : Type 0 where
+  pub at : ℕ
+  pub line : Line
+  pub there : slice_get lines at ≡ Some line
+  pub great : bound < line.most
 
 -- Variable 0 is put off in the row k: its number there is above 0, and there is room for its exchange.
 pub record IsPutOff (k : ℕ) (lines : List Line) (bound : ℕ) : Type 0 where
@@ -26,17 +39,39 @@ HasRoom (Some k) lines bound = IsPutOff k lines bound
 pub record AreWhole (lines : List Line) (deferred : Option ℕ) (width bound : ℕ) : Type 0 where
   pub are_lines : AreLines width lines
   pub wide : 1 < width
-  pub small : bound < 2 ^ 63
+  pub small : bound < 2 ^ 127
   pub room : HasRoom deferred lines bound
 
 -- the magnitude of a line's number of variable 0 after an exchange by its factors
 abbrev pub zero_after : Line → Line → Factors → ℕ
 zero_after l p f = nat_abs (f.line *ℤ whole_at (wholes l) 1 -ℤ f.pivot *ℤ whole_at (wholes p) 1)
 
+-- no part of any line passes a magnitude after an exchange by these factors
+abbrev pub AreFactorsWithin : ℕ → List Factors → Type 0
+AreFactorsWithin top plans = (i : ℕ) (f : Factors) → slice_get plans i ≡ Some f → f.most ≤ top
+
 -- after an exchange there is room for that of variable 0 into the row of the variable that leaves, whose line l has the factors g
 abbrev pub KeepsRoom : ℕ → Line → Line → Factors → List Line → List Factors → ℕ → Type 0
 KeepsRoom leaving p l g lines plans bound =
     (i : ℕ) (x : Line) (f : Factors) → i ≢ leaving → slice_get lines i ≡ Some x → slice_get plans i ≡ Some f → f.most * zero_after l p g + zero_after x p f * g.most ≤ bound
+
+-- After an exchange at a place and a column there is no room for that of variable 0 into the row of the variable that leaves.
+pub record HasNoRoomAfter (bound column place leaving : ℕ) (lines : List Line) : Type 0 where
+  pub plans : List Factors
+  pub pivot : Line
+  pub line : Line
+  pub factors : Factors
+  pub apart : leaving ≢ place
+  pub pivot_there : slice_get lines place ≡ Some pivot
+  pub line_there : slice_get lines leaving ≡ Some line
+  pub factors_there : slice_get plans leaving ≡ Some factors
+  pub planned : IsPlan bound column place lines pivot plans
+  pub crowded : ¬ (KeepsRoom leaving pivot line factors lines plans bound)
+
+-- there is no room for an exchange of lines at a place and a column: in some line, or afterwards
+abbrev pub LinesHaveNoRoom : ℕ → ℕ → ℕ → ℕ → List Line → Type 0
+LinesHaveNoRoom bound column place leaving lines =
+    ((pivot : Line) × (slice_get lines place ≡ Some pivot) × IsSomeCrowded bound column place lines pivot) ⊎ HasNoRoomAfter bound column place leaving lines
 
 -- The factors of an exchange at a place and a column, with room after it where a variable of another row leaves.
 pub record IsRoomyPlan (bound column place leaving : ℕ) (lines : List Line) (plans : List Factors) : Type 0 where
@@ -52,6 +87,11 @@ pub record AreTurnedInRoom (bound column place leaving : ℕ) (before after : Li
   pub roomy : IsRoomyPlan bound column place leaving divided plans
   pub turned : AreTurned column place plans divided after
 
+-- the greatest magnitude of a line; 1 where there is none
+abbrev pub most_or_one : Option Line → ℕ
+most_or_one None = 1
+most_or_one (Some l) = l.most
+
 -- the denominator of a line; 1 where there is none
 abbrev pub denominator_or_one : Option Line → ℕ
 denominator_or_one None = 1
@@ -66,3 +106,11 @@ zero_or_one (Some l) = nat_abs (whole_at (wholes l) 1)
 abbrev pub row_denominator : Option ℕ → List Line → ℕ → ℕ
 row_denominator None lines i = denominator_or_one (slice_get lines i)
 row_denominator (Some k) lines i = if i == k then zero_or_one (slice_get lines k) else zero_or_one (slice_get lines k) * denominator_or_one (slice_get lines i)
+
+-- a magnitude that no part of a row of what lines stand for passes
+abbrev pub row_most : Option ℕ → List Line → ℕ → ℕ
+row_most None lines i = most_or_one (slice_get lines i)
+row_most (Some k) lines i =
+    if i == k then
+    most_or_one (slice_get lines k) else
+    most_or_one (slice_get lines i) * zero_or_one (slice_get lines k) + zero_or_one (slice_get lines i) * most_or_one (slice_get lines k)

@@ -1,6 +1,5 @@
 //! The row that comes first, by the least constant or the least ratio; and the first variable whose number is above 0.
-ghost use Rattle.std.specs.Prelude.{◌≡◌, ℕ, ◌+◌, ◌*◌, ◌<◌, ◌^◌, pos, ◌*ℤ◌, length, MatchOption};
-ghost use Rattle.std.specs.Ordering.{int_cmp};
+ghost use Rattle.std.specs.Prelude.{◌≡◌, ℕ, ◌+◌, ◌*◌, ◌<◌, ◌^◌, pos, length, MatchOption};
 ghost use Rattle.gq_number.specs.Number.{whole, ◌/ℚ◌};
 ghost use Rattle.gq_number.specs.Order.{◌<ℚ◌, number_cmp};
 ghost use Rattle.lp_whole.specs.Form.{wholes, lines_number, numbers_above};
@@ -9,6 +8,7 @@ ghost use Rattle.lp_whole.specs.Choice.{fraction, IsFraction, IsLesser, IsLeastC
 
 use crate::line::{Line, number_at};
 use crate::read::{Fraction, read};
+use lp_numbers::compare_ratios;
 use std::cmp::Ordering;
 
 /// A basic variable that may leave, and the number by which the least is chosen.
@@ -18,28 +18,18 @@ pub(crate) struct Candidate {
     pub(crate) variable: u32,
 }
 
-/// How `r` times `b` compares with `s` times `a`.
-#[inline(always)]
-fn cross(r: i64, a: i64, s: i64, b: i64) -> Ordering
-    ensures { result ≡ int_cmp (r *ℤ b) (s *ℤ a) }
-{
-    let left = r as i128 * b as i128;
-    let right = s as i128 * a as i128;
-    left.cmp(&right)
-}
-
 /// How two numbers compare.
+#[inline(always)]
 fn compare(x: Fraction, y: Fraction) -> Ordering
     requires first { IsFraction x }
     requires second { IsFraction y }
     ensures { result ≡ number_cmp (fraction x) (fraction y) }
 {
-    let below = x.denominator as i64;
-    let also_below = y.denominator as i64;
-    cross(x.numerator, below, y.numerator, also_below)
+    compare_ratios(x.numerator, x.denominator, y.numerator, y.denominator)
 }
 
 /// The one with the lesser number, and of equal ones the one with the lesser variable.
+#[inline(always)]
 fn lesser(best: Option<Candidate>, other: Candidate) -> Candidate
     requires best { MatchOption best (Unit {0}) (λ b. IsFraction b.measure) }
     requires other { IsFraction other.measure }
@@ -77,6 +67,7 @@ fn constant_below(lines: &[Line], deferred: Option<usize>, place: usize) -> Opti
 }
 
 /// How far a row lets a variable rise, where its number in the row is above 0.
+#[inline(always)]
 fn ratio_of(
     lines: &[Line],
     deferred: Option<usize>,
@@ -96,7 +87,7 @@ fn ratio_of(
     let constant = read(lines, deferred, place, 0);
     Some(Fraction {
         numerator: constant.numerator,
-        denominator: number.numerator as u64,
+        denominator: number.numerator as u128,
     })
 }
 

@@ -1,10 +1,11 @@
 //! The exchange of all lines: the rows, and the objective behind them.
 ghost use Rattle.std.specs.Prelude.{◌≡◌, ℕ, ◌<◌, ◌≤◌, ◌^◌, pos, ◌<ℤ◌, length, slice_get, slice_set, Some, IfOk, MatchOption};
 ghost use Rattle.lp_whole.specs.declared.line.Line.{Line};
-ghost use Rattle.lp_whole.specs.Lines.{whole_at};
+ghost use Rattle.lp_numbers.specs.Lines.{whole_at, ArePlaces};
 ghost use Rattle.lp_whole.specs.Form.{wholes, IsLine, AreLines, AreLinesBut, AreBounded, AreSameLines, IsDividedLine, ArePlanned, AreExchanged, AreTurned, IsPlan, IsSomeCrowded};
 
 use crate::line::{Factors, Line, apply, divide_pivot, plan, reduce};
+use lp_numbers::Numbers;
 use std::alloc::{AllocError, Global};
 use std::mem;
 
@@ -16,9 +17,10 @@ pub(crate) fn plan_lines(
     place: usize,
     column: usize,
     pivot: &Line,
-    bound: u64,
+    bound: u128,
 ) -> Result<Option<Vec<Factors>>, AllocError>
     requires lines { (width : ℕ) × AreLines width lines.now × (length (wholes pivot.now) ≡ width) × (column < width) }
+    requires small { bound < 2 ^ 127 }
     requires pivot { IsLine pivot.now }
     requires above { pos 0 <ℤ whole_at (wholes pivot.now) column }
     requires bounded { AreBounded bound lines.now }
@@ -39,21 +41,30 @@ pub(crate) fn plan_lines(
     Ok(Some(plans))
 }
 
-/// Takes from each line but that of the place the multiple of the pivot line for which its factors are; divides those that have
-/// a part past a magnitude.
-fn apply_plans(lines: &mut Vec<Line>, plans: &[Factors], place: usize, pivot: &Line, due: u64)
+/// Takes from each line but that of the place the multiple of the pivot line for which its factors are, and divides those where it
+/// is due. The places are those at which the pivot line has a number other than 0. The error is want of memory.
+fn apply_plans(
+    alloc: Global,
+    lines: &mut Vec<Line>,
+    plans: &[Factors],
+    place: usize,
+    pivot: &Line,
+    places: &[usize],
+) -> Result<(), AllocError>
     requires lines { (width : ℕ) × AreLinesBut place width lines.old.items × (length (wholes pivot.now) ≡ width) }
     requires pivot { IsLine pivot.now }
+    requires places { ArePlaces (wholes pivot.now) (length (wholes pivot.now)) places.now }
     requires planned { (bound column : ℕ) × IsPlan bound column place lines.old.items pivot.now plans.now }
-    ensures { (bound column : ℕ) → IsPlan bound column place lines.old.items pivot.now plans.now → AreExchanged column place pivot.now plans.now lines.old.items lines.new.items (length lines.old.items) }
+    ensures { IfOk result (λ _. (bound column : ℕ) → IsPlan bound column place lines.old.items pivot.now plans.now → AreExchanged column place pivot.now plans.now lines.old.items lines.new.items (length lines.old.items)) }
 {
     for i in 0..lines.len() {
         if i != place {
             let factors = plans[i];
             let line = &mut lines[i];
-            apply(line, factors, pivot, due);
+            apply(alloc, line, factors, pivot, places)?;
         }
     }
+    Ok(())
 }
 
 /// Puts a line at a place, and gives the one that was there.
@@ -66,53 +77,55 @@ pub(crate) fn put_line(lines: &mut Vec<Line>, place: usize, line: Line) -> Line
     mem::replace(old, line)
 }
 
-/// Divides the pivot line by its number at a column, and by what its parts then have in common.
-fn turn_pivot(line: &mut Line, column: usize)
+/// Divides the pivot line by its number at a column, and by what its parts then have in common. The error is want of memory.
+fn turn_pivot(alloc: Global, line: &mut Line, column: usize) -> Result<(), AllocError>
     requires line { IsLine line.old }
     requires within { column < length (wholes line.old) }
     requires above { pos 0 <ℤ whole_at (wholes line.old) column }
-    ensures { IsDividedLine column line.old line.new }
+    ensures { IfOk result (λ _. IsDividedLine column line.old line.new) }
 {
     divide_pivot(line, column);
-    reduce(line);
+    reduce(alloc, line)
 }
 
 /// A line without numbers.
 pub(crate) fn no_line(alloc: Global) -> Line {
     Line {
-        numbers: Vec::new(alloc),
+        numbers: Numbers::empty(alloc),
         denominator: 1,
         most: 1,
     }
 }
 
-/// The exchange of all lines at a place and a column, by their factors; divides those that have a part past a magnitude.
+/// The exchange of all lines at a place and a column, by their factors; divides those where it is due. The error is want of memory.
 pub(crate) fn exchange_lines(
     alloc: Global,
     lines: &mut Vec<Line>,
     plans: &[Factors],
     place: usize,
     column: usize,
-    due: u64,
-)
+) -> Result<(), AllocError>
     requires within { place < length lines.old.items }
     requires lines { (width : ℕ) × AreLines width lines.old.items × (column < width) }
     requires planned { (bound : ℕ) × ((l : Line) → slice_get lines.old.items place ≡ Some l → IsPlan bound column place lines.old.items l plans.now) }
-    ensures { AreTurned column place plans.now lines.old.items lines.new.items }
+    ensures { IfOk result (λ _. AreTurned column place plans.now lines.old.items lines.new.items) }
 {
     let mut pivot = put_line(lines, place, no_line(alloc));
-    apply_plans(lines, plans, place, &pivot, due);
-    turn_pivot(&mut pivot, column);
+    let places = pivot.numbers.places(alloc)?;
+    apply_plans(alloc, lines, plans, place, &pivot, places.as_slice())?;
+    turn_pivot(alloc, &mut pivot, column)?;
     let _ = put_line(lines, place, pivot);
+    Ok(())
 }
 
-/// Divides each line by what its parts have in common.
-pub(crate) fn reduce_lines(lines: &mut Vec<Line>)
+/// Divides each line by what its parts have in common. The error is want of memory.
+pub(crate) fn reduce_lines(alloc: Global, lines: &mut Vec<Line>) -> Result<(), AllocError>
     requires { (width : ℕ) × AreLines width lines.old.items }
-    ensures { AreSameLines lines.old.items lines.new.items }
+    ensures { IfOk result (λ _. AreSameLines lines.old.items lines.new.items) }
 {
     for i in 0..lines.len() {
         let line = &mut lines[i];
-        reduce(line);
+        reduce(alloc, line)?;
     }
+    Ok(())
 }

@@ -1,10 +1,11 @@
 //! What the exchange with variable 0 put off means, for any numbers: laws on functions with empty bodies.
-ghost use Rattle.std.specs.Prelude.{◌≡◌, ◌≢◌, ◌↔◌, ℕ, ◌+◌, ◌*◌, ◌<◌, ◌≤◌, ℤ, pos, ◌-ℤ◌, ◌*ℤ◌, ◌≤ℤ◌, ◌<ℤ◌, ◌==◌, if◌then◌else◌};
+ghost use Rattle.std.specs.Prelude.{◌≡◌, ◌≢◌, ◌↔◌, ℕ, ◌+◌, ◌*◌, ◌<◌, ◌≤◌, ℤ, pos, ◌-ℤ◌, ◌*ℤ◌, ◌≤ℤ◌, ◌<ℤ◌, nat_abs, IsTrue, ◌==◌, if◌then◌else◌};
 ghost use Rattle.gq_number.specs.Number.{Number, whole, ratio, ◌-ℚ◌, ◌*ℚ◌, ◌/ℚ◌};
 ghost use Rattle.gq_number.specs.Order.{◌≤ℚ◌, ◌<ℚ◌};
 ghost use Rattle.lp_core.specs.Dictionary.{Dictionary, basic_at, entry_at, exchanged};
-ghost use Rattle.lp_core.specs.Steps.{AllFit, ratio_steps, exchange_steps};
+ghost use Rattle.lp_core.specs.Steps.{AllFit, product_fits, difference_fits, ratio_steps};
 ghost use Rattle.lp_whole.specs.Bounds.{IsBounded, HasRoomAbove, over_denominators};
+ghost use Rattle.lp_whole.specs.Pairs.{HasPairRoom};
 ghost use Rattle.lp_whole.specs.Turning.{turned_at, swapped, negated, IsAbove};
 
 /// Two exchanges in one row are the second alone; and an exchange of a dictionary with variable 0 put off is an exchange
@@ -43,13 +44,16 @@ pub fn line_laws()
         (ratio r d /ℚ ratio (pos a) d <ℚ ratio s e /ℚ ratio (pos b) e) ↔ ((r *ℤ pos b) <ℤ (s *ℤ pos a)) }
 {}
 
-/// Every step fits where each row is whole numbers over one denominator, all at most a bound, and twice the square of the
-/// bound is at most the limit: those of a ratio test, and those of an exchange at a number that is not 0.
+/// When steps on rows of whole numbers over one denominator each fit. In a ratio test all do where no part of a row passes the
+/// limit. In an exchange all do where each row has room together with the row of the variable that leaves: if that row has `nk`
+/// and `p` at two columns over `dk`, where the other has `ni` and `f` over `di`, both steps at the first column fit.
 pub fn bound_laws()
-    ensures ratios { (limit bound : ℕ) (d : Dictionary) (pivot q : ℕ) → 2 * (bound * bound) ≤ limit → IsBounded d bound →
+    ensures ratios { (limit bound : ℕ) (d : Dictionary) (pivot q : ℕ) → bound ≤ limit → IsBounded d bound →
         AllFit (ratio_steps limit pivot d q) }
-    ensures exchange { (limit bound : ℕ) (d : Dictionary) (pivot q k : ℕ) → 2 * (bound * bound) ≤ limit → IsBounded d bound →
-        entry_at d k q ≢ whole (pos 0) → AllFit (exchange_steps limit pivot d q k) }
+    ensures pairs { (limit : ℕ) (ni nk f p : ℤ) (di dk mi mk : ℕ) → 0 < di → 0 < dk → p ≢ pos 0 → nat_abs ni ≤ mi → di ≤ mi →
+        nat_abs nk ≤ mk → HasPairRoom f p mi mk limit →
+        IsTrue (product_fits limit (ratio f di) (ratio nk dk /ℚ ratio p dk)) ×
+        IsTrue (difference_fits limit (ratio ni di) (ratio f di *ℚ (ratio nk dk /ℚ ratio p dk))) }
     ensures above { (n : ℕ → ℕ → ℤ) (d most : ℕ → ℕ) (bound k u : ℕ) (above : Dictionary) →
         HasRoomAbove n d most bound k u → IsAbove above (over_denominators n d) k → IsBounded above bound }
 {}

@@ -6,7 +6,7 @@ mod coefficients;
 mod exchange;
 mod laws;
 mod line;
-mod numbers;
+mod pairs;
 mod parts;
 mod put_off;
 mod read;

@@ -1,44 +1,46 @@
 //! A line of a dictionary: whole numbers, one for each column, over one denominator.
-ghost use Rattle.std.specs.Prelude.{◌≡◌, ◌⊎◌, ℕ, ◌+◌, ◌*◌, ◌<◌, ◌≤◌, ◌^◌, ◌-◌, pos, ◌<ℤ◌, nat_abs, length, MatchOption};
-ghost use Rattle.lp_whole.specs.Lines.{whole_at, AreWithin};
+ghost use Rattle.std.specs.Prelude.{◌≡◌, ◌⊎◌, ℕ, ◌+◌, ◌*◌, ◌<◌, ◌≤◌, ◌^◌, ◌-◌, pos, ◌<ℤ◌, nat_abs, length, true, false, IfOk, MatchOption};
+ghost use Rattle.lp_numbers.specs.Lines.{whole_at, AreWithin, ArePlaces};
 ghost use Rattle.lp_whole.specs.Form.{wholes, IsLine, AreFactors, IsPlanned, IsCrowded, IsLessenedLine, IsDividedLine, IsSameLine, own_factors};
 
-use crate::numbers::{divide, divisor_of, greatest, lessen};
-use gq_field::gcd_of_words;
+use lp_numbers::{Numbers, gcd, greatest, sum_within};
+use std::alloc::{AllocError, Global};
 
 /// A line: whole numbers over one denominator, and a magnitude that none of them passes.
 #[derive(Drop)]
 pub struct Line {
-    pub(crate) numbers: Vec<i64>,
-    pub(crate) denominator: u64,
-    pub(crate) most: u64,
+    pub(crate) numbers: Numbers,
+    pub(crate) denominator: u128,
+    pub(crate) most: u128,
 }
 
 impl Line {
-    /// The line of these whole numbers, one for each column, over this denominator.
-    pub fn new(numbers: Vec<i64>, denominator: u64) -> Line
+    /// The line of these whole numbers, one for each column, over this denominator. The error is want of memory.
+    pub fn new(alloc: Global, numbers: Vec<i128>, denominator: u128) -> Result<Line, AllocError>
         requires positive { 0 < denominator }
-        requires small { denominator < 2 ^ 63 }
-        requires numbers_small { AreWithin numbers.items (2 ^ 63 - 1) }
-        ensures line { IsLine result }
-        ensures numbers { wholes result ≡ numbers.items }
-        ensures denominator { result.denominator ≡ denominator }
+        requires small { denominator < 2 ^ 127 }
+        requires numbers_small { AreWithin numbers.items (2 ^ 127 - 1) }
+        ensures line { IfOk result IsLine }
+        ensures numbers { IfOk result (λ l. wholes l ≡ numbers.items) }
+        ensures denominator { IfOk result (λ l. l.denominator ≡ denominator) }
+        ensures most { IfOk result (λ l. (m : ℕ) → AreWithin numbers.items m → denominator ≤ m → l.most ≤ m) }
     {
         let most = greatest(numbers.as_slice(), denominator);
-        Line {
+        let numbers = Numbers::of(alloc, numbers, most)?;
+        Ok(Line {
             numbers,
             denominator,
             most,
-        }
+        })
     }
 }
 
 /// What a line, and what the pivot line is multiplied by in an exchange; and a magnitude that no new part of the line passes.
 #[derive(Clone, Copy)]
 pub(crate) struct Factors {
-    pub(crate) line: i64,
-    pub(crate) pivot: i64,
-    pub(crate) most: u64,
+    pub(crate) line: i128,
+    pub(crate) pivot: i128,
+    pub(crate) most: u128,
 }
 
 impl Factors {
@@ -56,52 +58,49 @@ impl Factors {
 
 /// The whole number of a line at a column.
 #[inline(always)]
-pub(crate) fn number_at(line: &Line, column: usize) -> i64
+pub(crate) fn number_at(line: &Line, column: usize) -> i128
     requires { column < length (wholes line.now) }
     ensures { result ≡ whole_at (wholes line.now) column }
 {
-    line.numbers[column]
+    line.numbers.at(column)
 }
 
 /// The magnitude of the whole number of a line at a column.
 #[inline(always)]
-pub(crate) fn magnitude_at(line: &Line, column: usize) -> u64
+pub(crate) fn magnitude_at(line: &Line, column: usize) -> u128
     requires line { IsLine line.now }
     requires within { column < length (wholes line.now) }
     ensures value { result ≡ nat_abs (whole_at (wholes line.now) column) }
-    ensures small { result < 2 ^ 63 }
+    ensures small { result < 2 ^ 127 }
 {
-    line.numbers[column].unsigned_abs()
+    line.numbers.at(column).unsigned_abs()
 }
 
 /// The number `p` of the pivot line and the number `f` of another, without their greatest common divisor.
-fn reduced_pair(f: i64, p: i64) -> (i64, i64)
+pub(crate) fn reduced_pair(f: i128, p: i128) -> (i128, i128)
     requires { pos 0 <ℤ p }
     ensures { AreFactors f p result.0 result.1 }
 {
-    let shared = gcd_of_words(f.unsigned_abs(), p.unsigned_abs()) as i64;
-    (p / shared, f / shared)
+    let shared = gcd(f.unsigned_abs(), p.unsigned_abs());
+    if shared == 1 {
+        return (p, f);
+    }
+    let divisor = shared as i128;
+    (p / divisor, f / divisor)
 }
 
 /// A magnitude that no part of a line times `a`, less another times `b`, passes, by the greatest magnitudes of both; none where
 /// that is above the bound.
-fn room(a: i64, most: u64, b: i64, other: u64, bound: u64) -> Option<u64>
-    requires first { most < 2 ^ 63 }
-    requires second { other < 2 ^ 63 }
+pub(crate) fn room(a: i128, most: u128, b: i128, other: u128, bound: u128) -> Option<u128>
+    requires { bound < 2 ^ 127 }
     ensures { MatchOption result (bound < nat_abs a * most + nat_abs b * other) (λ m. (m ≡ nat_abs a * most + nat_abs b * other) × (m ≤ bound)) }
 {
-    let first = a.unsigned_abs() as u128 * most as u128;
-    let second = b.unsigned_abs() as u128 * other as u128;
-    let total = first + second;
-    if total <= bound as u128 {
-        Some(total as u64)
-    } else {
-        None
-    }
+    sum_within(bound, a.unsigned_abs(), most, b.unsigned_abs(), other)
 }
 
 /// The factors of a line with a number other than 0 at the column; none where some part might pass the bound.
-fn plan_some(line: &Line, column: usize, pivot: &Line, bound: u64) -> Option<Factors>
+fn plan_some(line: &Line, column: usize, pivot: &Line, bound: u128) -> Option<Factors>
+    requires small { bound < 2 ^ 127 }
     requires line { IsLine line.now }
     requires pivot { IsLine pivot.now }
     requires sized { length (wholes pivot.now) ≡ length (wholes line.now) }
@@ -109,7 +108,7 @@ fn plan_some(line: &Line, column: usize, pivot: &Line, bound: u64) -> Option<Fac
     requires above { pos 0 <ℤ whole_at (wholes pivot.now) column }
     ensures { MatchOption result (IsCrowded bound column line.now pivot.now) (IsPlanned bound column line.now pivot.now) }
 {
-    let (a, b) = reduced_pair(line.numbers[column], pivot.numbers[column]);
+    let (a, b) = reduced_pair(number_at(line, column), number_at(pivot, column));
     match room(a, line.most, b, pivot.most, bound) {
         Some(most) => Some(Factors {
             line: a,
@@ -121,7 +120,8 @@ fn plan_some(line: &Line, column: usize, pivot: &Line, bound: u64) -> Option<Fac
 }
 
 /// The factors of a line in an exchange at a column; none where some part might pass the bound.
-pub(crate) fn plan(line: &Line, column: usize, pivot: &Line, bound: u64) -> Option<Factors>
+pub(crate) fn plan(line: &Line, column: usize, pivot: &Line, bound: u128) -> Option<Factors>
+    requires small { bound < 2 ^ 127 }
     requires line { IsLine line.now }
     requires pivot { IsLine pivot.now }
     requires sized { length (wholes pivot.now) ≡ length (wholes line.now) }
@@ -130,68 +130,149 @@ pub(crate) fn plan(line: &Line, column: usize, pivot: &Line, bound: u64) -> Opti
     requires bounded { line.now.most ≤ bound }
     ensures { MatchOption result (IsCrowded bound column line.now pivot.now) (IsPlanned bound column line.now pivot.now) }
 {
-    if line.numbers[column] == 0 {
+    if number_at(line, column) == 0 {
         return Some(Factors::of_own(line));
     }
     plan_some(line, column, pivot, bound)
 }
 
-/// Takes from a line the multiple of the pivot line that takes its number at the column for which the factors are.
-fn lessen_line(line: &mut Line, factors: Factors, pivot: &Line)
+/// Takes from a line the multiple of the pivot line that takes its number at the column for which the factors are. The error is
+/// want of memory.
+fn lessen_line(
+    alloc: Global,
+    line: &mut Line,
+    factors: Factors,
+    pivot: &Line,
+) -> Result<(), AllocError>
     requires line { IsLine line.old }
     requires pivot { IsLine pivot.now }
     requires sized { length (wholes pivot.now) ≡ length (wholes line.old) }
-    requires planned { (bound column : ℕ) × (bound < 2 ^ 63) × IsPlanned bound column line.old pivot.now factors × (pos 0 <ℤ whole_at (wholes pivot.now) column) }
-    ensures { (bound column : ℕ) → bound < 2 ^ 63 → pos 0 <ℤ whole_at (wholes pivot.now) column → IsPlanned bound column line.old pivot.now factors → IsLessenedLine column line.old pivot.now line.new factors }
+    requires planned { (bound column : ℕ) × (bound < 2 ^ 127) × IsPlanned bound column line.old pivot.now factors × (pos 0 <ℤ whole_at (wholes pivot.now) column) }
+    ensures { IfOk result (λ _. (bound column : ℕ) → bound < 2 ^ 127 → pos 0 <ℤ whole_at (wholes pivot.now) column → IsPlanned bound column line.old pivot.now factors → IsLessenedLine column line.old pivot.now line.new factors) }
 {
-    let most = lessen(
-        line.numbers.as_mut_slice(),
+    let most = line.numbers.lessen(
+        alloc,
         factors.line,
         factors.pivot,
-        pivot.numbers.as_slice(),
-    );
-    line.denominator *= factors.line as u64;
+        &pivot.numbers,
+        factors.most,
+    )?;
+    line.denominator *= factors.line as u128;
     line.most = most.max(line.denominator);
+    Ok(())
 }
 
-/// Divides a line by what its numbers and its denominator have in common, where some part passes a magnitude.
-fn reduce_past(line: &mut Line, due: u64)
-    requires { IsLine line.old }
-    ensures { IsSameLine line.old line.new }
-{
-    if line.most > due {
-        reduce(line);
-    }
-}
-
-/// Takes from a line the multiple of the pivot line for which the factors are, and divides it where it is due: where some part
-/// passes that magnitude.
-pub(crate) fn apply(line: &mut Line, factors: Factors, pivot: &Line, due: u64)
+/// The same, where the line itself is taken once: at the places at which the pivot line has a number other than 0, where that is
+/// quick; else the line stays, and the answer is `false`.
+fn lessen_once(line: &mut Line, factors: Factors, pivot: &Line, places: &[usize]) -> bool
     requires line { IsLine line.old }
     requires pivot { IsLine pivot.now }
     requires sized { length (wholes pivot.now) ≡ length (wholes line.old) }
-    requires planned { (bound column : ℕ) × (bound < 2 ^ 63) × IsPlanned bound column line.old pivot.now factors × (pos 0 <ℤ whole_at (wholes pivot.now) column) }
-    ensures { (bound column : ℕ) → bound < 2 ^ 63 → pos 0 <ℤ whole_at (wholes pivot.now) column → IsPlanned bound column line.old pivot.now factors → IsLessenedLine column line.old pivot.now line.new factors }
+    requires once { factors.line ≡ pos 1 }
+    requires places { ArePlaces (wholes pivot.now) (length (wholes pivot.now)) places.now }
+    requires planned { (bound column : ℕ) × (bound < 2 ^ 127) × IsPlanned bound column line.old pivot.now factors × (pos 0 <ℤ whole_at (wholes pivot.now) column) }
+    ensures lessened { result ≡ true → (bound column : ℕ) → bound < 2 ^ 127 → pos 0 <ℤ whole_at (wholes pivot.now) column → IsPlanned bound column line.old pivot.now factors → IsLessenedLine column line.old pivot.now line.new factors }
+    ensures same { result ≡ false → line.new ≡ line.old }
 {
-    if factors.pivot == 0 {
-        return;
-    }
-    lessen_line(line, factors, pivot);
-    reduce_past(line, due);
+    let least = line.most;
+    let Some(most) = line
+        .numbers
+        .lessen_at(factors.pivot, &pivot.numbers, places, least, factors.most)
+    else {
+        return false;
+    };
+    line.most = most;
+    true
 }
 
-/// Divides a line by what its numbers and its denominator have in common.
-pub(crate) fn reduce(line: &mut Line)
-    requires { IsLine line.old }
-    ensures { IsSameLine line.old line.new }
+/// The same for any factors.
+fn lessen_quickly(line: &mut Line, factors: Factors, pivot: &Line, places: &[usize]) -> bool
+    requires line { IsLine line.old }
+    requires pivot { IsLine pivot.now }
+    requires sized { length (wholes pivot.now) ≡ length (wholes line.old) }
+    requires places { ArePlaces (wholes pivot.now) (length (wholes pivot.now)) places.now }
+    requires planned { (bound column : ℕ) × (bound < 2 ^ 127) × IsPlanned bound column line.old pivot.now factors × (pos 0 <ℤ whole_at (wholes pivot.now) column) }
+    ensures lessened { result ≡ true → (bound column : ℕ) → bound < 2 ^ 127 → pos 0 <ℤ whole_at (wholes pivot.now) column → IsPlanned bound column line.old pivot.now factors → IsLessenedLine column line.old pivot.now line.new factors }
+    ensures same { result ≡ false → line.new ≡ line.old }
 {
-    let divisor = divisor_of(line.numbers.as_slice(), line.denominator);
-    if divisor == 1 {
-        return;
+    if factors.line == 1 {
+        return lessen_once(line, factors, pivot, places);
     }
-    divide(line.numbers.as_mut_slice(), divisor);
+    false
+}
+
+/// Takes from a line the multiple of the pivot line for which the factors are, in the way that is quicker. The error is want of
+/// memory.
+fn lessen(
+    alloc: Global,
+    line: &mut Line,
+    factors: Factors,
+    pivot: &Line,
+    places: &[usize],
+) -> Result<(), AllocError>
+    requires line { IsLine line.old }
+    requires pivot { IsLine pivot.now }
+    requires sized { length (wholes pivot.now) ≡ length (wholes line.old) }
+    requires places { ArePlaces (wholes pivot.now) (length (wholes pivot.now)) places.now }
+    requires planned { (bound column : ℕ) × (bound < 2 ^ 127) × IsPlanned bound column line.old pivot.now factors × (pos 0 <ℤ whole_at (wholes pivot.now) column) }
+    ensures { IfOk result (λ _. (bound column : ℕ) → bound < 2 ^ 127 → pos 0 <ℤ whole_at (wholes pivot.now) column → IsPlanned bound column line.old pivot.now factors → IsLessenedLine column line.old pivot.now line.new factors) }
+{
+    if lessen_quickly(line, factors, pivot, places) {
+        return Ok(());
+    }
+    lessen_line(alloc, line, factors, pivot)
+}
+
+/// The magnitude past which a line is divided by what its parts have in common: half the bits of a word, and a little less.
+const DUE: u128 = 1 << 30;
+
+/// Divides a line by what its numbers and its denominator have in common, where it is due. The error is want of memory.
+fn reduce_past(alloc: Global, line: &mut Line) -> Result<(), AllocError>
+    requires { IsLine line.old }
+    ensures { IfOk result (λ _. IsSameLine line.old line.new) }
+{
+    if line.most <= DUE {
+        return Ok(());
+    }
+    reduce(alloc, line)
+}
+
+/// Takes from a line the multiple of the pivot line for which the factors are, and divides it where it is due. The places are those
+/// at which the pivot line has a number other than 0. The error is want of memory.
+pub(crate) fn apply(
+    alloc: Global,
+    line: &mut Line,
+    factors: Factors,
+    pivot: &Line,
+    places: &[usize],
+) -> Result<(), AllocError>
+    requires line { IsLine line.old }
+    requires pivot { IsLine pivot.now }
+    requires sized { length (wholes pivot.now) ≡ length (wholes line.old) }
+    requires places { ArePlaces (wholes pivot.now) (length (wholes pivot.now)) places.now }
+    requires planned { (bound column : ℕ) × (bound < 2 ^ 127) × IsPlanned bound column line.old pivot.now factors × (pos 0 <ℤ whole_at (wholes pivot.now) column) }
+    ensures { IfOk result (λ _. (bound column : ℕ) → bound < 2 ^ 127 → pos 0 <ℤ whole_at (wholes pivot.now) column → IsPlanned bound column line.old pivot.now factors → IsLessenedLine column line.old pivot.now line.new factors) }
+{
+    if factors.pivot == 0 {
+        return Ok(());
+    }
+    lessen(alloc, line, factors, pivot, places)?;
+    reduce_past(alloc, line)
+}
+
+/// Divides a line by what its numbers and its denominator have in common. The error is want of memory.
+pub(crate) fn reduce(alloc: Global, line: &mut Line) -> Result<(), AllocError>
+    requires { IsLine line.old }
+    ensures { IfOk result (λ _. IsSameLine line.old line.new) }
+{
+    let divisor = line.numbers.divisor_of(line.denominator);
+    if divisor == 1 {
+        return Ok(());
+    }
+    line.numbers.divide(alloc, divisor)?;
     line.denominator /= divisor;
     line.most /= divisor;
+    Ok(())
 }
 
 /// Divides a line by its number at a column, which is above 0: the whole numbers stay.
@@ -201,5 +282,6 @@ pub(crate) fn divide_pivot(line: &mut Line, column: usize)
     requires above { pos 0 <ℤ whole_at (wholes line.old) column }
     ensures { IsDividedLine column line.old line.new }
 {
-    line.denominator = line.numbers[column].unsigned_abs();
+    let number = magnitude_at(line, column);
+    line.denominator = number;
 }

@@ -1,13 +1,13 @@
 //! A line of a row that is given by fractions.
-ghost use Rattle.std.specs.Prelude.{◌≡◌, ℕ, ◌*◌, ◌<◌, ◌≤◌, ◌^◌, nat_abs, length, slice_get, Some, IfOk, MatchOption};
+ghost use Rattle.std.specs.Prelude.{◌≡◌, ℕ, ◌*◌, ◌/◌, ◌<◌, ◌≤◌, ◌^◌, nat_abs, length, slice_get, Some, IfOk, MatchOption};
 ghost use Rattle.std.specs.Int.{◌∣◌};
 ghost use Rattle.gq_number.specs.Number.{ratio};
 ghost use Rattle.lp_whole.specs.declared.parts.Part.{Part};
 ghost use Rattle.lp_whole.specs.Form.{wholes, IsLine, line_number};
-ghost use Rattle.lp_whole.specs.Parts.{AreZeros, AreThere, AreApart, IsMultiple, AreFilled, AreParts};
+ghost use Rattle.lp_whole.specs.Parts.{AreZeros, AreThere, AreApart, IsMultiple, HaveNoMultiple, HaveNoCommonMultiple, IsSomePast, HaveNoLine, AreFilled, AreParts};
 
 use crate::line::Line;
-use gq_field::gcd_of_words;
+use lp_numbers::{gcd, product_within};
 use std::alloc::{AllocError, Global};
 
 /// An entry of a row: column 0 is the constant, and variable v is column v + 1.
@@ -21,28 +21,23 @@ pub struct Part {
     pub denominator: u128,
 }
 
-/// A multiple of both; none where it would have more than 63 bits.
-fn multiple_of(m: u64, d: u128) -> Option<u64>
+/// The greatest magnitude of a part.
+const MOST: u128 = (1 << 127) - 1;
+
+/// The least common multiple of both; none where it has more than 127 bits.
+fn multiple_of(m: u128, d: u128) -> Option<u128>
     requires first { 0 < m }
     requires second { 0 < d }
-    ensures { MatchOption result (Unit {0}) (λ n. (0 < n) × (n < 2 ^ 63) × (m ∣ n) × (d ∣ n)) }
+    ensures { MatchOption result (HaveNoMultiple m d) (λ n. (0 < n) × (n < 2 ^ 127) × (m ∣ n) × (d ∣ n) × ((k : ℕ) → 0 < k → m ∣ k → d ∣ k → n ∣ k)) }
 {
-    if d >= 1 << 63 {
-        return None;
-    }
-    let d = d as u64;
-    let shared = gcd_of_words(m, d);
-    let product = (m / shared) as u128 * d as u128;
-    if product >= 1 << 63 {
-        return None;
-    }
-    Some(product as u64)
+    let shared = gcd(m, d);
+    product_within(MOST, m / shared, d)
 }
 
-/// A multiple of all denominators; none where it would have more than 63 bits.
-fn common_multiple(parts: &[Part]) -> Option<u64>
+/// The least common multiple of all denominators; none where it has more than 127 bits.
+fn common_multiple(parts: &[Part]) -> Option<u128>
     requires { (i : ℕ) (p : Part) → slice_get parts.now i ≡ Some p → 0 < p.denominator }
-    ensures { MatchOption result (Unit {0}) (IsMultiple parts.now (length parts.now)) }
+    ensures { MatchOption result (HaveNoCommonMultiple parts.now) (IsMultiple parts.now (length parts.now)) }
 {
     let mut multiple = 1;
     for i in 0..parts.len() {
@@ -54,47 +49,41 @@ fn common_multiple(parts: &[Part]) -> Option<u64>
     Some(multiple)
 }
 
-/// The whole number of a part over a multiple of its denominator; none where it has more than 63 bits.
-fn scaled(part: Part, multiple: u64) -> Option<i64>
+/// The whole number of a part over a multiple of its denominator; none where it has more than 127 bits.
+fn scaled(part: Part, multiple: u128) -> Option<i128>
     requires positive { 0 < part.denominator }
     requires some { 0 < multiple }
-    requires small { multiple < 2 ^ 63 }
+    requires small { multiple < 2 ^ 127 }
     requires divides { part.denominator ∣ multiple }
-    ensures { MatchOption result (Unit {0}) (λ n. (nat_abs n < 2 ^ 63) × (ratio n multiple ≡ ratio part.numerator part.denominator)) }
+    ensures { MatchOption result (2 ^ 127 ≤ nat_abs part.numerator * (multiple / part.denominator)) (λ n. (nat_abs n < 2 ^ 127) × (ratio n multiple ≡ ratio part.numerator part.denominator)) }
 {
-    if part.numerator.unsigned_abs() >= 1 << 63 {
+    let factor = multiple / part.denominator;
+    let Some(_magnitude) = product_within(MOST, part.numerator.unsigned_abs(), factor) else {
         return None;
-    }
-    let factor = multiple as u128 / part.denominator;
-    let number = part.numerator * factor as i128;
-    if number.unsigned_abs() >= 1 << 63 {
-        return None;
-    }
-    Some(number as i64)
+    };
+    Some(part.numerator * factor as i128)
 }
 
 /// So many zeros.
-fn zeros(alloc: Global, count: usize) -> Result<Vec<i64>, AllocError>
+fn zeros(alloc: Global, count: usize) -> Result<Vec<i128>, AllocError>
     ensures { IfOk result (λ list. AreZeros count list.items) }
 {
-    let mut list = Vec::with_capacity(alloc, count)?;
-    for _place in 0..count {
-        list.push(0)?;
-    }
+    let mut list = Vec::new(alloc);
+    list.resize(count, 0)?;
     Ok(list)
 }
 
-/// The whole numbers of a row over a multiple of all denominators; none where one has more than 63 bits.
+/// The whole numbers of a row over a multiple of all denominators; none where one has more than 127 bits.
 fn fill(
     alloc: Global,
     width: usize,
     parts: &[Part],
-    multiple: u64,
-) -> Result<Option<Vec<i64>>, AllocError>
+    multiple: u128,
+) -> Result<Option<Vec<i128>>, AllocError>
     requires there { AreThere width parts.now }
     requires apart { AreApart parts.now }
     requires multiple { IsMultiple parts.now (length parts.now) multiple }
-    ensures { IfOk result (λ o. MatchOption o (Unit {0}) (λ numbers. AreFilled parts.now multiple width (length parts.now) numbers.items)) }
+    ensures { IfOk result (λ o. MatchOption o (IsSomePast parts.now multiple) (λ numbers. AreFilled parts.now multiple width (length parts.now) numbers.items)) }
 {
     let mut numbers = zeros(alloc, width)?;
     for i in 0..parts.len() {
@@ -107,8 +96,8 @@ fn fill(
     Ok(Some(numbers))
 }
 
-/// The line of so many columns that has these parts, and 0 elsewhere; none where some part of it has more than 63 bits. The error
-/// is want of memory.
+/// The line of so many columns that has these parts, and 0 elsewhere; none exactly where over each common multiple of the
+/// denominators that has at most 127 bits the whole number of some part has more. The error is want of memory.
 pub fn line_of_parts(
     alloc: Global,
     width: usize,
@@ -118,13 +107,15 @@ pub fn line_of_parts(
     requires apart { AreApart parts.now }
     ensures line { IfOk result (λ o. MatchOption o (Unit {0}) (λ l. IsLine l × (length (wholes l) ≡ width))) }
     ensures numbers { IfOk result (λ o. MatchOption o (Unit {0}) (λ l. AreParts parts.now (line_number l))) }
+    ensures none { IfOk result (λ o. MatchOption o (HaveNoLine parts.now) (λ _. Unit {0})) }
 {
     let Some(multiple) = common_multiple(parts) else {
         return Ok(None);
     };
-    let numbers = fill(alloc, width, parts, multiple)?;
-    match numbers {
-        Some(numbers) => Ok(Some(Line::new(numbers, multiple))),
-        None => Ok(None),
-    }
+    let filled = fill(alloc, width, parts, multiple)?;
+    let Some(numbers) = filled else {
+        return Ok(None);
+    };
+    let line = Line::new(alloc, numbers, multiple)?;
+    Ok(Some(line))
 }

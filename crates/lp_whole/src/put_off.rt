@@ -1,12 +1,11 @@
 //! What putting variable 0 off does to lines: the line in which it is has its number above 0, and where it has left there is none.
 ghost use Rattle.std.specs.Prelude.{◌≡◌, ◌≢◌, ℕ, ◌<◌, pos, length, slice_get, Some};
 ghost use Rattle.lp_whole.specs.declared.line.Line.{Line};
-ghost use Rattle.lp_whole.specs.Lines.{whole_at};
+ghost use Rattle.lp_numbers.specs.Lines.{whole_at};
 ghost use Rattle.lp_whole.specs.Form.{wholes, IsLine, AreLines, IsForgottenLine, IsRaisedLine, AreForgotten, IsRaisedAt, AreSwapped};
 
 use crate::exchange::{no_line, put_line};
 use crate::line::{Line, number_at};
-use crate::numbers::negate;
 use std::alloc::Global;
 
 /// Takes the number of variable 0 from a line.
@@ -15,7 +14,7 @@ fn forget(line: &mut Line)
     requires within { 1 < length (wholes line.old) }
     ensures { IsForgottenLine line.old line.new }
 {
-    line.numbers[1] = 0;
+    line.numbers.clear(1);
 }
 
 /// Takes the number of variable 0 from each line.
@@ -38,7 +37,7 @@ fn raise(line: &mut Line)
 {
     let number = number_at(line, 1);
     if number < 0 {
-        negate(line.numbers.as_mut_slice());
+        line.numbers.negate();
     }
 }
 

@@ -1,23 +1,23 @@
 //! The numbers that lines stand for.
 ghost use Rattle.std.specs.Prelude.{◌≡◌, ℕ, ◌+◌, ◌*◌, ◌<◌, ◌≤◌, ◌^◌, pos, ◌<ℤ◌, ◌-ℤ◌, ◌*ℤ◌, nat_abs, length};
 ghost use Rattle.gq_number.specs.Number.{ratio};
-ghost use Rattle.lp_whole.specs.Lines.{whole_at};
+ghost use Rattle.lp_numbers.specs.Lines.{whole_at};
 ghost use Rattle.lp_whole.specs.Form.{wholes, IsLine, lines_number, numbers_above};
 ghost use Rattle.lp_whole.specs.Room.{AreWhole, HasRoom, row_denominator};
 
 use crate::line::{Line, magnitude_at, number_at};
-use crate::numbers::cross_difference;
 
 /// A number: a whole number over another that is above 0.
 #[derive(Clone, Copy)]
 pub struct Fraction {
     /// The whole number.
-    pub numerator: i64,
+    pub numerator: i128,
     /// What it is over.
-    pub denominator: u64,
+    pub denominator: u128,
 }
 
 /// The number of a line at a column.
+#[inline(always)]
 fn read_own(line: &Line, column: usize) -> Fraction
     requires line { IsLine line.now }
     requires within { column < length (wholes line.now) }
@@ -31,6 +31,7 @@ fn read_own(line: &Line, column: usize) -> Fraction
 }
 
 /// The number of the line of variable 0, which is put off there, at a column.
+#[inline(always)]
 fn read_pivot(pivot: &Line, column: usize) -> Fraction
     requires line { IsLine pivot.now }
     requires within { (column < length (wholes pivot.now)) × (1 < length (wholes pivot.now)) }
@@ -44,21 +45,18 @@ fn read_pivot(pivot: &Line, column: usize) -> Fraction
 }
 
 /// The number of a line at a column in the dictionary that the exchange of variable 0 into the pivot line makes.
+#[inline(always)]
 fn read_above(line: &Line, pivot: &Line, column: usize) -> Fraction
     requires line { IsLine line.now }
     requires pivot { IsLine pivot.now }
     requires within { column < length (wholes line.now) }
     requires sized { length (wholes pivot.now) ≡ length (wholes line.now) }
     requires zero { 1 < length (wholes line.now) }
-    requires room { line.now.most * nat_abs (whole_at (wholes pivot.now) 1) + nat_abs (whole_at (wholes line.now) 1) * pivot.now.most < 2 ^ 63 }
+    requires room { line.now.most * nat_abs (whole_at (wholes pivot.now) 1) + nat_abs (whole_at (wholes line.now) 1) * pivot.now.most < 2 ^ 127 }
     ensures numerator { result.numerator ≡ whole_at (wholes pivot.now) 1 *ℤ whole_at (wholes line.now) column -ℤ whole_at (wholes line.now) 1 *ℤ whole_at (wholes pivot.now) column }
     ensures denominator { result.denominator ≡ nat_abs (whole_at (wholes pivot.now) 1) * line.now.denominator }
 {
-    let u = number_at(pivot, 1);
-    let n = number_at(line, column);
-    let f = number_at(line, 1);
-    let x = number_at(pivot, column);
-    let numerator = cross_difference(u, n, f, x);
+    let numerator = line.numbers.cross_at(&pivot.numbers, 1, column);
     let denominator = magnitude_at(pivot, 1) * line.denominator;
     Fraction {
         numerator,
@@ -67,6 +65,7 @@ fn read_above(line: &Line, pivot: &Line, column: usize) -> Fraction
 }
 
 /// The number of a row, or behind the rows of the objective, at a column.
+#[inline(always)]
 pub(crate) fn read(lines: &[Line], deferred: Option<usize>, place: usize, column: usize) -> Fraction
     requires lines { (width bound : ℕ) × AreWhole lines.now deferred width bound × (column < width) }
     requires within { place < length lines.now }

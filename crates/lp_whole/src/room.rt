@@ -1,37 +1,32 @@
 //! Whether there is room below the bound for what lines stand for where variable 0 is put off.
-ghost use Rattle.std.specs.Prelude.{◌≡◌, ℕ, ◌+◌, ◌-◌, ◌*◌, ◌<◌, ◌≤◌, ◌^◌, ◌-ℤ◌, ◌*ℤ◌, nat_abs, length, slice_get, Some, IsTrue, ◌↔◌};
+ghost use Rattle.std.specs.Prelude.{◌≡◌, ℕ, ◌+◌, ◌-◌, ◌*◌, ◌<◌, ◌≤◌, ◌^◌, ◌-ℤ◌, ◌*ℤ◌, nat_abs, length, slice_get, Some, false, IsTrue, ◌↔◌};
 ghost use Rattle.lp_whole.specs.declared.line.Line.{Line};
 ghost use Rattle.lp_whole.specs.declared.line.Factors.{Factors};
-ghost use Rattle.lp_whole.specs.Lines.{whole_at};
+ghost use Rattle.lp_numbers.specs.Lines.{whole_at};
 ghost use Rattle.lp_whole.specs.Form.{wholes, IsLine, AreLines, AreBounded, IsPlan};
-ghost use Rattle.lp_whole.specs.Room.{HasRoomFor, KeepsRoom};
+ghost use Rattle.lp_whole.specs.Room.{HasRoomFor, KeepsRoom, AreFactorsWithin, IsSomeGreat};
 
 use crate::line::{Factors, Line, magnitude_at, number_at};
-use crate::numbers::cross_difference;
+use lp_numbers::{cross_difference, sum_within};
 
 /// Whether `most` times `u` and `zero` times `other` together are at most a bound.
 #[inline(always)]
-fn fits(most: u64, u: u64, zero: u64, other: u64, bound: u64) -> bool
-    requires first { most < 2 ^ 63 }
-    requires second { u < 2 ^ 63 }
-    requires third { zero < 2 ^ 63 }
-    requires fourth { other < 2 ^ 63 }
+fn fits(most: u128, u: u128, zero: u128, other: u128, bound: u128) -> bool
+    requires { bound < 2 ^ 127 }
     ensures { IsTrue result ↔ (most * u + zero * other ≤ bound) }
 {
-    let first = most as u128 * u as u128;
-    let second = zero as u128 * other as u128;
-    first + second <= bound as u128
+    sum_within(bound, most, u, zero, other).is_some()
 }
 
 /// The magnitude of the number of variable 0 of a line after an exchange by its factors.
-fn magnitude_after(line: &Line, pivot: &Line, factors: Factors) -> u64
+fn magnitude_after(line: &Line, pivot: &Line, factors: Factors) -> u128
     requires line { IsLine line.now }
     requires pivot { IsLine pivot.now }
     requires within { 1 < length (wholes line.now) }
     requires also_within { 1 < length (wholes pivot.now) }
-    requires room { nat_abs factors.line * line.now.most + nat_abs factors.pivot * pivot.now.most ≤ 2 ^ 63 - 1 }
+    requires room { nat_abs factors.line * line.now.most + nat_abs factors.pivot * pivot.now.most ≤ 2 ^ 127 - 1 }
     ensures value { result ≡ nat_abs (factors.line *ℤ whole_at (wholes line.now) 1 -ℤ factors.pivot *ℤ whole_at (wholes pivot.now) 1) }
-    ensures small { result < 2 ^ 63 }
+    ensures small { result < 2 ^ 127 }
 {
     let left = cross_difference(
         factors.line,
@@ -43,10 +38,11 @@ fn magnitude_after(line: &Line, pivot: &Line, factors: Factors) -> u64
 }
 
 /// Whether there is room for the exchange of variable 0 into row `k`.
-pub(crate) fn has_room(lines: &[Line], k: usize, bound: u64) -> bool
+pub(crate) fn has_room(lines: &[Line], k: usize, bound: u128) -> bool
+    requires small { bound < 2 ^ 127 }
     requires lines { (width : ℕ) × AreLines width lines.now × (1 < width) }
     requires within { k < length lines.now }
-    ensures { (p : Line) → slice_get lines.now k ≡ Some p → IsTrue result → HasRoomFor k p lines.now bound }
+    ensures { (p : Line) → slice_get lines.now k ≡ Some p → IsTrue result ↔ HasRoomFor k p lines.now bound }
 {
     let pivot = &lines[k];
     let u = magnitude_at(pivot, 1);
@@ -60,18 +56,34 @@ pub(crate) fn has_room(lines: &[Line], k: usize, bound: u64) -> bool
     pivot.most <= bound
 }
 
-/// Whether after an exchange by these factors there is room for that of variable 0 into the row of the variable that leaves.
-pub(crate) fn keeps_room(
-    lines: &[Line],
-    plans: &[Factors],
-    place: usize,
-    leaving: usize,
-    bound: u64,
-) -> bool
+/// A magnitude that no part of any line passes after an exchange by these factors.
+fn top_after(plans: &[Factors]) -> u128
+    ensures { AreFactorsWithin result plans.now }
+{
+    let mut top = 0;
+    for i in 0..plans.len() {
+        top = top.max(plans[i].most);
+    }
+    top
+}
+
+/// Whether twice the square of a magnitude that no part of any line passes after an exchange by these factors is at most the bound.
+fn is_small_after(plans: &[Factors], bound: u128) -> bool
+    requires { bound < 2 ^ 127 }
+    ensures { IsTrue result → (top : ℕ) × AreFactorsWithin top plans.now × (top * top + top * top ≤ bound) }
+{
+    let top = top_after(plans);
+    fits(top, top, top, top, bound)
+}
+
+/// Whether after an exchange by these factors there is room, row by row, for that of variable 0 into the row of the variable that
+/// leaves.
+fn keeps_each(lines: &[Line], plans: &[Factors], place: usize, leaving: usize, bound: u128) -> bool
+    requires small { bound < 2 ^ 127 }
     requires lines { (width : ℕ) × AreLines width lines.now × (1 < width) }
     requires within { (place < length lines.now) × (leaving < length lines.now) }
     requires planned { (column : ℕ) × ((p : Line) → slice_get lines.now place ≡ Some p → IsPlan bound column place lines.now p plans.now) }
-    ensures { (p l : Line) (g : Factors) → slice_get lines.now place ≡ Some p → slice_get lines.now leaving ≡ Some l → slice_get plans.now leaving ≡ Some g → IsTrue result → KeepsRoom leaving p l g lines.now plans.now bound }
+    ensures { (p l : Line) (g : Factors) → slice_get lines.now place ≡ Some p → slice_get lines.now leaving ≡ Some l → slice_get plans.now leaving ≡ Some g → IsTrue result ↔ KeepsRoom leaving p l g lines.now plans.now bound }
 {
     let pivot = &lines[place];
     let of_leaving = plans[leaving];
@@ -86,9 +98,31 @@ pub(crate) fn keeps_room(
     true
 }
 
+/// Whether after an exchange by these factors there is room for that of variable 0 into the row of the variable that leaves: first
+/// by one magnitude, then row by row.
+pub(crate) fn keeps_room(
+    lines: &[Line],
+    plans: &[Factors],
+    place: usize,
+    leaving: usize,
+    bound: u128,
+) -> bool
+    requires small { bound < 2 ^ 127 }
+    requires lines { (width : ℕ) × AreLines width lines.now × (1 < width) }
+    requires within { (place < length lines.now) × (leaving < length lines.now) }
+    requires planned { (column : ℕ) × ((p : Line) → slice_get lines.now place ≡ Some p → IsPlan bound column place lines.now p plans.now) }
+    ensures { (p l : Line) (g : Factors) → slice_get lines.now place ≡ Some p → slice_get lines.now leaving ≡ Some l → slice_get plans.now leaving ≡ Some g → IsTrue result ↔ KeepsRoom leaving p l g lines.now plans.now bound }
+{
+    if is_small_after(plans, bound) {
+        return true;
+    }
+    keeps_each(lines, plans, place, leaving, bound)
+}
+
 /// Whether no part of these lines passes a bound.
-pub(crate) fn all_within(lines: &[Line], bound: u64) -> bool
-    ensures { IsTrue result → AreBounded bound lines.now }
+pub(crate) fn all_within(lines: &[Line], bound: u128) -> bool
+    ensures within { IsTrue result → AreBounded bound lines.now }
+    ensures great { result ≡ false → IsSomeGreat bound lines.now }
 {
     for i in 0..lines.len() {
         if lines[i].most > bound {

@@ -3,21 +3,12 @@ ghost use Rattle.std.specs.Prelude.{◌≡◌, ℕ, ◌<◌, ◌^◌, pos, true,
 ghost use Rattle.gq_number.specs.Number.{whole};
 ghost use Rattle.gq_number.specs.Order.{◌<ℚ◌};
 ghost use Rattle.lp_whole.specs.Form.{AreLines, AreBounded, AreSameLines, lines_number};
-ghost use Rattle.lp_whole.specs.Room.{IsRoomyPlan, AreTurnedInRoom};
+ghost use Rattle.lp_whole.specs.Room.{IsRoomyPlan, AreTurnedInRoom, LinesHaveNoRoom};
 
 use crate::exchange::{exchange_lines, plan_lines, reduce_lines};
 use crate::line::{Factors, Line};
 use crate::room::keeps_room;
 use std::alloc::{AllocError, Global};
-
-/// The magnitude past which lines are divided by what their parts have in common: half the bits of the bound, and a little less.
-fn due_at(bound: u64) -> u64 {
-    if bound > u32::MAX as u64 {
-        1 << 30
-    } else {
-        1 << 14
-    }
-}
 
 /// The factors of an exchange at a place and a column, where there is room for it and for what comes after it.
 fn plan_once(
@@ -26,14 +17,14 @@ fn plan_once(
     place: usize,
     leaving: usize,
     column: usize,
-    bound: u64,
+    bound: u128,
 ) -> Result<Option<Vec<Factors>>, AllocError>
     requires lines { (width : ℕ) × AreLines width lines.now × (1 < width) × (column < width) }
     requires within { (place < length lines.now) × (leaving < length lines.now) }
-    requires small { bound < 2 ^ 63 }
+    requires small { bound < 2 ^ 127 }
     requires bounded { AreBounded bound lines.now }
     requires above { whole (pos 0) <ℚ lines_number lines.now place column }
-    ensures { IfOk result (λ o. MatchOption o (Unit {0}) (λ plans. IsRoomyPlan bound column place leaving lines.now plans.items)) }
+    ensures { IfOk result (λ o. MatchOption o (LinesHaveNoRoom bound column place leaving lines.now) (λ plans. IsRoomyPlan bound column place leaving lines.now plans.items)) }
 {
     let plans = plan_lines(alloc, lines, place, column, &lines[place], bound)?;
     let Some(plans) = plans else {
@@ -55,21 +46,21 @@ fn plan_exchange(
     place: usize,
     leaving: usize,
     column: usize,
-    bound: u64,
+    bound: u128,
 ) -> Result<Option<Vec<Factors>>, AllocError>
     requires lines { (width : ℕ) × AreLines width lines.old.items × (1 < width) × (column < width) }
     requires within { (place < length lines.old.items) × (leaving < length lines.old.items) }
-    requires small { bound < 2 ^ 63 }
+    requires small { bound < 2 ^ 127 }
     requires bounded { AreBounded bound lines.old.items }
     requires above { whole (pos 0) <ℚ lines_number lines.old.items place column }
-    ensures same { AreSameLines lines.old.items lines.new.items }
-    ensures planned { IfOk result (λ o. MatchOption o (Unit {0}) (λ plans. IsRoomyPlan bound column place leaving lines.new.items plans.items)) }
+    ensures same { IfOk result (λ _. AreSameLines lines.old.items lines.new.items) }
+    ensures planned { IfOk result (λ o. MatchOption o (LinesHaveNoRoom bound column place leaving lines.new.items) (λ plans. IsRoomyPlan bound column place leaving lines.new.items plans.items)) }
 {
     let plans = plan_once(alloc, lines.as_slice(), place, leaving, column, bound)?;
     if plans.is_some() {
         return Ok(plans);
     }
-    reduce_lines(lines);
+    reduce_lines(alloc, lines)?;
     plan_once(alloc, lines.as_slice(), place, leaving, column, bound)
 }
 
@@ -81,20 +72,21 @@ pub(crate) fn turn_lines(
     place: usize,
     leaving: usize,
     column: usize,
-    bound: u64,
+    bound: u128,
 ) -> Result<bool, AllocError>
     requires lines { (width : ℕ) × AreLines width lines.old.items × (1 < width) × (column < width) }
     requires within { (place < length lines.old.items) × (leaving < length lines.old.items) }
-    requires small { bound < 2 ^ 63 }
+    requires small { bound < 2 ^ 127 }
     requires bounded { AreBounded bound lines.old.items }
     requires above { whole (pos 0) <ℚ lines_number lines.old.items place column }
     ensures turned { IfOk result (λ done. done ≡ true → AreTurnedInRoom bound column place leaving lines.old.items lines.new.items) }
     ensures same { IfOk result (λ done. done ≡ false → AreSameLines lines.old.items lines.new.items) }
+    ensures none { IfOk result (λ done. done ≡ false → LinesHaveNoRoom bound column place leaving lines.new.items) }
 {
     let plans = plan_exchange(alloc, lines, place, leaving, column, bound)?;
     let Some(plans) = plans else {
         return Ok(false);
     };
-    exchange_lines(alloc, lines, plans.as_slice(), place, column, due_at(bound));
+    exchange_lines(alloc, lines, plans.as_slice(), place, column)?;
     Ok(true)
 }

@@ -1,17 +1,21 @@
 //! The dictionary by whole numbers.
-ghost use Rattle.std.specs.Prelude.{◌≡◌, ◌≢◌, ℕ, ◌+◌, ◌*◌, ◌<◌, ◌≤◌, ◌^◌, pos, nat_abs, length, slice_get, Some, None, IfOk, IfErr, MatchOption, Contains};
+ghost use Rattle.std.specs.Prelude.{◌≡◌, ◌≢◌, ℕ, ◌+◌, ◌<◌, ◌≤◌, ◌^◌, pos, nat_abs, length, slice_get, Some, None, false, IfOk, IfErr, IsTrue, MatchOption, Contains};
 ghost use Rattle.gq_number.specs.Number.{whole, ratio};
 ghost use Rattle.lp_core.specs.Dictionary.{OpeningIsDue, IsOpening, IsBland, IsLegal, Improves, exchanged};
 ghost use Rattle.lp_core.specs.LargestCoefficient.{HasGreatest};
 ghost use Rattle.lp_core.specs.Steps.{AllFit, ratio_steps, exchange_steps};
 ghost use Rattle.lp_exact.specs.Pivots.{IsProper, IsLeaving};
 ghost use Rattle.lp_exact.specs.Tableau.{IsPlace};
-ghost use Rattle.lp_whole.specs.Whole.{dictionary, whole_dictionary, IsPivoted};
-ghost use Rattle.lp_whole.specs.Form.{AreLines};
+ghost use Rattle.lp_whole.specs.Whole.{dictionary, whole_dictionary, AreCrowded, IsPivotCrowded, IsPivoted};
+ghost use Rattle.lp_whole.specs.Pairs.{IsSomePairCrowded};
+ghost use Rattle.lp_whole.specs.Form.{AreLines, AreBounded};
+ghost use Rattle.lp_whole.specs.Room.{IsSomeGreat};
 
 use crate::choice::{first_above, least_constant, least_ratio};
 use crate::coefficients::greatest_above;
+use crate::exchange::reduce_lines;
 use crate::line::Line;
+use crate::pairs::pairs_fit;
 use crate::put_off::{forget_zero, raise_at, swap_lines};
 use crate::read::{Fraction, read};
 use crate::room::{all_within, has_room};
@@ -31,7 +35,7 @@ pub struct Whole {
     basic: Vec<u32>,
     lines: Vec<Line>,
     deferred: Option<usize>,
-    bound: u64,
+    bound: u128,
 }
 
 impl Model for Whole {
@@ -57,17 +61,18 @@ fn place_among(basic: &[u32], variable: u32) -> Option<usize>
 }
 
 impl Whole {
-    /// The dictionary of these lines: one for each basic variable, and behind them that of the objective. None where some part of
-    /// them passes the bound. Variable 0 is not basic.
-    pub fn of_lines(variables: u32, basic: Vec<u32>, lines: Vec<Line>, bound: u64) -> Option<Whole>
+    /// The dictionary of these lines: one for each basic variable, and behind them that of the objective. None exactly where the
+    /// greatest magnitude of some line passes the bound. Variable 0 is not basic.
+    pub fn of_lines(variables: u32, basic: Vec<u32>, lines: Vec<Line>, bound: u128) -> Option<Whole>
         requires sized { variables + 2 < 2 ^ 32 }
-        requires small { bound < 2 ^ 63 }
+        requires small { bound < 2 ^ 127 }
         requires paired { length lines.items ≡ length basic.items + 1 }
         requires lines { AreLines (variables + 2) lines.items }
         requires phase { ¬ (Contains basic.items 0) }
         requires proper { IsProper (whole_dictionary variables basic.items lines.items None) }
         ensures dictionary { MatchOption result (Unit {0}) (λ w. dictionary w ≡ whole_dictionary variables basic.items lines.items None) }
         ensures bound { MatchOption result (Unit {0}) (λ w. w.bound ≡ bound) }
+        ensures none { MatchOption result (IsSomeGreat bound lines.items) (λ _. AreBounded bound lines.items) }
     {
         if !all_within(lines.as_slice(), bound) {
             return None;
@@ -158,7 +163,7 @@ impl Whole {
     pub fn leaving(&self, enter: u32) -> Option<u32>
         requires { Improves (dictionary self.now) enter }
         ensures choice { IsLeaving (dictionary self.now) enter result }
-        ensures fits { (limit pivot : ℕ) → 2 * (self.now.bound * self.now.bound) ≤ limit → AllFit (ratio_steps limit pivot (dictionary self.now) enter) }
+        ensures fits { (limit pivot : ℕ) → self.now.bound ≤ limit → AllFit (ratio_steps limit pivot (dictionary self.now) enter) }
     {
         match least_ratio(
             self.lines.as_slice(),
@@ -338,18 +343,15 @@ impl Whole {
         Ok(Ok(after))
     }
 
-    /// The dictionary after a legal pivot, in which `p.enter` stands in the row of `p.leave`, as the inner `Ok`; variable 0 is
-    /// dropped where it leaves. The inner `Err` is the same dictionary, where its whole numbers might pass the bound.
-    ///
-    /// The error is want of memory; after it the dictionary is gone.
-    pub fn pivot(self, alloc: Global, p: Pivot) -> Result<Result<Whole, Whole>, AllocError>
+    /// The dictionary after a legal pivot, as the inner `Ok`; or the same one, where its whole numbers might pass the bound. The
+    /// error is want of memory.
+    fn turned(self, alloc: Global, p: Pivot) -> Result<Result<Whole, Whole>, AllocError>
         requires { (k : ℕ) × IsLegal (dictionary self) p k }
         ensures exchanged { IfOk result (λ r. IfOk r (λ after. (k : ℕ) → slice_get self.basic k ≡ Some p.leave →
             dictionary after ≡ exchanged (dictionary self) p.enter k)) }
         ensures bound { IfOk result (λ r. IfOk r (λ after. after.bound ≡ self.bound)) }
         ensures same { IfOk result (λ r. IfErr r (λ same. (dictionary same ≡ dictionary self) × (same.bound ≡ self.bound))) }
-        ensures fits { (limit pivot k : ℕ) → 2 * (self.bound * self.bound) ≤ limit → slice_get self.basic k ≡ Some p.leave →
-            AllFit (exchange_steps limit pivot (dictionary self) p.enter k) }
+        ensures none { IfOk result (λ r. IfErr r (λ same. (k : ℕ) → slice_get self.basic k ≡ Some p.leave → AreCrowded same p k)) }
     {
         let Some(place) = place_among(self.basic.as_slice(), p.leave) else {
             unreachable!();
@@ -366,11 +368,80 @@ impl Whole {
         self.step_other(alloc, p, place, k)
     }
 
+    /// Whether each step of a legal pivot stays within the bound, by the parts of each two rows.
+    fn fits(&self, p: Pivot) -> bool
+        requires { (k : ℕ) × IsLegal (dictionary self.now) p k }
+        ensures fits { IsTrue result → (limit pivot k : ℕ) → self.now.bound ≤ limit → slice_get self.now.basic k ≡ Some p.leave →
+            AllFit (exchange_steps limit pivot (dictionary self.now) p.enter k) }
+        ensures none { result ≡ false → (k : ℕ) → slice_get self.now.basic k ≡ Some p.leave →
+            IsSomePairCrowded self.now.lines self.now.deferred k (p.enter + 1) self.now.bound }
+    {
+        let Some(place) = place_among(self.basic.as_slice(), p.leave) else {
+            return false;
+        };
+        let column = p.enter as usize + 1;
+        pairs_fit(
+            self.lines.as_slice(),
+            self.deferred,
+            place,
+            column,
+            self.bound,
+        )
+    }
+
+    /// The same dictionary, each line divided by what its parts have in common. The error is want of memory.
+    fn reduced(self, alloc: Global) -> Result<Whole, AllocError>
+        ensures same { IfOk result (λ same. dictionary same ≡ dictionary self) }
+        ensures bound { IfOk result (λ same. same.bound ≡ self.bound) }
+    {
+        let Whole {
+            variables,
+            basic,
+            mut lines,
+            deferred,
+            bound,
+        } = self;
+        reduce_lines(alloc, &mut lines)?;
+        let same = Whole {
+            variables,
+            basic,
+            lines,
+            deferred,
+            bound,
+        };
+        Ok(same)
+    }
+
+    /// The dictionary after a legal pivot, in which `p.enter` stands in the row of `p.leave`, as the inner `Ok`; variable 0 is
+    /// dropped where it leaves. The inner `Err` is the same dictionary, where some row has no room together with that of `p.leave`,
+    /// or the lines have none: their numbers, or those of a step on the way, might pass the bound.
+    ///
+    /// The error is want of memory; after it the dictionary is gone.
+    pub fn pivot(self, alloc: Global, p: Pivot) -> Result<Result<Whole, Whole>, AllocError>
+        requires { (k : ℕ) × IsLegal (dictionary self) p k }
+        ensures exchanged { IfOk result (λ r. IfOk r (λ after. (k : ℕ) → slice_get self.basic k ≡ Some p.leave →
+            dictionary after ≡ exchanged (dictionary self) p.enter k)) }
+        ensures bound { IfOk result (λ r. IfOk r (λ after. after.bound ≡ self.bound)) }
+        ensures same { IfOk result (λ r. IfErr r (λ same. (dictionary same ≡ dictionary self) × (same.bound ≡ self.bound))) }
+        ensures fits { IfOk result (λ r. IfOk r (λ _. (limit pivot k : ℕ) → self.bound ≤ limit → slice_get self.basic k ≡ Some p.leave →
+            AllFit (exchange_steps limit pivot (dictionary self) p.enter k))) }
+        ensures none { IfOk result (λ r. IfErr r (λ same. (k : ℕ) → slice_get self.basic k ≡ Some p.leave → IsPivotCrowded same p k)) }
+    {
+        if self.fits(p) {
+            return self.turned(alloc, p);
+        }
+        let same = self.reduced(alloc)?;
+        if same.fits(p) {
+            return same.turned(alloc, p);
+        }
+        Ok(Err(same))
+    }
+
     /// What each of them keeps: a law, which does nothing.
     pub fn keeps(&self)
         ensures proper { IsProper (dictionary self.now) }
         ensures sized { self.now.variables + 2 < 2 ^ 32 }
-        ensures bound { self.now.bound < 2 ^ 63 }
+        ensures bound { self.now.bound < 2 ^ 127 }
         ensures past { (k c : ℕ) → length self.now.basic ≤ k → (dictionary self.now).numbers k c ≡ (dictionary self.now).numbers (length self.now.basic) c }
         ensures outside { (k c : ℕ) → self.now.variables + 2 ≤ c → (dictionary self.now).numbers k c ≡ whole (pos 0) }
     {

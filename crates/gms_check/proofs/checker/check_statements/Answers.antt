@@ -1,18 +1,18 @@
-use Rattle.std.proofs.Common.{◌≡◌, ◌∙◌, ◌++◌, ◌<◌, ◌≤◌, ap, sym, subst, refl, length, get_or, List}
+use Rattle.std.proofs.Common.{◌≡◌, ◌∙◌, ◌++◌, ◌<◌, ◌≤◌, ap, sym, subst, refl, length, get_or, List, Option}
 use Rattle.std.specs.Prelude.{ℕ}
 use Rattle.gms_ast.specs.declared.program.Stmt.{Stmt}
 use Rattle.gms_known.specs.Facts.{Facts, first_facts}
 use Rattle.gms_check.specs.declared.error.CompileError.{CompileError}
 use Rattle.gms_check.specs.Checking.{Checking, known_by, seen}
 use Rattle.gms_check.specs.CompileErrors.{statement_error}
-use Rattle.gms_check.proofs.PastErrors.{errors-all, errors-end, errors-step, errors_from}
+use Rattle.gms_check.proofs.PastErrors.{each-all, each-end, each-step, each_from}
 use Rattle.gms_check.proofs.checker.check_statements.Goals as goal
 
 pub loop-statement-init : goal.loop-statement-init
 loop-statement-init g c = record {
   solvers = refl;
   first = c.requires.first;
-  errors = ap (λ (es : List CompileError). es ++ errors_from g.F.ExactField.value (seen c.args.checker.now).solvers (seen c.args.checker.now).facts c.args.program.now.statements.items) c.new-errors.ensures.items ∙ ap (λ (f : Facts). errors_from g.F.ExactField.value (seen c.args.checker.now).solvers f c.args.program.now.statements.items) c.requires.facts;
+  errors = ap (λ (es : List (Option CompileError)). es ++ each_from g.F.ExactField.value (seen c.args.checker.now).solvers (seen c.args.checker.now).facts c.args.program.now.statements.items) c.new-errors.ensures.items ∙ ap (λ (f : Facts). each_from g.F.ExactField.value (seen c.args.checker.now).solvers f c.args.program.now.statements.items) c.requires.facts;
 }
 
 pub statement-requires : goal.statement-requires
@@ -32,7 +32,7 @@ loop-statement-preserved g c =
     record {
       solvers = ap (λ (u : Checking). u.solvers) ensures.facts ∙ invariant.solvers;
       first = ap (λ (u : Checking). u.first) ensures.facts;
-      errors = errors-step value solvers program.statements.items c.loop-statement.statement-index statement c.loop-statement.errors.items _ now.facts _ c.in_ok-error.error (errors_from value solvers (first_facts program) program.statements.items) there is (ensures.error ∙ ap (λ (s : List (List ℕ)). statement_error (known_by value s now.facts) statement) invariant.solvers) (ap (λ (u : Checking). u.facts) ensures.facts) c.in_ok-put_last.ensures invariant.errors;
+      errors = each-step value solvers program.statements.items c.loop-statement.statement-index statement c.loop-statement.errors.items _ now.facts _ c.in_ok-error.error (each_from value solvers (first_facts program) program.statements.items) there is (ensures.error ∙ ap (λ (s : List (List ℕ)). statement_error (known_by value s now.facts) statement) invariant.solvers) (ap (λ (u : Checking). u.facts) ensures.facts) c.in_ok-push.ensures.items invariant.errors;
     }
 
 pub returns : goal.returns
@@ -40,4 +40,4 @@ returns g c =
     let value = g.F.ExactField.value in
     let program = c.args.program.now in
     let solvers = (seen c.args.checker.now).solvers in
-    errors-end value solvers program.statements.items c.loop-statement.statement-index c.loop-statement.errors.items (seen c.loop-statement.checker).facts (errors_from value solvers (first_facts program) program.statements.items) (subst (λ (xs : List (Stmt _)). length xs ≤ c.loop-statement.statement-index) c.deref-statement-items.ensures.value c.loop-statement-test.false) c.loop-statement.invariant.errors ∙ errors-all value solvers program
+    each-end value solvers program.statements.items c.loop-statement.statement-index c.loop-statement.errors.items (seen c.loop-statement.checker).facts (each_from value solvers (first_facts program) program.statements.items) (subst (λ (xs : List (Stmt _)). length xs ≤ c.loop-statement.statement-index) c.deref-statement-items.ensures.value c.loop-statement-test.false) c.loop-statement.invariant.errors ∙ each-all value solvers program

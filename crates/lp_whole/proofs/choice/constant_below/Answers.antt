@@ -1,4 +1,5 @@
-use Rattle.std.proofs.Common.{rules, ◌<ℤ◌, pos, FitsSigned, w64, sym, subst, arith}
+use Rattle.std.proofs.Common.{rules, ◌<ℤ◌, pos, FitsSigned, sym, subst, arith}
+use Rattle.std.specs.Int.{w128}
 use Rattle.std.proofs.lemmas.Int.{ints, to_z-of_z}
 use Rattle.gq_number.specs.Number.{whole}
 use Rattle.gq_number.specs.Order.{◌<ℚ◌}
@@ -7,8 +8,8 @@ use Rattle.lp_whole.proofs.choice.constant_below.Goals as goal
 
 pub returns-then-constant-lt0 : goal.returns-then-constant-lt0
 returns-then-constant-lt0 c =
-    let fits : FitsSigned w64 c.read-constant.result.numerator = search rules in
-    let is = to_z-of_z w64 c.read-constant.result.numerator fits in
+    let fits : FitsSigned w128 c.read-constant.result.numerator = search rules in
+    let is = to_z-of_z w128 c.read-constant.result.numerator fits in
     let told = c.if-constant-lt0.true in
     let below : c.read-constant.result.numerator <ℤ pos 0 = omega (arith, ints) in
     let w = c.requires.lines.2 in
@@ -21,8 +22,8 @@ returns-then-constant-lt0 c =
 
 pub returns-else-constant-lt0 : goal.returns-else-constant-lt0
 returns-else-constant-lt0 c = λ below.
-    let fits : FitsSigned w64 c.read-constant.result.numerator = search rules in
-    let is = to_z-of_z w64 c.read-constant.result.numerator fits in
+    let fits : FitsSigned w128 c.read-constant.result.numerator = search rules in
+    let is = to_z-of_z w128 c.read-constant.result.numerator fits in
     let told = c.if-constant-lt0.false in
     let low = number_below c.read-constant.result.numerator c.read-constant.result.denominator c.read-constant.ensures.positive (subst (λ x. x <ℚ whole (pos 0)) (sym c.read-constant.ensures.number) below) in
     omega (arith, ints)

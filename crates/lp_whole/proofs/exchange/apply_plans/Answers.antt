@@ -4,7 +4,7 @@ use Rattle.lp_whole.specs.declared.line.Factors.{Factors}
 use Rattle.lp_whole.specs.Form.{IsPlanned, AreExchanged}
 use Rattle.lp_whole.proofs.Plans.{index_get, exchanged_more, exchanged_past, exchanged_end}
 use Rattle.lp_whole.proofs.exchange.apply_plans.Goals as goal
-use Rattle.lp_whole.proofs.exchange.apply_plans.Goals.{then-i-place, else-i-place}
+use Rattle.lp_whole.proofs.exchange.apply_plans.Goals.{then-i-place+in_ok-apply, else-i-place}
 
 pub apply-requires-clause-line : goal.apply-requires-clause-line
 apply-requires-clause-line c =
@@ -48,14 +48,14 @@ loop-i-preserved c = λ bound column p.
     let sized = p.planned.sized in
     let same = h.sized in
     elim c.if-i-place.branch [
-      | then-i-place w ↦
+      | then-i-place+in_ok-apply w ↦
           let f : Factors = slice_index_or c.args.plans.now c.loop-i.i (record { line = pos 0; pivot = pos 0; most = 0 }) in
           let there : slice_get c.args.lines.now.items c.loop-i.i ≡ Some w.index_mut-line.result.now =
           sym (h.left c.loop-i.i (omega arith)) ∙ index_get c.loop-i.lines.items c.loop-i.i w.index_mut-line.result.now w.index_mut-line.result.now within (sym w.index_mut-line.ensures.value) in
           let by : slice_get c.args.plans.now c.loop-i.i ≡ Some f = index_get c.args.plans.now c.loop-i.i f (record { line = pos 0; pivot = pos 0; most = 0 }) (omega arith) refl in
           let planned : IsPlanned bound column w.index_mut-line.result.now c.args.pivot.now f = p.planned.each c.loop-i.i w.index_mut-line.result.now f w.if-i-place.true there by in
           subst (λ ls. AreExchanged column c.args.place c.args.pivot.now c.args.plans.now c.args.lines.now.items ls (c.loop-i.i + 1)) (sym (ap (λ v. v.items) w.lines-is))
-          (exchanged_more column c.args.place c.args.pivot.now c.args.plans.now c.args.lines.now.items c.loop-i.lines.items c.loop-i.i w.index_mut-line.result.now w.apply.new.line f h within w.if-i-place.true there by (w.apply.ensures bound column p.small p.above planned))
+          (exchanged_more column c.args.place c.args.pivot.now c.args.plans.now c.args.lines.now.items c.loop-i.lines.items c.loop-i.i w.index_mut-line.result.now w.apply.new.line f h within w.if-i-place.true there by (w.in_ok-apply.ensures bound column p.small p.above planned))
       | else-i-place w ↦
           subst (λ ls. AreExchanged column c.args.place c.args.pivot.now c.args.plans.now c.args.lines.now.items ls (c.loop-i.i + 1)) (sym (ap (λ v. v.items) w.lines-is))
           (exchanged_past column c.args.place c.args.pivot.now c.args.plans.now c.args.lines.now.items c.loop-i.lines.items c.loop-i.i h w.if-i-place.false)

@@ -34,3 +34,12 @@ returns-in_default c =
       there = index_get c.args.lines.now c.loop-i.i c.index-lines-i.result c.index-lines-i.result (omega arith) (sym c.index-lines-i.is);
       crowded = c.in_default.ensures;
     }
+
+pub plan-requires-clause-line : goal.plan-requires-clause-line
+plan-requires-clause-line c = (c.requires.lines.1 c.loop-i.i c.index-lines-i.result (index_get c.args.lines.now c.loop-i.i c.index-lines-i.result c.index-lines-i.result (omega arith) (sym c.index-lines-i.is))).0
+
+pub plan-requires-clause-sized : goal.plan-requires-clause-sized
+plan-requires-clause-sized c = c.requires.lines.2 ∙ sym (c.requires.lines.1 c.loop-i.i c.index-lines-i.result (index_get c.args.lines.now c.loop-i.i c.index-lines-i.result c.index-lines-i.result (omega arith) (sym c.index-lines-i.is))).1
+
+pub plan-requires-clause-within : goal.plan-requires-clause-within
+plan-requires-clause-within c = let e = (c.requires.lines.1 c.loop-i.i c.index-lines-i.result (index_get c.args.lines.now c.loop-i.i c.index-lines-i.result c.index-lines-i.result (omega arith) (sym c.index-lines-i.is))).1 in let f = c.requires.lines.3 in omega arith

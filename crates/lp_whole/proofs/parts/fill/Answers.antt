@@ -1,4 +1,5 @@
-use Rattle.std.proofs.Common.{rules, ◌<◌, ◌^◌, pos, nat_abs, FitsSigned, to_z, of_z, w64, refl, sym, ap, ◌∙◌, subst, arith}
+use Rattle.std.proofs.Common.{rules, ◌<◌, ◌^◌, pos, nat_abs, FitsSigned, to_z, of_z, refl, sym, ap, ◌∙◌, subst, arith}
+use Rattle.std.specs.Int.{w128}
 use Rattle.std.specs.Prelude.{slice_index_or}
 use Rattle.std.proofs.lemmas.Int.{to_z-of_z}
 use Rattle.gq_number.specs.Number.{ratio}
@@ -10,10 +11,19 @@ use Rattle.lp_whole.proofs.parts.fill.Goals as goal
 pub loop-i-preserved : goal.loop-i-preserved
 loop-i-preserved c =
     let told = c.in-Some.ensures in
-    let fits : FitsSigned w64 c.in-Some.number = search rules in
-    let is = to_z-of_z w64 c.in-Some.number fits in
-    filled_more c.args.parts.now c.args.multiple c.args.width c.loop-i.i c.loop-i.numbers.items (slice_index_or c.args.parts.now c.loop-i.i (record { column = 0; numerator = pos 0; denominator = 0 })) (to_z w64 (of_z w64 c.in-Some.number)) c.requires.there c.requires.apart c.loop-i.invariant (index_get c.args.parts.now c.loop-i.i (slice_index_or c.args.parts.now c.loop-i.i (record { column = 0; numerator = pos 0; denominator = 0 })) (record { column = 0; numerator = pos 0; denominator = 0 }) c.loop-i-test.true refl)
-    (subst (λ z. nat_abs z < 2 ^ 63) (sym is) told.0) (ap (λ z. ratio z c.args.multiple) is ∙ told.1)
+    let fits : FitsSigned w128 c.in-Some.number = search rules in
+    let is = to_z-of_z w128 c.in-Some.number fits in
+    filled_more c.args.parts.now c.args.multiple c.args.width c.loop-i.i c.loop-i.numbers.items (slice_index_or c.args.parts.now c.loop-i.i (record { column = 0; numerator = pos 0; denominator = 0 })) (to_z w128 (of_z w128 c.in-Some.number)) c.requires.there c.requires.apart c.loop-i.invariant (index_get c.args.parts.now c.loop-i.i (slice_index_or c.args.parts.now c.loop-i.i (record { column = 0; numerator = pos 0; denominator = 0 })) (record { column = 0; numerator = pos 0; denominator = 0 }) c.loop-i-test.true refl)
+    (subst (λ z. nat_abs z < 2 ^ 127) (sym is) told.0) (ap (λ z. ratio z c.args.multiple) is ∙ told.1)
+
+pub returns-in_default : goal.returns-in_default
+returns-in_default c =
+    record {
+      at = c.loop-i.i;
+      part = slice_index_or c.args.parts.now c.loop-i.i (record { column = 0; numerator = pos 0; denominator = 0 });
+      there = index_get c.args.parts.now c.loop-i.i (slice_index_or c.args.parts.now c.loop-i.i (record { column = 0; numerator = pos 0; denominator = 0 })) (record { column = 0; numerator = pos 0; denominator = 0 }) c.loop-i-test.true refl;
+      past = c.in_default.ensures;
+    }
 
 pub scaled-requires-clause-positive : goal.scaled-requires-clause-positive
 scaled-requires-clause-positive c = (c.requires.there c.loop-i.i (slice_index_or c.args.parts.now c.loop-i.i (record { column = 0; numerator = pos 0; denominator = 0 })) (index_get c.args.parts.now c.loop-i.i (slice_index_or c.args.parts.now c.loop-i.i (record { column = 0; numerator = pos 0; denominator = 0 })) (record { column = 0; numerator = pos 0; denominator = 0 }) c.loop-i-test.true refl)).1

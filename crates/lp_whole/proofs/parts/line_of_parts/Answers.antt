@@ -1,17 +1,25 @@
 use Rattle.std.proofs.Common.{length, ap, ◌∙◌, subst}
 use Rattle.std.specs.Prelude.{MatchOption}
-use Rattle.lp_whole.specs.Parts.{AreFilled}
-use Rattle.lp_whole.proofs.Filling.{parts_are}
+use Rattle.lp_whole.specs.Parts.{AreFilled, IsSomePast}
+use Rattle.lp_whole.proofs.Filling.{parts_are, no_multiple_no_line, past_no_line}
 use Rattle.lp_whole.proofs.parts.line_of_parts.Goals as goal
 
 pub common_multiple-requires : goal.common_multiple-requires
 common_multiple-requires c = λ i p at. (c.requires.there i p at).1
 
 pub new-requires-clause-numbers_small : goal.new-requires-clause-numbers_small
-new-requires-clause-numbers_small c = (subst (λ o. MatchOption o (Unit {0}) (λ numbers. AreFilled c.args.parts.now c.in-Some.multiple c.args.width (length c.args.parts.now) numbers.items)) c.in-Some-numbers.is c.in_ok-numbers.ensures).small
+new-requires-clause-numbers_small c = (subst (λ o. MatchOption o (IsSomePast c.args.parts.now c.in-Some.multiple) (λ numbers. AreFilled c.args.parts.now c.in-Some.multiple c.args.width (length c.args.parts.now) numbers.items)) c.in-Some-filled.is c.in_ok-filled.ensures).small
 
-pub returns-in-Some-numbers-clause-line : goal.returns-in-Some-numbers-clause-line
-returns-in-Some-numbers-clause-line c = (c.new.ensures.line, ap length c.new.ensures.numbers ∙ (subst (λ o. MatchOption o (Unit {0}) (λ numbers. AreFilled c.args.parts.now c.in-Some.multiple c.args.width (length c.args.parts.now) numbers.items)) c.in-Some-numbers.is c.in_ok-numbers.ensures).sized)
+pub returns-clause-line : goal.returns-clause-line
+returns-clause-line c = (c.in_ok-line.ensures.line, ap length c.in_ok-line.ensures.numbers ∙ (subst (λ o. MatchOption o (IsSomePast c.args.parts.now c.in-Some.multiple) (λ numbers. AreFilled c.args.parts.now c.in-Some.multiple c.args.width (length c.args.parts.now) numbers.items)) c.in-Some-filled.is c.in_ok-filled.ensures).sized)
 
-pub returns-in-Some-numbers-clause-numbers : goal.returns-in-Some-numbers-clause-numbers
-returns-in-Some-numbers-clause-numbers c = parts_are c.args.parts.now c.in-Some.multiple c.args.width c.new.result c.in-Some-numbers.numbers.items (subst (λ o. MatchOption o (Unit {0}) (λ numbers. AreFilled c.args.parts.now c.in-Some.multiple c.args.width (length c.args.parts.now) numbers.items)) c.in-Some-numbers.is c.in_ok-numbers.ensures) c.new.ensures.numbers c.new.ensures.denominator
+pub returns-clause-numbers : goal.returns-clause-numbers
+returns-clause-numbers c = parts_are c.args.parts.now c.in-Some.multiple c.args.width c.in_ok-line.line c.in-Some-filled.numbers.items (subst (λ o. MatchOption o (IsSomePast c.args.parts.now c.in-Some.multiple) (λ numbers. AreFilled c.args.parts.now c.in-Some.multiple c.args.width (length c.args.parts.now) numbers.items)) c.in-Some-filled.is c.in_ok-filled.ensures) c.in_ok-line.ensures.numbers c.in_ok-line.ensures.denominator
+
+pub returns-in_default-clause-none : goal.returns-in_default-clause-none
+returns-in_default-clause-none c = no_multiple_no_line c.args.parts.now c.in_default.ensures
+
+pub returns-in_default-filled-clause-none : goal.returns-in_default-filled-clause-none
+returns-in_default-filled-clause-none c =
+    past_no_line c.args.parts.now c.args.width c.in-Some.multiple c.requires.there c.in-Some.ensures
+    (subst (λ o. MatchOption o (IsSomePast c.args.parts.now c.in-Some.multiple) (λ numbers. AreFilled c.args.parts.now c.in-Some.multiple c.args.width (length c.args.parts.now) numbers.items)) c.in_default-filled.is c.in_ok-filled.ensures)

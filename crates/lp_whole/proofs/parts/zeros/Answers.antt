@@ -1,10 +1,8 @@
-use Rattle.std.proofs.Common.{◌+◌, sym, subst, arith}
-use Rattle.lp_whole.specs.Parts.{AreZeros}
-use Rattle.lp_whole.proofs.Filling.{zeros_more}
+use Rattle.std.proofs.Common.{◌≡◌, length, pos, refl, arith}
+use Rattle.lp_whole.proofs.Filling.{zeros_are}
 use Rattle.lp_whole.proofs.parts.zeros.Goals as goal
 
-pub loop-place-preserved : goal.loop-place-preserved
-loop-place-preserved c = subst (AreZeros (c.loop-place._place + 1)) (sym c.in_ok-push.ensures.items) (zeros_more c.loop-place.list.items c.loop-place._place c.loop-place.invariant)
-
 pub returns : goal.returns
-returns c = subst (λ n. AreZeros n c.loop-place.list.items) (omega arith) c.loop-place.invariant
+returns c =
+    let sized : length c.resize.new.self.items ≡ c.args.count = let e = c.in_ok-resize.ensures.len in omega (arith, c.resize.new.self.ok.0) in
+    zeros_are c.resize.new.self.items c.args.count sized (λ k less. c.in_ok-resize.ensures.by_index.1 k (pos 0) refl (let e = c.new-list.ensures.len in omega arith) less)

@@ -1,4 +1,6 @@
-use Rattle.lp_whole.proofs.Reading.{read_at_pivot, read_at_other, ready}
+use Rattle.std.proofs.Common.{rules, ◌<◌, length, sym, arith}
+use Rattle.lp_whole.proofs.Plans.{index_get}
+use Rattle.lp_whole.proofs.Reading.{read_at_plain, read_at_pivot, read_at_other, pivot_within, ready}
 use Rattle.lp_whole.proofs.read.read.Goals as goal
 
 pub returns-then-place-k-clause-number : goal.returns-then-place-k-clause-number
@@ -42,3 +44,34 @@ returns-clause-shared c = (read_at_other c.args.lines.now c.args.deferred c.in-S
 
 pub returns-clause-within : goal.returns-clause-within
 returns-clause-within c = (read_at_other c.args.lines.now c.args.deferred c.in-Some.k c.requires.lines.0 c.requires.lines.1 c.in-Some.is c.requires.lines.2 c.args.place c.args.column c.index-lines-place.result c.index-lines-k.result _ _ c.if-place-k.false c.requires.within c.index-lines-place.is c.index-lines-k.is c.read_above.ensures.numerator c.read_above.ensures.denominator).within
+
+pub read_own-requires-clause-line : goal.read_own-requires-clause-line
+read_own-requires-clause-line c = (c.requires.lines.2.are_lines c.args.place c.index-lines-place.result (index_get c.args.lines.now c.args.place c.index-lines-place.result c.index-lines-place.result c.requires.within (sym c.index-lines-place.is))).0
+
+pub read_own-requires-clause-within : goal.read_own-requires-clause-within
+read_own-requires-clause-within c = let e = (c.requires.lines.2.are_lines c.args.place c.index-lines-place.result (index_get c.args.lines.now c.args.place c.index-lines-place.result c.index-lines-place.result c.requires.within (sym c.index-lines-place.is))).1 in let f = c.requires.lines.3 in omega arith
+
+pub offset_bounds-lines-k : goal.offset_bounds-lines-k
+offset_bounds-lines-k c = let less : c.in-Some.k < length c.args.lines.now = pivot_within c.args.lines.now c.args.deferred c.in-Some.k c.requires.lines.0 c.requires.lines.1 c.in-Some.is c.requires.lines.2 in search rules
+
+pub bounds-lines-k : goal.bounds-lines-k
+bounds-lines-k c = pivot_within c.args.lines.now c.args.deferred c.in-Some.k c.requires.lines.0 c.requires.lines.1 c.in-Some.is c.requires.lines.2
+
+pub read_pivot-requires-clause-line : goal.read_pivot-requires-clause-line
+read_pivot-requires-clause-line c = (c.requires.lines.2.are_lines c.in-Some.k c.index-lines-k.result (index_get c.args.lines.now c.in-Some.k c.index-lines-k.result c.index-lines-k.result (pivot_within c.args.lines.now c.args.deferred c.in-Some.k c.requires.lines.0 c.requires.lines.1 c.in-Some.is c.requires.lines.2) (sym c.index-lines-k.is))).0
+
+pub read_pivot-requires-clause-within : goal.read_pivot-requires-clause-within
+read_pivot-requires-clause-within c =
+    let e = (c.requires.lines.2.are_lines c.in-Some.k c.index-lines-k.result (index_get c.args.lines.now c.in-Some.k c.index-lines-k.result c.index-lines-k.result (pivot_within c.args.lines.now c.args.deferred c.in-Some.k c.requires.lines.0 c.requires.lines.1 c.in-Some.is c.requires.lines.2) (sym c.index-lines-k.is))).1 in let f = c.requires.lines.3 in let w = c.requires.lines.2.wide in (omega arith, omega arith)
+
+pub returns-in_default-clause-positive : goal.returns-in_default-clause-positive
+returns-in_default-clause-positive c = (read_at_plain c.args.lines.now c.args.deferred c.requires.lines.0 c.requires.lines.1 c.args.place c.args.column c.index-lines-place.result _ _ c.in_default.is c.requires.lines.2 (index_get c.args.lines.now c.args.place c.index-lines-place.result c.index-lines-place.result c.requires.within (sym c.index-lines-place.is)) c.read_own.ensures.numerator c.read_own.ensures.denominator).positive
+
+pub returns-in_default-clause-number : goal.returns-in_default-clause-number
+returns-in_default-clause-number c = (read_at_plain c.args.lines.now c.args.deferred c.requires.lines.0 c.requires.lines.1 c.args.place c.args.column c.index-lines-place.result _ _ c.in_default.is c.requires.lines.2 (index_get c.args.lines.now c.args.place c.index-lines-place.result c.index-lines-place.result c.requires.within (sym c.index-lines-place.is)) c.read_own.ensures.numerator c.read_own.ensures.denominator).number
+
+pub returns-in_default-clause-shared : goal.returns-in_default-clause-shared
+returns-in_default-clause-shared c = (read_at_plain c.args.lines.now c.args.deferred c.requires.lines.0 c.requires.lines.1 c.args.place c.args.column c.index-lines-place.result _ _ c.in_default.is c.requires.lines.2 (index_get c.args.lines.now c.args.place c.index-lines-place.result c.index-lines-place.result c.requires.within (sym c.index-lines-place.is)) c.read_own.ensures.numerator c.read_own.ensures.denominator).shared
+
+pub returns-in_default-clause-within : goal.returns-in_default-clause-within
+returns-in_default-clause-within c = (read_at_plain c.args.lines.now c.args.deferred c.requires.lines.0 c.requires.lines.1 c.args.place c.args.column c.index-lines-place.result _ _ c.in_default.is c.requires.lines.2 (index_get c.args.lines.now c.args.place c.index-lines-place.result c.index-lines-place.result c.requires.within (sym c.index-lines-place.is)) c.read_own.ensures.numerator c.read_own.ensures.denominator).within

@@ -1,4 +1,4 @@
-use Rattle.std.proofs.Common.{◌≡◌, ◌≤◌, inl, inr, Some, sym, ◌∙◌, subst, arith}
+use Rattle.std.proofs.Common.{◌≡◌, ◌<◌, ◌≤◌, inl, inr, Some, sym, ◌∙◌, subst, arith}
 use Rattle.std.specs.Prelude.{slice_get}
 use Rattle.std.proofs.lemmas.Bool.{cases_eq}
 use Rattle.lp_whole.specs.declared.line.Line.{Line}
@@ -15,5 +15,13 @@ loop-i-preserved c = λ i x less at.
       | inr other ↦ c.loop-i.invariant i x (omega arith) at
     ]
 
-pub returns : goal.returns
-returns c = λ yes i x at. c.loop-i.invariant i x (let less = get_within c.args.lines.now i x at in omega arith) at
+pub returns-then-lines-i-clause-great : goal.returns-then-lines-i-clause-great
+returns-then-lines-i-clause-great c = λ _. record {
+  at = c.loop-i.i;
+  line = c.index-lines-i.result;
+  there = index_get c.args.lines.now c.loop-i.i c.index-lines-i.result c.index-lines-i.result c.loop-i-test.true (sym c.index-lines-i.is);
+  great = subst (λ (l : Line). c.args.bound < l.most) (sym c.index-lines-i.is) c.if-lines-i.true;
+}
+
+pub returns-clause-within : goal.returns-clause-within
+returns-clause-within c = λ yes i x at. c.loop-i.invariant i x (let less = get_within c.args.lines.now i x at in omega arith) at

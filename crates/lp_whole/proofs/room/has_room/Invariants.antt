@@ -1,7 +1,7 @@
 use Rattle.std.proofs.Common.{◌≡◌, ◌≢◌, ℕ, ◌+◌, ◌*◌, ◌<◌, ◌≤◌, nat_abs, Some}
 use Rattle.std.specs.Prelude.{slice_get}
 use Rattle.lp_whole.specs.declared.line.Line.{Line}
-use Rattle.lp_whole.specs.Lines.{whole_at}
+use Rattle.lp_numbers.specs.Lines.{whole_at}
 use Rattle.lp_whole.specs.Form.{wholes}
 use Rattle.lp_whole.proofs.room.has_room.Given as goal
 

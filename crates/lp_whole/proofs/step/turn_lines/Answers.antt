@@ -1,7 +1,7 @@
 use Rattle.std.proofs.Common.{sym, subst}
 use Rattle.std.specs.Prelude.{MatchOption}
 use Rattle.lp_whole.specs.Form.{IsPlan, AreTurned}
-use Rattle.lp_whole.specs.Room.{IsRoomyPlan}
+use Rattle.lp_whole.specs.Room.{IsRoomyPlan, LinesHaveNoRoom}
 use Rattle.lp_whole.proofs.Sameness.{same_are}
 use Rattle.lp_whole.proofs.step.turn_lines.Goals as goal
 
@@ -12,17 +12,21 @@ exchange_lines-requires-clause-lines c =
 pub exchange_lines-requires-clause-planned : goal.exchange_lines-requires-clause-planned
 exchange_lines-requires-clause-planned c =
     let roomy : IsRoomyPlan c.args.bound c.args.column c.args.place c.args.leaving c.plan_exchange.new.lines.items c.in-Some.plans.items =
-    subst (λ o. MatchOption o (Unit {0}) (λ plans. IsRoomyPlan c.args.bound c.args.column c.args.place c.args.leaving c.plan_exchange.new.lines.items plans.items)) c.in-Some.is c.in_ok-plans.ensures.planned in
+    subst (λ o. MatchOption o (LinesHaveNoRoom c.args.bound c.args.column c.args.place c.args.leaving c.plan_exchange.new.lines.items) (λ plans. IsRoomyPlan c.args.bound c.args.column c.args.place c.args.leaving c.plan_exchange.new.lines.items plans.items)) c.in-Some.is c.in_ok-plans.ensures.planned in
     (c.args.bound, λ l at. subst (IsPlan c.args.bound c.args.column c.args.place c.plan_exchange.new.lines.items l) (sym c.as_slice.ensures.value) (roomy.planned l at))
 
 pub returns-clause-turned : goal.returns-clause-turned
 returns-clause-turned c = λ yes.
     let roomy : IsRoomyPlan c.args.bound c.args.column c.args.place c.args.leaving c.plan_exchange.new.lines.items c.in-Some.plans.items =
-    subst (λ o. MatchOption o (Unit {0}) (λ plans. IsRoomyPlan c.args.bound c.args.column c.args.place c.args.leaving c.plan_exchange.new.lines.items plans.items)) c.in-Some.is c.in_ok-plans.ensures.planned in
+    subst (λ o. MatchOption o (LinesHaveNoRoom c.args.bound c.args.column c.args.place c.args.leaving c.plan_exchange.new.lines.items) (λ plans. IsRoomyPlan c.args.bound c.args.column c.args.place c.args.leaving c.plan_exchange.new.lines.items plans.items)) c.in-Some.is c.in_ok-plans.ensures.planned in
     record {
       divided = c.plan_exchange.new.lines.items;
       plans = c.in-Some.plans.items;
       same = c.in_ok-plans.ensures.same;
       roomy = roomy;
-      turned = subst (λ ps. AreTurned c.args.column c.args.place ps c.plan_exchange.new.lines.items c.exchange_lines.new.lines.items) c.as_slice.ensures.value c.exchange_lines.ensures;
+      turned = subst (λ ps. AreTurned c.args.column c.args.place ps c.plan_exchange.new.lines.items c.exchange_lines.new.lines.items) c.as_slice.ensures.value c.in_ok-exchange_lines.ensures;
     }
+
+pub returns-in_default-clause-none : goal.returns-in_default-clause-none
+returns-in_default-clause-none c = λ _.
+    subst (λ o. MatchOption o (LinesHaveNoRoom c.args.bound c.args.column c.args.place c.args.leaving c.plan_exchange.new.lines.items) (λ plans. IsRoomyPlan c.args.bound c.args.column c.args.place c.args.leaving c.plan_exchange.new.lines.items plans.items)) c.in_default.is c.in_ok-plans.ensures.planned

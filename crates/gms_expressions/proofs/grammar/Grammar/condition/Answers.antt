@@ -1,6 +1,7 @@
 use Rattle.std.proofs.Common.{refl}
 use Rattle.gms_grammar.specs.GamsGrammar.{Condition}
-use Rattle.gms_expressions.specs.ExpressionTrees.{condition_in}
+use Rattle.gms_expressions.specs.ExpressionTrees.{condition}
+use Rattle.gms_expressions.proofs.Parts.{in_node}
 use Rattle.gms_expressions.proofs.Signs.{handed_on, answered, got_the, got_behind}
 use Rattle.gms_expressions.proofs.Steps.{refuses_the, refuses_first, refuses_second}
 use Rattle.gms_expressions.proofs.Nexts.{gives_next, refuses_lacking}
@@ -11,5 +12,5 @@ returns-in_err-behind g c = handed_on _ _ c.from_residual.result _ c.from_residu
 
 pub returns : goal.returns
 returns g c = answered c.guard.result c.guard.ensures
-    (λ b got. got_the Condition (got_behind {whole = condition_in} c.in_ok-behind.ensures refl got (λ sense. refl)) (λ sense. refl))
+    (λ b got. got_the Condition (got_behind {whole = in_node condition} c.in_ok-behind.ensures refl got (λ sense. refl)) (λ sense. refl))
     (λ e r. refuses_the Condition (refuses_second (gives_next _ c.in_ok-behind.ensures refl) r))

@@ -2,7 +2,8 @@ use Rattle.std.proofs.Common.{refl, sym, ap, ◌∙◌}
 use Rattle.gms_grammar.specs.GamsGrammar.{Guarded, Condition}
 use Rattle.gms_ast.specs.Trees.{plain, guarded}
 use Rattle.gms_expressions.specs.Nodes.{view}
-use Rattle.gms_expressions.specs.ExpressionTrees.{condition_in}
+use Rattle.gms_expressions.specs.ExpressionTrees.{condition}
+use Rattle.gms_expressions.proofs.Parts.{in_node}
 use Rattle.gms_expressions.proofs.Signs.{handed_on, got_the, got_behind}
 use Rattle.gms_expressions.proofs.Steps.{refuses_the, refuses_first, refuses_second, refuses_memory}
 use Rattle.gms_expressions.proofs.Nexts.{gives_next, led_next, falls}
@@ -39,7 +40,7 @@ pub loop-behind-smaller : goal.loop-behind-smaller
 loop-behind-smaller g c = falls c.in-Some.ensures _ c.in_ok-guard.ensures.further
 
 pub loop-behind-preserved : goal.loop-behind-preserved
-loop-behind-preserved g c = (guards_on c.loop-behind.invariant.0 (led_next c.in-Some.ensures) (got_the Condition (got_behind {whole = condition_in} c.in-Some.ensures refl c.in_ok-guard.ensures (λ sense. refl)) (λ sense. refl)) _ (views_push (λ e. (plain, view g.F.ExactField.value e)) _ _ c.in_ok-push.ensures.items), λ none. absurd (not_begun c.loop-behind.guards.items _ (sym c.in_ok-push.ensures.items ∙ none)))
+loop-behind-preserved g c = (guards_on c.loop-behind.invariant.0 (led_next c.in-Some.ensures) (got_the Condition (got_behind {whole = in_node condition} c.in-Some.ensures refl c.in_ok-guard.ensures (λ sense. refl)) (λ sense. refl)) _ (views_push (λ e. (plain, view g.F.ExactField.value e)) _ _ c.in_ok-push.ensures.items), λ none. absurd (not_begun c.loop-behind.guards.items _ (sym c.in_ok-push.ensures.items ∙ none)))
 
 pub returns : goal.returns
 returns g c = guards_got c.loop-behind.invariant.0 c.in_default.ensures (some_begun (λ e. (plain, view g.F.ExactField.value e)) c.loop-behind.guards.items c.loop-behind.invariant.1 c.in_default.ensures)

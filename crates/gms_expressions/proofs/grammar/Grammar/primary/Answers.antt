@@ -3,8 +3,9 @@ use Rattle.gms_grammar.specs.Grammar.{the, ◌·◌, ◌∣◌}
 use Rattle.gms_grammar.specs.Reading.{in_neither}
 use Rattle.gms_grammar.specs.GamsGrammar.{Primary, Target, Call, Fold, Expression, ExpressionList, token, name, any_of, bracketed}
 use Rattle.gms_grammar.specs.declared.terminal.Terminal.TheVariants.{Number, Infinity, NotAvailable, YesNo, Name, Suffix, Function, OrdCard, FoldOp, LeftParen}
-use Rattle.gms_expressions.specs.ExpressionTrees.{constant_or_other, target_or_other, call_or_other, fold_or_other, call_of, either_call}
+use Rattle.gms_expressions.specs.ExpressionTrees.{primary, call_of}
 use Rattle.gms_expressions.specs.Readings.{seen_from}
+use Rattle.gms_expressions.proofs.Parts.{in_node, in_right}
 use Rattle.gms_expressions.proofs.Signs.{answered, got_the, got_left, got_right}
 use Rattle.gms_expressions.proofs.Steps.{refuses_at, refuses_the, refuses_left, refuses_right}
 use Rattle.gms_expressions.proofs.Leading.{leads_of, constant_leads, named_leads, IsNone, leads_of_none}
@@ -14,7 +15,7 @@ pub returns-in-Number : goal.returns-in-Number
 returns-in-Number g c =
     let led = constant_leads (any_of (Number ∷ Infinity ∷ NotAvailable ∷ YesNo ∷ [])) (seen_from c.args.self.now.reader c.args.at) refl c.next.ensures c.in-Number.is refl refl refl refl in
     answered c.constant.result (c.constant.ensures c.args.tables.now)
-    (λ b got. got_the Primary (got_left {whole = constant_or_other} led got (λ sense. refl)) (λ sense. refl))
+    (λ b got. got_the Primary (got_left {whole = in_node primary} led got (λ sense. refl)) (λ sense. refl))
     (λ e r. refuses_the Primary (refuses_left led r))
 
 pub returns-in-Name : goal.returns-in-Name
@@ -23,7 +24,7 @@ returns-in-Name g c =
     let any = named_leads (the Target ∣ the Call ∣ the Fold ∣ bracketed (the Expression)) (seen_from c.args.self.now.reader c.args.at) true refl c.next.ensures c.in-Name.is refl refl in
     let led = named_leads (the Target) (seen_from c.args.self.now.reader c.args.at) true refl c.next.ensures c.in-Name.is refl refl in
     answered c.reference.result c.reference.ensures
-    (λ b got. got_the Primary (got_right {whole = constant_or_other} other any (got_left {whole = target_or_other} led got (λ sense. refl)) (λ sense. refl)) (λ sense. refl))
+    (λ b got. got_the Primary (got_right {whole = in_node primary} other any (got_left {whole = in_right (in_node primary)} led got (λ sense. refl)) (λ sense. refl)) (λ sense. refl))
     (λ e r. refuses_the Primary (refuses_right other any (refuses_left led r)))
 
 pub returns-in-Function : goal.returns-in-Function
@@ -35,7 +36,7 @@ returns-in-Function g c =
     let calls = leads_of (the Call) (seen_from c.args.self.now.reader c.args.at) Function refl c.next.ensures c.in-Function.is in
     let led = leads_of (token Function · bracketed (the ExpressionList)) (seen_from c.args.self.now.reader c.args.at) Function refl c.next.ensures c.in-Function.is in
     answered c.call.result c.call.ensures
-    (λ b got. got_the Primary (got_right {whole = constant_or_other} other any (got_right {whole = target_or_other} unnamed more (got_left {whole = call_or_other} calls (got_the {whole = call_of} Call (got_left {whole = either_call} led got (λ sense. refl)) (λ sense. refl)) (λ sense. refl)) (λ sense. refl)) (λ sense. refl)) (λ sense. refl))
+    (λ b got. got_the Primary (got_right {whole = in_node primary} other any (got_right {whole = in_right (in_node primary)} unnamed more (got_left {whole = in_right (in_right (in_node primary))} calls (got_the {whole = call_of} Call (got_left {whole = in_node call_of} led got (λ sense. refl)) (λ sense. refl)) (λ sense. refl)) (λ sense. refl)) (λ sense. refl)) (λ sense. refl))
     (λ e r. refuses_the Primary (refuses_right other any (refuses_right unnamed more (refuses_left calls (refuses_the Call (refuses_left led r))))))
 
 pub returns-in-OrdCard : goal.returns-in-OrdCard
@@ -48,7 +49,7 @@ returns-in-OrdCard g c =
     let unled = leads_of (token Function · bracketed (the ExpressionList)) (seen_from c.args.self.now.reader c.args.at) OrdCard refl c.next.ensures c.in-OrdCard.is in
     let led = leads_of (token OrdCard · bracketed name) (seen_from c.args.self.now.reader c.args.at) OrdCard refl c.next.ensures c.in-OrdCard.is in
     answered c.set_call.result c.set_call.ensures
-    (λ b got. got_the Primary (got_right {whole = constant_or_other} other any (got_right {whole = target_or_other} unnamed more (got_left {whole = call_or_other} calls (got_the {whole = call_of} Call (got_right {whole = either_call} unled led got (λ sense. refl)) (λ sense. refl)) (λ sense. refl)) (λ sense. refl)) (λ sense. refl)) (λ sense. refl))
+    (λ b got. got_the Primary (got_right {whole = in_node primary} other any (got_right {whole = in_right (in_node primary)} unnamed more (got_left {whole = in_right (in_right (in_node primary))} calls (got_the {whole = call_of} Call (got_right {whole = in_node call_of} unled led got (λ sense. refl)) (λ sense. refl)) (λ sense. refl)) (λ sense. refl)) (λ sense. refl)) (λ sense. refl))
     (λ e r. refuses_the Primary (refuses_right other any (refuses_right unnamed more (refuses_left calls (refuses_the Call (refuses_right unled led r))))))
 
 pub returns-in-FoldOp : goal.returns-in-FoldOp
@@ -61,7 +62,7 @@ returns-in-FoldOp g c =
     let rest = leads_of (the Fold ∣ bracketed (the Expression)) (seen_from c.args.self.now.reader c.args.at) FoldOp refl c.next.ensures c.in-FoldOp.is in
     let led = leads_of (the Fold) (seen_from c.args.self.now.reader c.args.at) FoldOp refl c.next.ensures c.in-FoldOp.is in
     answered c.fold.result c.fold.ensures
-    (λ b got. got_the Primary (got_right {whole = constant_or_other} other any (got_right {whole = target_or_other} unnamed more (got_right {whole = call_or_other} uncalled rest (got_left {whole = fold_or_other} led got (λ sense. refl)) (λ sense. refl)) (λ sense. refl)) (λ sense. refl)) (λ sense. refl))
+    (λ b got. got_the Primary (got_right {whole = in_node primary} other any (got_right {whole = in_right (in_node primary)} unnamed more (got_right {whole = in_right (in_right (in_node primary))} uncalled rest (got_left {whole = in_right (in_right (in_right (in_node primary)))} led got (λ sense. refl)) (λ sense. refl)) (λ sense. refl)) (λ sense. refl)) (λ sense. refl))
     (λ e r. refuses_the Primary (refuses_right other any (refuses_right unnamed more (refuses_right uncalled rest (refuses_left led r)))))
 
 pub returns-in-LeftParen : goal.returns-in-LeftParen
@@ -75,7 +76,7 @@ returns-in-LeftParen g c =
     let unled = leads_of (the Fold) (seen_from c.args.self.now.reader c.args.at) LeftParen refl c.next.ensures c.in-LeftParen.is in
     let led = leads_of (bracketed (the Expression)) (seen_from c.args.self.now.reader c.args.at) LeftParen refl c.next.ensures c.in-LeftParen.is in
     answered c.bracketed.result c.bracketed.ensures
-    (λ b got. got_the Primary (got_right {whole = constant_or_other} other any (got_right {whole = target_or_other} unnamed more (got_right {whole = call_or_other} uncalled rest (got_right {whole = fold_or_other} unled led got (λ sense. refl)) (λ sense. refl)) (λ sense. refl)) (λ sense. refl)) (λ sense. refl))
+    (λ b got. got_the Primary (got_right {whole = in_node primary} other any (got_right {whole = in_right (in_node primary)} unnamed more (got_right {whole = in_right (in_right (in_node primary))} uncalled rest (got_right {whole = in_right (in_right (in_right (in_node primary)))} unled led got (λ sense. refl)) (λ sense. refl)) (λ sense. refl)) (λ sense. refl)) (λ sense. refl))
     (λ e r. refuses_the Primary (refuses_right other any (refuses_right unnamed more (refuses_right uncalled rest (refuses_right unled led r)))))
 
 pub returns-in_default : goal.returns-in_default

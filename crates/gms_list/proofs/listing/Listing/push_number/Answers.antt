@@ -3,7 +3,8 @@ use Rattle.std.proofs.lemmas.List.{append-nil}
 use Rattle.gms_list.proofs.Walks.{untouched, reshaped}
 use Rattle.gms_list.proofs.Shapes.{number_line}
 use Rattle.gms_list.proofs.Signs.{zero_told}
-use Rattle.gms_list.specs.Amounts.{line_of, exact_text}
+use Rattle.gq_text.specs.ExactText.{exact_text}
+use Rattle.gms_list.specs.Amounts.{line_of}
 use Rattle.gms_list.specs.SolveText.{is_zero}
 use Rattle.gms_fmt.specs.ElementTexts.{element_text}
 use Rattle.gms_list.proofs.listing.Listing.push_number.Goals as goal

@@ -6,7 +6,8 @@ use Rattle.gms_grammar.specs.Terminals.{is}
 use Rattle.gms_grammar.specs.declared.terminal.Terminal.TheVariants.{Model, Option}
 use Rattle.gms_parse.proofs.Steps.{refuses_the, refuses_first, refuses_second, refuses_memory}
 use Rattle.gms_parse.proofs.Nexts.{refuses_lacking, gives_exact, begun_starts, starts_somewhere}
-use Rattle.gms_parse.proofs.Models.{items_start, items_on, items_refused, items_got, further_starts, further_falls, model_items, models_got}
+use Rattle.gms_parse.proofs.Itemized.{items_start, items_on, items_refused, items_got, further_starts, further_falls}
+use Rattle.gms_parse.proofs.Models.{model_items, models_got}
 use Rattle.gms_parse.proofs.reader.Reader.models.Goals as goal
 
 pub returns-in_err-start : goal.returns-in_err-start

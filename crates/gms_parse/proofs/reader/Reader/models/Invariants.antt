@@ -2,7 +2,8 @@ use Rattle.std.proofs.Common.{ℕ, length, ◌-◌}
 use Rattle.gms_grammar.specs.GamsGrammar.{ModelItems}
 use Rattle.gms_parse.specs.Walks.{Walk}
 use Rattle.gms_parse.specs.Readings.{Starts}
-use Rattle.gms_parse.proofs.Models.{Itemizing, model_meaning}
+use Rattle.gms_parse.proofs.Itemized.{Itemizing}
+use Rattle.gms_parse.proofs.Models.{model_meaning}
 use Rattle.gms_parse.proofs.reader.Reader.models.Given as goal
 
 abbrev pub invariant-loop-behind : goal.invariant-loop-behind

@@ -2,7 +2,7 @@ use Rattle.std.proofs.Common.{◌∙◌, ap, sym}
 use Rattle.gq_extended.specs.Meaning.{extended}
 use Rattle.gms_store.specs.Shown.{attributes_shown}
 use Rattle.gms_store.specs.State.{given_in}
-use Rattle.gms_store.proofs.Views.{keys-shown, content-seen, kept-seen}
+use Rattle.gms_store.proofs.Views.{keys-shown, content-seen, kept-seen, fits-seen}
 use Rattle.gms_store.proofs.symbol.Symbol.given.Goals as goal
 
 pub returns-in-Parameter-clause-some : goal.returns-in-Parameter-clause-some
@@ -30,3 +30,15 @@ returns-in-Variable-clause-kept g c =
 pub returns-in-Equation-clause-kept : goal.returns-in-Equation-clause-kept
 returns-in-Equation-clause-kept g c =
     kept-seen g.F.ExactField.value c.self.inside.domain c.self.inside.content c.args.self.now c.self.view_is c.self.invariant
+
+pub returns-in-Parameter-clause-fit : goal.returns-in-Parameter-clause-fit
+returns-in-Parameter-clause-fit g c =
+    fits-seen g.F.ExactField.value g.F.ExactField.limit c.self.inside.domain c.self.inside.content c.args.self.now c.self.view_is g.met.F.ExactField.limit_range.0 g.met.F.ExactField.within
+
+pub returns-in-Variable-clause-fit : goal.returns-in-Variable-clause-fit
+returns-in-Variable-clause-fit g c =
+    fits-seen g.F.ExactField.value g.F.ExactField.limit c.self.inside.domain c.self.inside.content c.args.self.now c.self.view_is g.met.F.ExactField.limit_range.0 g.met.F.ExactField.within
+
+pub returns-in-Equation-clause-fit : goal.returns-in-Equation-clause-fit
+returns-in-Equation-clause-fit g c =
+    fits-seen g.F.ExactField.value g.F.ExactField.limit c.self.inside.domain c.self.inside.content c.args.self.now c.self.view_is g.met.F.ExactField.limit_range.0 g.met.F.ExactField.within

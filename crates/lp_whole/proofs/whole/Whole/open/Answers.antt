@@ -1,11 +1,12 @@
-use Rattle.std.proofs.Common.{◌≡◌, ◌+◌, length, Some, sym, ap, subst, arith}
+use Rattle.std.proofs.Common.{◌≡◌, ◌+◌, length, inl, true≢false, Some, sym, ap, ◌∙◌, subst, arith}
 use Rattle.std.specs.Prelude.{slice_get}
 use Rattle.lp_core.specs.Dictionary.{IsLegal, exchanged}
 use Rattle.lp_whole.specs.Whole.{WholeTableau, dictionary}
 use Rattle.lp_whole.specs.Form.{AreLines}
-use Rattle.lp_whole.specs.Room.{HasRoomFor}
+use Rattle.lp_whole.specs.Room.{HasRoomFor, HasNoRoomFor}
 use Rattle.lp_whole.proofs.Crowding.{opens_some, after_open}
 use Rattle.lp_whole.proofs.Pivoting.{tableau_after, k_in}
+use Rattle.lp_whole.proofs.Plans.{some_at}
 use Rattle.lp_whole.proofs.whole.Whole.open.Goals as goal
 
 pub has_room-requires-clause-lines : goal.has_room-requires-clause-lines
@@ -22,7 +23,16 @@ invariant_of-same c =
 
 pub returns-then-not-has_room : goal.returns-then-not-has_room
 returns-then-not-has_room c =
-    (tt, (ap dictionary c.self.view_is, (ap (λ (t : WholeTableau). t.bound) c.self.view_is)))
+    let less = k_in (record { variables = c.self.inside.variables; basic = c.self.inside.basic.items; lines = c.self.inside.lines.items; deferred = c.self.inside.deferred; bound = c.self.inside.bound }) c.self.invariant c.args.p c.args.place (subst (λ (t : WholeTableau). IsLegal (dictionary t) c.args.p c.args.place) (sym c.self.view_is) c.requires.legal) in
+    let paired = c.self.invariant.paired in
+    let x = some_at c.self.inside.lines.items c.args.place (omega arith) in
+    let has = c.has_room.ensures x.0 (subst (λ ls. slice_get ls c.args.place ≡ Some x.0) (sym c.as_slice.ensures.value) x.1) in
+    let none : HasNoRoomFor c.args.place c.self.inside.lines.items c.self.inside.bound = record {
+      pivot = x.0;
+      there = x.1;
+      crowded = λ h. true≢false (sym (has.1 (subst (λ ls. HasRoomFor c.args.place x.0 ls c.self.inside.bound) (sym c.as_slice.ensures.value) h)) ∙ c.if-not-has_room.true);
+    } in
+    (tt, (ap dictionary c.self.view_is, (ap (λ (t : WholeTableau). t.bound) c.self.view_is), inl (c.requires.opens, none)))
 
 pub raise_at-requires-clause-lines : goal.raise_at-requires-clause-lines
 raise_at-requires-clause-lines c =
@@ -42,8 +52,8 @@ index_mut-requires c =
 
 pub invariant_of-after : goal.invariant_of-after
 invariant_of-after c =
-    (after_open (record { variables = c.self.inside.variables; basic = c.self.inside.basic.items; lines = c.self.inside.lines.items; deferred = c.self.inside.deferred; bound = c.self.inside.bound }) c.self.invariant c.args.p c.args.place (subst (λ (t : WholeTableau). IsLegal (dictionary t) c.args.p c.args.place) (sym c.self.view_is) c.requires.legal) c.requires.opens c.raise_at.new.lines.items c.raise_at.ensures (λ x at. subst (λ ls. HasRoomFor c.args.place x ls c.self.inside.bound) c.as_slice.ensures.value (c.has_room.ensures x (subst (λ ls. slice_get ls c.args.place ≡ Some x) (sym c.as_slice.ensures.value) at) c.if-not-has_room.false))).is_whole
+    (after_open (record { variables = c.self.inside.variables; basic = c.self.inside.basic.items; lines = c.self.inside.lines.items; deferred = c.self.inside.deferred; bound = c.self.inside.bound }) c.self.invariant c.args.p c.args.place (subst (λ (t : WholeTableau). IsLegal (dictionary t) c.args.p c.args.place) (sym c.self.view_is) c.requires.legal) c.requires.opens c.raise_at.new.lines.items c.raise_at.ensures (λ x at. subst (λ ls. HasRoomFor c.args.place x ls c.self.inside.bound) c.as_slice.ensures.value ((c.has_room.ensures x (subst (λ ls. slice_get ls c.args.place ≡ Some x) (sym c.as_slice.ensures.value) at)).0 c.if-not-has_room.false))).is_whole
 
 pub returns : goal.returns
 returns c =
-    ((subst (λ (t : WholeTableau). dictionary (tableau_after (record { variables = c.self.inside.variables; basic = c.self.inside.basic.items; lines = c.self.inside.lines.items; deferred = c.self.inside.deferred; bound = c.self.inside.bound }) c.self.invariant c.args.p c.args.place (subst (λ (t : WholeTableau). IsLegal (dictionary t) c.args.p c.args.place) (sym c.self.view_is) c.requires.legal) c.raise_at.new.lines.items (Some c.args.place)) ≡ exchanged (dictionary t) c.args.p.enter c.args.place) c.self.view_is (after_open (record { variables = c.self.inside.variables; basic = c.self.inside.basic.items; lines = c.self.inside.lines.items; deferred = c.self.inside.deferred; bound = c.self.inside.bound }) c.self.invariant c.args.p c.args.place (subst (λ (t : WholeTableau). IsLegal (dictionary t) c.args.p c.args.place) (sym c.self.view_is) c.requires.legal) c.requires.opens c.raise_at.new.lines.items c.raise_at.ensures (λ x at. subst (λ ls. HasRoomFor c.args.place x ls c.self.inside.bound) c.as_slice.ensures.value (c.has_room.ensures x (subst (λ ls. slice_get ls c.args.place ≡ Some x) (sym c.as_slice.ensures.value) at) c.if-not-has_room.false))).is_dictionary, (ap (λ (t : WholeTableau). t.bound) c.self.view_is)), tt)
+    ((subst (λ (t : WholeTableau). dictionary (tableau_after (record { variables = c.self.inside.variables; basic = c.self.inside.basic.items; lines = c.self.inside.lines.items; deferred = c.self.inside.deferred; bound = c.self.inside.bound }) c.self.invariant c.args.p c.args.place (subst (λ (t : WholeTableau). IsLegal (dictionary t) c.args.p c.args.place) (sym c.self.view_is) c.requires.legal) c.raise_at.new.lines.items (Some c.args.place)) ≡ exchanged (dictionary t) c.args.p.enter c.args.place) c.self.view_is (after_open (record { variables = c.self.inside.variables; basic = c.self.inside.basic.items; lines = c.self.inside.lines.items; deferred = c.self.inside.deferred; bound = c.self.inside.bound }) c.self.invariant c.args.p c.args.place (subst (λ (t : WholeTableau). IsLegal (dictionary t) c.args.p c.args.place) (sym c.self.view_is) c.requires.legal) c.requires.opens c.raise_at.new.lines.items c.raise_at.ensures (λ x at. subst (λ ls. HasRoomFor c.args.place x ls c.self.inside.bound) c.as_slice.ensures.value ((c.has_room.ensures x (subst (λ ls. slice_get ls c.args.place ≡ Some x) (sym c.as_slice.ensures.value) at)).0 c.if-not-has_room.false))).is_dictionary, (ap (λ (t : WholeTableau). t.bound) c.self.view_is)), tt)

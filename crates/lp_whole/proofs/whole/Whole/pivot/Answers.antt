@@ -1,114 +1,32 @@
-use Rattle.std.proofs.Common.{◌≡◌, ℕ, Some, sym, ap, ◌∙◌, subst}
-use Rattle.std.specs.Prelude.{slice_get, Contains, IfOk, IfErr}
-use Rattle.lp_core.specs.Dictionary.{exchanged}
-use Rattle.lp_whole.specs.Whole.{WholeTableau, IsWhole, IsPivoted, dictionary}
-use Rattle.lp_whole.proofs.Answering.{if_ok, must_be, legal_at, fits_at, exchanged_at, bound_at, same_at}
+use Rattle.std.proofs.Common.{◌≡◌, ℕ, ◌≤◌, inl, Some, sym, subst}
+use Rattle.std.specs.Prelude.{slice_get, IfOk, IfErr}
+use Rattle.lp_core.specs.Dictionary.{Dictionary}
+use Rattle.lp_core.specs.Steps.{AllFit, exchange_steps}
+use Rattle.lp_whole.specs.Whole.{dictionary, IsPivotCrowded}
+use Rattle.lp_whole.proofs.Answering.{pivot_crowded}
+use Rattle.lp_whole.proofs.Results.{ok_ok_anyway}
 use Rattle.lp_whole.proofs.whole.Whole.pivot.Goals as goal
 
-pub unreachable-requires : goal.unreachable-requires
-unreachable-requires c =
-    must_be c.args.self (subst IsWhole c.self.view_is c.self.invariant) c.args.p c.requires (subst (λ b. ¬ (Contains b c.args.p.leave)) (c.as_slice.ensures.value ∙ (ap (λ (t : WholeTableau). t.basic) c.self.view_is)) c.in_default.ensures)
+pub returns-then-fits-clause-fits : goal.returns-then-fits-clause-fits
+returns-then-fits-clause-fits c =
+    ok_ok_anyway ((limit pivot k : ℕ) → c.args.self.bound ≤ limit → slice_get c.args.self.basic k ≡ Some c.args.p.leave → AllFit (exchange_steps limit pivot (dictionary c.args.self) c.args.p.enter k)) c.turned.result (c.fits.ensures.fits c.if-fits.true)
 
-pub open-requires-clause-legal : goal.open-requires-clause-legal
-open-requires-clause-legal c =
-    legal_at c.args.self (subst IsWhole c.self.view_is c.self.invariant) c.args.p c.requires c.in-Some.place (subst (λ b. slice_get b c.in-Some.place ≡ Some c.args.p.leave) (c.as_slice.ensures.value ∙ (ap (λ (t : WholeTableau). t.basic) c.self.view_is)) c.in-Some.ensures)
+pub returns-then-fits-2-clause-fits : goal.returns-then-fits-2-clause-fits
+returns-then-fits-2-clause-fits c =
+    ok_ok_anyway ((limit pivot k : ℕ) → c.args.self.bound ≤ limit → slice_get c.args.self.basic k ≡ Some c.args.p.leave → AllFit (exchange_steps limit pivot (dictionary c.args.self) c.args.p.enter k)) c.turned-then-fits-2.result
+    (λ limit pivot k room at.
+    subst (λ d. AllFit (exchange_steps limit pivot d c.args.p.enter k)) c.in_ok-same.ensures.same
+    (c.fits-2.ensures.fits c.if-fits-2.true limit pivot k (subst (λ b. b ≤ limit) (sym c.in_ok-same.ensures.bound) room)
+    (subst (λ (d : Dictionary). slice_get d.basic k ≡ Some c.args.p.leave) (sym c.in_ok-same.ensures.same) at)))
 
-pub step_plain-requires-clause-legal : goal.step_plain-requires-clause-legal
-step_plain-requires-clause-legal c =
-    legal_at c.args.self (subst IsWhole c.self.view_is c.self.invariant) c.args.p c.requires c.in-Some.place (subst (λ b. slice_get b c.in-Some.place ≡ Some c.args.p.leave) (c.as_slice.ensures.value ∙ (ap (λ (t : WholeTableau). t.basic) c.self.view_is)) c.in-Some.ensures)
+pub returns-then-fits-clause-none : goal.returns-then-fits-clause-none
+returns-then-fits-clause-none c = pivot_crowded c.args.self.basic c.args.p c.turned.result c.turned.ensures.none
 
-pub step_plain-requires-clause-later : goal.step_plain-requires-clause-later
-step_plain-requires-clause-later c =
-    c.if-p-eq0.false
+pub returns-then-fits-2-clause-none : goal.returns-then-fits-2-clause-none
+returns-then-fits-2-clause-none c =
+    subst (λ (d : Dictionary). IfOk c.turned-then-fits-2.result (λ s. IfErr s (λ same. (k : ℕ) → slice_get d.basic k ≡ Some c.args.p.leave → IsPivotCrowded same c.args.p k))) c.in_ok-same.ensures.same
+    (pivot_crowded _ c.args.p c.turned-then-fits-2.result c.turned-then-fits-2.ensures.none)
 
-pub step_out-requires-clause-legal : goal.step_out-requires-clause-legal
-step_out-requires-clause-legal c =
-    legal_at c.args.self (subst IsWhole c.self.view_is c.self.invariant) c.args.p c.requires c.in-Some.place (subst (λ b. slice_get b c.in-Some.place ≡ Some c.args.p.leave) (c.as_slice.ensures.value ∙ (ap (λ (t : WholeTableau). t.basic) c.self.view_is)) c.in-Some.ensures)
-
-pub step_out-requires-clause-later : goal.step_out-requires-clause-later
-step_out-requires-clause-later c =
-    c.if-p-eq0.false
-
-pub step_other-requires-clause-legal : goal.step_other-requires-clause-legal
-step_other-requires-clause-legal c =
-    legal_at c.args.self (subst IsWhole c.self.view_is c.self.invariant) c.args.p c.requires c.in-Some.place (subst (λ b. slice_get b c.in-Some.place ≡ Some c.args.p.leave) (c.as_slice.ensures.value ∙ (ap (λ (t : WholeTableau). t.basic) c.self.view_is)) c.in-Some.ensures)
-
-pub step_other-requires-clause-later : goal.step_other-requires-clause-later
-step_other-requires-clause-later c =
-    c.if-p-eq0.false
-
-pub step_plain-requires-clause-plain : goal.step_plain-requires-clause-plain
-step_plain-requires-clause-plain c =
-    sym (ap (λ (t : WholeTableau). t.deferred) c.self.view_is) ∙ c.in_default-deferred.is
-
-pub step_out-requires-clause-out : goal.step_out-requires-clause-out
-step_out-requires-clause-out c =
-    sym (ap (λ (t : WholeTableau). t.deferred) c.self.view_is) ∙ c.in-Some-deferred.is ∙ ap Some (sym c.if-place-k.true)
-
-pub step_other-requires-clause-off : goal.step_other-requires-clause-off
-step_other-requires-clause-off c =
-    sym (ap (λ (t : WholeTableau). t.deferred) c.self.view_is) ∙ c.in-Some-deferred.is
-
-pub returns-then-p-eq0-clause-exchanged : goal.returns-then-p-eq0-clause-exchanged
-returns-then-p-eq0-clause-exchanged c =
-    exchanged_at c.args.self (subst IsWhole c.self.view_is c.self.invariant) c.args.p c.requires c.in-Some.place (subst (λ b. slice_get b c.in-Some.place ≡ Some c.args.p.leave) (c.as_slice.ensures.value ∙ (ap (λ (t : WholeTableau). t.basic) c.self.view_is)) c.in-Some.ensures) c.open.result c.open.ensures
-
-pub returns-then-p-eq0-clause-bound : goal.returns-then-p-eq0-clause-bound
-returns-then-p-eq0-clause-bound c =
-    bound_at c.args.self c.args.p c.in-Some.place c.open.result c.open.ensures
-
-pub returns-then-p-eq0-clause-same : goal.returns-then-p-eq0-clause-same
-returns-then-p-eq0-clause-same c =
-    same_at c.args.self c.args.p c.in-Some.place c.open.result c.open.ensures
-
-pub returns-then-p-eq0-clause-fits : goal.returns-then-p-eq0-clause-fits
-returns-then-p-eq0-clause-fits c =
-    λ limit pivot k room at. fits_at c.args.self (subst IsWhole c.self.view_is c.self.invariant) c.args.p c.requires limit pivot k room at
-
-pub returns-in_default-deferred-clause-exchanged : goal.returns-in_default-deferred-clause-exchanged
-returns-in_default-deferred-clause-exchanged c =
-    if_ok (IsPivoted c.args.self c.args.p c.in-Some.place) (λ r. IfOk r (λ after. (k : ℕ) → slice_get c.args.self.basic k ≡ Some c.args.p.leave → dictionary after ≡ exchanged (dictionary c.args.self) c.args.p.enter k)) c.step_plain.result (exchanged_at c.args.self (subst IsWhole c.self.view_is c.self.invariant) c.args.p c.requires c.in-Some.place (subst (λ b. slice_get b c.in-Some.place ≡ Some c.args.p.leave) (c.as_slice.ensures.value ∙ (ap (λ (t : WholeTableau). t.basic) c.self.view_is)) c.in-Some.ensures)) c.step_plain.ensures
-
-pub returns-in_default-deferred-clause-bound : goal.returns-in_default-deferred-clause-bound
-returns-in_default-deferred-clause-bound c =
-    if_ok (IsPivoted c.args.self c.args.p c.in-Some.place) (λ r. IfOk r (λ after. after.bound ≡ c.args.self.bound)) c.step_plain.result (bound_at c.args.self c.args.p c.in-Some.place) c.step_plain.ensures
-
-pub returns-in_default-deferred-clause-same : goal.returns-in_default-deferred-clause-same
-returns-in_default-deferred-clause-same c =
-    if_ok (IsPivoted c.args.self c.args.p c.in-Some.place) (λ r. IfErr r (λ same. (dictionary same ≡ dictionary c.args.self) × (same.bound ≡ c.args.self.bound))) c.step_plain.result (same_at c.args.self c.args.p c.in-Some.place) c.step_plain.ensures
-
-pub returns-in_default-deferred-clause-fits : goal.returns-in_default-deferred-clause-fits
-returns-in_default-deferred-clause-fits c =
-    λ limit pivot k room at. fits_at c.args.self (subst IsWhole c.self.view_is c.self.invariant) c.args.p c.requires limit pivot k room at
-
-pub returns-then-place-k-clause-exchanged : goal.returns-then-place-k-clause-exchanged
-returns-then-place-k-clause-exchanged c =
-    if_ok (IsPivoted c.args.self c.args.p c.in-Some.place) (λ r. IfOk r (λ after. (k : ℕ) → slice_get c.args.self.basic k ≡ Some c.args.p.leave → dictionary after ≡ exchanged (dictionary c.args.self) c.args.p.enter k)) c.step_out.result (exchanged_at c.args.self (subst IsWhole c.self.view_is c.self.invariant) c.args.p c.requires c.in-Some.place (subst (λ b. slice_get b c.in-Some.place ≡ Some c.args.p.leave) (c.as_slice.ensures.value ∙ (ap (λ (t : WholeTableau). t.basic) c.self.view_is)) c.in-Some.ensures)) c.step_out.ensures
-
-pub returns-then-place-k-clause-bound : goal.returns-then-place-k-clause-bound
-returns-then-place-k-clause-bound c =
-    if_ok (IsPivoted c.args.self c.args.p c.in-Some.place) (λ r. IfOk r (λ after. after.bound ≡ c.args.self.bound)) c.step_out.result (bound_at c.args.self c.args.p c.in-Some.place) c.step_out.ensures
-
-pub returns-then-place-k-clause-same : goal.returns-then-place-k-clause-same
-returns-then-place-k-clause-same c =
-    if_ok (IsPivoted c.args.self c.args.p c.in-Some.place) (λ r. IfErr r (λ same. (dictionary same ≡ dictionary c.args.self) × (same.bound ≡ c.args.self.bound))) c.step_out.result (same_at c.args.self c.args.p c.in-Some.place) c.step_out.ensures
-
-pub returns-then-place-k-clause-fits : goal.returns-then-place-k-clause-fits
-returns-then-place-k-clause-fits c =
-    λ limit pivot k room at. fits_at c.args.self (subst IsWhole c.self.view_is c.self.invariant) c.args.p c.requires limit pivot k room at
-
-pub returns-clause-exchanged : goal.returns-clause-exchanged
-returns-clause-exchanged c =
-    if_ok (IsPivoted c.args.self c.args.p c.in-Some.place) (λ r. IfOk r (λ after. (k : ℕ) → slice_get c.args.self.basic k ≡ Some c.args.p.leave → dictionary after ≡ exchanged (dictionary c.args.self) c.args.p.enter k)) c.step_other.result (exchanged_at c.args.self (subst IsWhole c.self.view_is c.self.invariant) c.args.p c.requires c.in-Some.place (subst (λ b. slice_get b c.in-Some.place ≡ Some c.args.p.leave) (c.as_slice.ensures.value ∙ (ap (λ (t : WholeTableau). t.basic) c.self.view_is)) c.in-Some.ensures)) c.step_other.ensures
-
-pub returns-clause-bound : goal.returns-clause-bound
-returns-clause-bound c =
-    if_ok (IsPivoted c.args.self c.args.p c.in-Some.place) (λ r. IfOk r (λ after. after.bound ≡ c.args.self.bound)) c.step_other.result (bound_at c.args.self c.args.p c.in-Some.place) c.step_other.ensures
-
-pub returns-clause-same : goal.returns-clause-same
-returns-clause-same c =
-    if_ok (IsPivoted c.args.self c.args.p c.in-Some.place) (λ r. IfErr r (λ same. (dictionary same ≡ dictionary c.args.self) × (same.bound ≡ c.args.self.bound))) c.step_other.result (same_at c.args.self c.args.p c.in-Some.place) c.step_other.ensures
-
-pub returns-clause-fits : goal.returns-clause-fits
-returns-clause-fits c =
-    λ limit pivot k room at. fits_at c.args.self (subst IsWhole c.self.view_is c.self.invariant) c.args.p c.requires limit pivot k room at
+pub returns-clause-none : goal.returns-clause-none
+returns-clause-none c = λ k at.
+    inl (c.fits-2.ensures.none c.if-fits-2.false k (subst (λ (d : Dictionary). slice_get d.basic k ≡ Some c.args.p.leave) (sym c.in_ok-same.ensures.same) at))

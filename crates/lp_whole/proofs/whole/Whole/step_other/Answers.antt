@@ -1,6 +1,7 @@
-use Rattle.std.proofs.Common.{◌≡◌, ◌+◌, length, Some, sym, ap, ◌∙◌, subst, arith}
+use Rattle.std.proofs.Common.{◌≡◌, ◌+◌, inr, length, Some, sym, ap, ◌∙◌, subst, arith}
 use Rattle.lp_core.specs.Dictionary.{IsLegal, exchanged}
-use Rattle.lp_whole.specs.Whole.{WholeTableau, dictionary}
+use Rattle.lp_whole.specs.Room.{LinesHaveNoRoom}
+use Rattle.lp_whole.specs.Whole.{WholeTableau, dictionary, kept_place}
 use Rattle.lp_whole.proofs.Crowding.{tableau_same, whole_same, dictionary_same}
 use Rattle.lp_whole.proofs.Pivoting.{tableau_after, k_in, column_in, after_other, off_bounded, off_pivot_above, entry_some, raise_some, swapped_are, z_in, turned_sized}
 use Rattle.lp_whole.proofs.whole.Whole.step_other.Goals as goal
@@ -30,8 +31,14 @@ invariant_of-same c =
     whole_same (record { variables = c.self.inside.variables; basic = c.self.inside.basic.items; lines = c.self.inside.lines.items; deferred = c.self.inside.deferred; bound = c.self.inside.bound }) c.self.invariant c.turn_lines.new.lines.items (c.in_ok-done.ensures.same c.if-not-done.true)
 
 pub returns-then-not-done : goal.returns-then-not-done
-returns-then-not-done c =
-    (tt, (subst (λ (t : WholeTableau). dictionary (tableau_same (record { variables = c.self.inside.variables; basic = c.self.inside.basic.items; lines = c.self.inside.lines.items; deferred = c.self.inside.deferred; bound = c.self.inside.bound }) c.self.invariant c.turn_lines.new.lines.items (c.in_ok-done.ensures.same c.if-not-done.true)) ≡ dictionary t) c.self.view_is (dictionary_same (record { variables = c.self.inside.variables; basic = c.self.inside.basic.items; lines = c.self.inside.lines.items; deferred = c.self.inside.deferred; bound = c.self.inside.bound }) c.self.invariant c.turn_lines.new.lines.items (c.in_ok-done.ensures.same c.if-not-done.true)), (ap (λ (t : WholeTableau). t.bound) c.self.view_is)))
+returns-then-not-done c = (
+  tt,
+  (
+    subst (λ (t : WholeTableau). dictionary (tableau_same (record { variables = c.self.inside.variables; basic = c.self.inside.basic.items; lines = c.self.inside.lines.items; deferred = c.self.inside.deferred; bound = c.self.inside.bound }) c.self.invariant c.turn_lines.new.lines.items (c.in_ok-done.ensures.same c.if-not-done.true)) ≡ dictionary t) c.self.view_is (dictionary_same (record { variables = c.self.inside.variables; basic = c.self.inside.basic.items; lines = c.self.inside.lines.items; deferred = c.self.inside.deferred; bound = c.self.inside.bound }) c.self.invariant c.turn_lines.new.lines.items (c.in_ok-done.ensures.same c.if-not-done.true)),
+    (ap (λ (t : WholeTableau). t.bound) c.self.view_is),
+    inr (c.requires.later, subst (λ o. LinesHaveNoRoom c.self.inside.bound (c.args.p.enter + 1) (kept_place o c.args.place) c.args.place c.turn_lines.new.lines.items) (sym ((ap (λ (t : WholeTableau). t.deferred) c.self.view_is) ∙ c.requires.off)) (c.in_ok-done.ensures.none c.if-not-done.true)),
+  ),
+)
 
 pub swap_lines-requires-clause-first : goal.swap_lines-requires-clause-first
 swap_lines-requires-clause-first c =

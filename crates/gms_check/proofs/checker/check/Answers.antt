@@ -1,9 +1,0 @@
-use Rattle.std.proofs.Common.{◌≡◌, ap, subst, List}
-use Rattle.std.specs.Prelude.{ℕ, IfOk}
-use Rattle.gms_check.specs.Checking.{Checking}
-use Rattle.gms_check.specs.CompileErrors.{compile_errors}
-use Rattle.gms_check.proofs.checker.check.Goals as goal
-
-pub returns : goal.returns
-returns g c =
-    subst (λ (solvers : List (List ℕ)). IfOk c.check_statements.result (λ errors. errors.items ≡ compile_errors g.F.ExactField.value c.args.program.now solvers)) (ap (λ (u : Checking). u.solvers) c.in_ok-checker.ensures) c.check_statements.ensures

@@ -1,0 +1,43 @@
+-- The elements of a linear program in the state of a run, by which the laws say what a solve leaves there (GAMS User's Guide, "Model and Solve
+-- Statements"; "Variables"; "Equations").
+use Rattle.std.specs.Prelude.{◌≡◌, ℕ, ◌<◌, Bool, true, false, not, ◌==◌, List, ◌++◌, length, slice_get, Option, Some, None, if◌then◌else◌}
+use Rattle.gq_number.specs.Number.{Number}
+use Rattle.gms_tuple.specs.TupleOrder.{same_tuple}
+use Rattle.gms_store.specs.State.{State, base_of, symbol_of, has_attributes}
+use Rattle.lp_core.specs.declared.program.Lp.{Lp}
+use Rattle.lp_core.specs.declared.answer.End.{End}
+use Rattle.lp_core.specs.declared.answer.End.TheVariants.{Infeasible, Unbounded, Interrupted, Refused}
+use Rattle.lp_form.specs.declared.key.Key.{Key}
+use Rattle.gms_exec.specs.Solved.{column_keys, row_keys}
+
+-- An element of a state: one of a variable or an equation that is declared, with as many labels as that has positions.
+pub record IsElement (state : State) (key : Key) : Type 0 where
+  pub declared : base_of state key.symbol < length state.symbols
+  pub kind : has_attributes (symbol_of state key.symbol).content ≡ true
+  pub labels : length key.tuple ≡ length (symbol_of state key.symbol).domain
+
+-- An element is not the one of this name at this tuple.
+abbrev pub IsNot : State → Key → ℕ → List ℕ → Type 0
+IsNot state key name t = base_of state name ≡ base_of state key.symbol → same_tuple key.tuple t ≡ false
+
+-- Keys are elements of the state, no two of them the same.
+pub record AreElements (state : State) (keys : List Key) : Type 0 where
+  pub each : (i : ℕ) (key : Key) → slice_get keys i ≡ Some key → IsElement state key
+  pub differ : (i j : ℕ) (key other : Key) → slice_get keys i ≡ Some key → slice_get keys j ≡ Some other → (i ≡ j → ⊥) → IsNot state key other.symbol other.tuple
+
+-- the elements of a program: of its columns, and then of its rows
+abbrev pub elements : Lp Number → List Key
+elements lp = column_keys lp ++ row_keys lp
+
+-- the levels of columns and those of rows at the feasible point with which an end comes that is not optimal, where it comes with one
+abbrev pub feasible_levels : End Number → Option (List Number × List Number)
+feasible_levels (Unbounded levels row_levels ray) = Some (levels, row_levels)
+feasible_levels (Interrupted phase levels row_levels) = if phase == 2 then Some (levels, row_levels) else None
+feasible_levels end = None
+
+-- whether an end comes without a feasible point: there is none, none was found yet, or a number did not fit
+abbrev pub has_no_point : End Number → Bool
+has_no_point (Infeasible duals crossed) = true
+has_no_point (Interrupted phase levels row_levels) = not (phase == 2)
+has_no_point (Refused name) = true
+has_no_point end = false

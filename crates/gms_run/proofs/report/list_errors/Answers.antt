@@ -1,0 +1,11 @@
+use Rattle.std.proofs.Common.{◌∙◌, refl, sym}
+use Rattle.gms_list.specs.ListingText.{compile_errors_text, echo_text}
+use Rattle.gms_run.proofs.Reports.{emptied, filled, two_behind}
+use Rattle.gms_run.proofs.report.list_errors.Goals as goal
+
+pub returns-then-is_empty : goal.returns-then-is_empty
+returns-then-is_empty c = (emptied c.args.errors.now (sym c.is_empty.ensures ∙ c.if-is_empty.true), refl)
+
+pub returns : goal.returns
+returns c =
+    (filled c.args.errors.now (sym c.is_empty.ensures ∙ c.if-is_empty.false), two_behind c.args.listing.now (echo_text 1 c.args.source.now) c.echo.new.self (compile_errors_text c.args.errors.now) c.errors.new.self c.in_ok-echo.ensures c.in_ok-errors.ensures)

@@ -1,0 +1,7 @@
+use Rattle.std.proofs.Common.{◌≡◌, take}
+use Rattle.gms_save.specs.JointErrors.{each_sooner}
+use Rattle.gms_save.specs.RestartChecks.{error_by}
+use Rattle.gms_save.proofs.restart.RestartCheck.add_errors.Given as goal
+
+abbrev pub invariant-loop-place : goal.invariant-loop-place
+invariant-loop-place l = l.each ≡ each_sooner (error_by l.self) l.initial.each (take l.place l.statements)

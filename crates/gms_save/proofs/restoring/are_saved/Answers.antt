@@ -1,0 +1,20 @@
+use Rattle.std.proofs.Common.{◌≡◌, ◌≤◌, Bool, true, false, refl, arith, below_more}
+use Rattle.gms_known.specs.Facts.{marked}
+use Rattle.gms_save.specs.RestoreSteps.{IsSavedAt}
+use Rattle.gms_save.proofs.restoring.are_saved.Goals as goal
+
+not_both : (b : Bool) → b ≡ true → b ≡ false → ⊥
+not_both b e f = absurd cc
+
+pub returns-then-not-branch : goal.returns-then-not-branch
+returns-then-not-branch c =
+    (λ e. absurd (not_both false e refl), λ all. absurd (not_both c.in_ok-is_saved_at.field-0 (c.in_ok-is_saved_at.ensures.1 (all c.loop-name.name c.loop-name-test.true)) c.if-not-branch.true))
+
+pub loop-name-preserved : goal.loop-name-preserved
+loop-name-preserved c =
+    below_more (λ n. IsSavedAt c.args.labels (marked c.args.assigned.now) c.args.first.now c.args.store.now n) c.loop-name.name c.loop-name.invariant (c.in_ok-is_saved_at.ensures.0 c.if-not-branch.false)
+
+pub returns : goal.returns
+returns c =
+    let past : c.args.names ≤ c.loop-name.name = c.loop-name-test.false in
+    (λ _. λ n below. c.loop-name.invariant n (omega (arith, past, below)), λ _. refl)

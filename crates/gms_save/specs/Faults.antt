@@ -1,0 +1,32 @@
+-- The numbers and names of the faults of a save.
+use Rattle.std.specs.Prelude.{ℕ, List, codes}
+use Rattle.gms_save.specs.declared.fault.SaveFault.{SaveFault}
+use Rattle.gms_save.specs.declared.fault.SaveFault.TheVariants.{SaveTooLong, SaveShape, SaveSolver}
+use Rattle.gms_save.specs.declared.fault.SaveFaultOrMemory.{SaveFaultOrMemory}
+use Rattle.gms_save.specs.declared.fault.SaveFaultOrMemory.TheVariants.{Memory, Fault}
+use Rattle.gms_saved.specs.declared.fault.ReadFault.{ReadFault}
+use Rattle.gms_saved.specs.declared.fault.ReadFault.TheVariants as read
+use Rattle.gms_parse.specs.declared.fault.SourceFaultOrMemory.{SourceFaultOrMemory}
+use Rattle.gms_parse.specs.declared.fault.SourceFaultOrMemory.TheVariants as parsed
+
+-- the number of a fault
+abbrev pub fault_code : SaveFault → ℕ
+fault_code SaveShape = 41
+fault_code SaveTooLong = 42
+fault_code SaveSolver = 43
+
+-- the name of a fault
+abbrev pub fault_name : SaveFault → List ℕ
+fault_name SaveShape = codes "SaveShape"
+fault_name SaveTooLong = codes "SaveTooLong"
+fault_name SaveSolver = codes "SaveSolver"
+
+-- what was not read is no save, unless memory was wanting
+abbrev pub fault_of_reading : ReadFault → SaveFaultOrMemory
+fault_of_reading read.Memory = Memory
+fault_of_reading read.Shape = Fault SaveShape
+
+-- what is no program has no save, unless memory was wanting
+abbrev pub fault_of_source : SourceFaultOrMemory → SaveFaultOrMemory
+fault_of_source parsed.Memory = Memory
+fault_of_source (parsed.Fault fault) = Fault SaveShape

@@ -1,0 +1,112 @@
+-- The errors of the joint program of a restarted run: of the saved source and the new file behind it (GAMS User's Guide, "Save and Restart",
+-- "Dynamic Sets", "Variables"). What a new file may not do to a saved name is this project's own rule.
+use Rattle.std.specs.Prelude.{◌≡◌, ℕ, Bool, not, ◌&&◌, nat_lt, List, [], ◌∷◌, ◌++◌, map, flat_map, filter, length, Option, None, option_to_list, if◌then◌else◌}
+use Rattle.gq_number.specs.Number.{Number}
+use Rattle.gms_labels.specs.declared.place.Place.{Place}
+use Rattle.gms_ast.specs.declared.declaration.Decl.{Decl}
+use Rattle.gms_ast.specs.declared.declaration.DeclKind.{DeclKind}
+use Rattle.gms_ast.specs.declared.program.Act.{Act}
+use Rattle.gms_ast.specs.declared.program.Act.TheVariants.{Declare}
+use Rattle.gms_ast.specs.declared.program.Program.{Program}
+use Rattle.gms_ast.specs.declared.program.Stmt.{Stmt}
+use Rattle.gms_ast.specs.declared.program.Act.TheOpen.{Act-F}
+use Rattle.gms_ast.specs.declared.program.Act.TheFolds.{fold-Stmt}
+use Rattle.gms_store.specs.State.{State, symbol_at, base_of}
+use Rattle.gms_store.specs.Declarations.{blank_state, content_of, declared_by_all, declared_state, is_set}
+use Rattle.gms_store.specs.Overlays.{overlaid}
+use Rattle.gms_known.specs.DynamicSets.{assigned}
+use Rattle.gms_check.specs.declared.error.ErrorKind.TheVariants.{Restart}
+use Rattle.gms_check.specs.declared.error.CompileError.{CompileError}
+use Rattle.gms_check.specs.Errors.{first_of, sooner}
+use Rattle.gms_check.specs.Names.{is_variable}
+use Rattle.gms_check.specs.Past.{is_among}
+use Rattle.gms_check.specs.CompileErrors.{statement_errors}
+use Rattle.gms_check.specs.Loaded.{loaded}
+
+-- the error at a place
+abbrev pub restart_at : Place → CompileError
+restart_at at = record { kind = Restart; at = at }
+
+-- the errors at those of some names, each with its place, that have a property
+abbrev pub restarts_at : (ℕ → Bool) → List (Place × ℕ) → List CompileError
+restarts_at test names =
+    map (λ (named : Place × ℕ). restart_at named.0) (filter (λ (named : Place × ℕ). test named.1) names)
+
+-- the error of each of some statements, where another one of it may come first: the first by place, then by number
+abbrev pub each_sooner : {X : Type 0} → (X → Option CompileError) → List (Option CompileError) → List X → List (Option CompileError)
+each_sooner other (error ∷ errors) (x ∷ xs) = sooner error (other x) ∷ each_sooner other errors xs
+each_sooner other errors xs = errors
+
+module _ {F : Type 0} where
+  -- whether a statement is one of the saved source: it begins above the first line of the new file
+  abbrev pub is_saved : ℕ → Stmt F → Bool
+  is_saved from statement = nat_lt statement.at.line from
+
+  -- the statements of the saved source
+  abbrev pub saved_statements : ℕ → Program F → List (Stmt F)
+  saved_statements from joint = filter (is_saved from) joint.statements.items
+
+  -- what the saved source declares
+  abbrev pub saved_names : ℕ → Program F → State
+  saved_names from joint = declared_by_all (blank_state (length joint.names)) (saved_statements from joint)
+
+  -- the sets that the saved source assigns, an alias as its set
+  abbrev pub saved_assigned : ℕ → Program F → List ℕ
+  saved_assigned from joint = map (base_of (declared_state joint)) (flat_map assigned (saved_statements from joint))
+
+  -- whether a name is that of a saved variable
+  abbrev pub is_saved_variable : ℕ → Program F → ℕ → Bool
+  is_saved_variable from joint name = is_variable (symbol_at (saved_names from joint) name).content
+
+  -- whether a set is one that the saved source declares and does not assign
+  abbrev pub is_fixed_set : ℕ → Program F → ℕ → Bool
+  is_fixed_set from joint set = is_set (symbol_at (saved_names from joint) set).content && not (is_among (saved_assigned from joint) set)
+
+  -- whether a name is that of such a set, an alias as its set
+  abbrev pub is_fixed : ℕ → Program F → ℕ → Bool
+  is_fixed from joint name = is_fixed_set from joint (base_of (declared_state joint) name)
+
+  -- the names that are declared, each with its place
+  abbrev pub names_at : List (Decl F) → List (Place × ℕ)
+  names_at items = map (λ (item : Decl F). (item.named.at, item.named.name)) items
+
+  -- those of them that a declaration of this kind gives a type
+  abbrev pub names_typed : DeclKind → List (Decl F) → List (Place × ℕ)
+  names_typed kind items = if is_variable (content_of kind) then names_at items else []
+
+  -- the names that an act gives a type, each with its place
+  abbrev pub typed_names : Act F → List (Place × ℕ)
+  typed_names (Declare kind items) = names_typed kind items
+  typed_names act = []
+
+  -- the names that an act assigns, each with its place, or those that its body does
+  abbrev pub targets_step : Act-F F (List (Place × ℕ)) (List (Place × ℕ)) → List (Place × ℕ)
+  targets_step (Act-F.Assign target condition right_at right) = (target.at, target.name) ∷ []
+  targets_step (Act-F.Loop control body) = flat_map (λ targets. targets) body.items
+  targets_step act = []
+
+  -- the names that a statement assigns, each with its place
+  abbrev pub targets : Stmt F → List (Place × ℕ)
+  targets = fold-Stmt F (List (Place × ℕ)) (List (Place × ℕ)) targets_step (λ statement. statement.act)
+
+  -- Restart: a saved variable that a statement gives a type, or a set of the saved source that it assigns and the saved source does not
+  abbrev pub restart_errors : ℕ → Program F → Stmt F → List CompileError
+  restart_errors from joint statement =
+      restarts_at (is_saved_variable from joint) (typed_names statement.act) ++ restarts_at (is_fixed from joint) (targets statement)
+
+  -- the first of these of a statement of the new file; the saved source has none
+  abbrev pub restart_error : ℕ → Program F → Stmt F → Option CompileError
+  restart_error from joint statement = if is_saved from statement then None else first_of (restart_errors from joint statement)
+
+  -- the errors of the joint program: those of a check, and Restart among them, at most one a statement
+  abbrev pub joint_errors : (F → Number) → Program F → ℕ → List (List ℕ) → List CompileError
+  joint_errors value joint from solvers =
+      flat_map option_to_list (each_sooner (restart_error from joint) (statement_errors value joint solvers) joint.statements.items)
+
+  -- solvers of some names find no error
+  abbrev pub HasNoErrors : (F → Number) → Program F → ℕ → Type 0
+  HasNoErrors value joint from = (solvers : List (List ℕ)) × (joint_errors value joint from solvers ≡ [])
+
+  -- the state from which a restarted run goes on: the saved one, and beside it what the joint program declares anew, with its data
+  abbrev pub resumed : (F → Number) → State → Program F → State
+  resumed value saved joint = overlaid (loaded value joint) saved

@@ -1,0 +1,5 @@
+pub mod Faults
+pub mod JointErrors
+pub mod RestartChecks
+pub mod RestoreSteps
+pub mod Saves

@@ -1,0 +1,121 @@
+-- Saves: which bytes are one, and what is restored from them (GAMS User's Guide, "Save and Restart"). Which texts are saves, and how many bytes
+-- one may have, is this project's own choice.
+use Rattle.std.specs.Prelude.{◌≡◌, ◌⊎◌, ℕ, ◌-◌, ◌^◌, ◌<◌, ◌≤◌, ◌==◌, List, [], ◌∷◌, length, flat_map, Option, Some, None, position, codes, Result, Ok, Err, if◌then◌else◌}
+use Rattle.std.specs.Str.{bytes_eq, str_eq_ignore_ascii_case}
+use Rattle.gq_frac.specs.declared.frac.Frac.{Frac}
+use Rattle.gq_frac.specs.Frac.{frac_value}
+use Rattle.gms_ast.specs.declared.word.Word.{Word}
+use Rattle.gms_ast.specs.declared.program.Program.{Program}
+use Rattle.gms_ast.specs.declared.program.Setting.{Setting}
+use Rattle.gms_ast.specs.declared.program.Setting.TheVariants as setting
+use Rattle.gms_ast.specs.declared.program.Stmt.{Stmt}
+use Rattle.gms_ast.specs.declared.program.Act.TheOpen.{Act-F}
+use Rattle.gms_ast.specs.declared.program.Act.TheFolds.{fold-Stmt}
+use Rattle.gms_store.specs.State.{State}
+use Rattle.gms_store.specs.Declarations.{declared_state}
+use Rattle.gms_parse.specs.declared.fault.SourceFault.{SourceFault}
+use Rattle.gms_parse.specs.Outcomes.{IsProgram, IsFault}
+use Rattle.gms_known.specs.DynamicSets.{dynamic_sets}
+use Rattle.gms_check.specs.Past.{is_among}
+use Rattle.gms_check.specs.CompileErrors.{compile_errors}
+use Rattle.gms_check.specs.Loaded.{loaded}
+use Rattle.gms_saved.specs.SavedState.{saved_text}
+use Rattle.gms_saved.specs.Validity.{IsSavedOf}
+use Rattle.gms_save.specs.declared.saved.Saved.{Saved}
+use Rattle.gms_save.specs.declared.fault.SaveFault.TheVariants.{SaveTooLong, SaveShape, SaveSolver}
+use Rattle.gms_save.specs.declared.fault.SaveFaultOrMemory.{SaveFaultOrMemory}
+use Rattle.gms_save.specs.declared.fault.SaveFaultOrMemory.TheVariants.{Memory, Fault}
+
+-- the greatest magnitude of a part of a number
+abbrev pub number_limit : ℕ
+number_limit = 2 ^ 127 - 1
+
+-- how many bytes a save has at most
+abbrev pub most_bytes : ℕ
+most_bytes = 67108864
+
+-- ---- the names of solvers
+
+-- the names that an option gives to `lp`
+abbrev pub option_solvers : Word × Setting Frac → List (List ℕ)
+option_solvers (word, setting.Number at value) = []
+option_solvers (word, setting.Name name) = if str_eq_ignore_ascii_case word.text (codes "lp") then name.text ∷ [] else []
+
+-- the names of solvers that an act chooses, or those that its body does
+abbrev pub solvers_step : Act-F Frac (List (List ℕ)) (List (List ℕ)) → List (List ℕ)
+solvers_step (Act-F.Options settings) = flat_map option_solvers settings
+solvers_step (Act-F.Loop control body) = flat_map (λ names. names) body.items
+solvers_step act = []
+
+-- the names of solvers that a statement chooses
+abbrev pub solvers_in : Stmt Frac → List (List ℕ)
+solvers_in = fold-Stmt Frac (List (List ℕ)) (List (List ℕ)) solvers_step (λ statement. statement.act)
+
+-- the names of solvers that a program chooses: with solvers of these names no choice is an error
+abbrev pub solvers_chosen : Program Frac → List (List ℕ)
+solvers_chosen program = flat_map solvers_in program.statements.items
+
+-- the place of a saved solver among solvers of these names: the first of its name, letter case ignored. The word `none` says that there was no solver, and goes with no others
+abbrev pub place_of_solver : List (List ℕ) → List ℕ → Option ℕ
+place_of_solver solvers solver =
+    if bytes_eq solver (codes "none") then (if length solvers == 0 then Some 0 else None) else position (λ name. str_eq_ignore_ascii_case name solver) solvers
+
+-- ---- saves
+
+-- a state is a saved one of a program without errors, for solvers of the names that it chooses
+pub record IsSavedBy (program : Program Frac) (state : State) (solver : List ℕ) : Type 0 where
+  pub no_error : compile_errors frac_value program (solvers_chosen program) ≡ []
+  pub is_saved : IsSavedOf number_limit (length program.labels) (declared_state program) (loaded frac_value program) (is_among (dynamic_sets program)) state solver
+
+-- Bytes are the save of a state of a program, with a solver of this name, over the program's source.
+pub record IsSaveOf (bytes source : List ℕ) (program : Program Frac) (state : State) (solver : List ℕ) : Type 0 where
+  pub is_program : IsProgram number_limit source frac_value program
+  pub is_saved : IsSavedBy program state solver
+  pub text : bytes ≡ saved_text source program.names state solver
+
+-- A source with these names has no such saved state: it has a fault, or a program that has other names or by which the state is no saved one.
+abbrev pub IsUnfit : List ℕ → List (List ℕ) → State → List ℕ → Type 0
+IsUnfit source names state solver =
+    ((fault : SourceFault) × IsFault number_limit source fault) ⊎ ((program : Program Frac) × IsProgram number_limit source frac_value program × (names ≡ program.names → IsSavedBy program state solver → ⊥))
+
+-- Bytes are no save: wherever they are the text of a state over a source, that has no such saved state.
+abbrev pub IsNoSave : List ℕ → Type 0
+IsNoSave bytes = (source : List ℕ) (names : List (List ℕ)) (state : State) (solver : List ℕ) → bytes ≡ saved_text source names state solver → IsUnfit source names state solver
+
+-- a save whose solver no solver of these names is
+pub record LacksSolver (solvers : List (List ℕ)) (bytes : List ℕ) : Type 0 where
+  pub source : List ℕ
+  pub program : Program Frac
+  pub state : State
+  pub solver : List ℕ
+  pub is_save : IsSaveOf bytes source program state solver
+  pub lacks : place_of_solver solvers solver ≡ None
+
+-- What was restored is what the bytes are the save of, with the place of the solver in the settings.
+pub record IsRestored (solvers : List (List ℕ)) (bytes : List ℕ) (saved : Saved) : Type 0 where
+  pub solver : List ℕ
+  pub is_save : IsSaveOf bytes saved.source.items saved.program saved.store solver
+  pub placed : place_of_solver solvers solver ≡ Some saved.store.settings.solver
+
+-- what restoring bytes answers, with solvers of these names
+abbrev pub Restores : List (List ℕ) → List ℕ → Result Saved SaveFaultOrMemory → Type 0
+Restores solvers bytes (Ok saved) = (length bytes ≤ most_bytes) × IsRestored solvers bytes saved
+Restores solvers bytes (Err Memory) = Unit {0}
+Restores solvers bytes (Err (Fault SaveTooLong)) = most_bytes < length bytes
+Restores solvers bytes (Err (Fault SaveShape)) = (length bytes ≤ most_bytes) × IsNoSave bytes
+Restores solvers bytes (Err (Fault SaveSolver)) = (length bytes ≤ most_bytes) × LacksSolver solvers bytes
+
+-- a state with the solver of this place
+abbrev pub with_solver : State → ℕ → State
+with_solver state place = record { symbols = state.symbols; settings = record state.settings { solver = place } }
+
+-- What was restored is this state over this source, and the place of this solver stands in its settings.
+pub record IsBack (solvers : List (List ℕ)) (saved : Saved) (source : List ℕ) (state : State) (solver : List ℕ) : Type 0 where
+  pub source_is : saved.source.items ≡ source
+  pub state_is : saved.store ≡ with_solver state saved.store.settings.solver
+  pub placed : place_of_solver solvers solver ≡ Some saved.store.settings.solver
+
+-- Whatever state of the restored program the bytes are the save of, over whatever source and with whatever solver's name: it is what was restored.
+abbrev pub IsOnly : List (List ℕ) → List ℕ → Saved → Type 0
+IsOnly solvers bytes saved =
+    (source : List ℕ) (state : State) (solver : List ℕ) → IsSaveOf bytes source saved.program state solver → IsBack solvers saved source state solver

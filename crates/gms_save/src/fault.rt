@@ -1,0 +1,94 @@
+//! Why a save was not restored.
+ghost use Rattle.std.specs.Prelude.{◌≡◌};
+ghost use Rattle.gms_save.specs.declared.fault.SaveFaultOrMemory.TheVariants.{Memory};
+ghost use Rattle.gms_save.specs.Faults.{fault_code, fault_name, fault_of_reading, fault_of_source};
+
+use gms_parse::SourceFaultOrMemory;
+use gms_saved::ReadFault;
+use std::alloc::{AllocError, AllocFailed};
+use thiserror::Error;
+
+/// Why a save was not restored.
+#[derive(Clone, Copy, Debug, PartialEq, Eq, Error)]
+pub enum SaveFault {
+    /// The save has over 67,108,864 bytes.
+    #[error("the save is too long")]
+    SaveTooLong,
+    /// The bytes are no save.
+    #[error("this is no save")]
+    SaveShape,
+    /// There is no solver of the name that the save has.
+    #[error("no solver has the name in the save")]
+    SaveSolver,
+}
+
+impl SaveFault {
+    /// The number of the fault in a listing.
+    pub fn code(self) -> u8
+        ensures { result ≡ fault_code self }
+    {
+        match self {
+            SaveFault::SaveShape => 41,
+            SaveFault::SaveTooLong => 42,
+            SaveFault::SaveSolver => 43,
+        }
+    }
+
+    /// The name of the fault in a listing.
+    pub fn name(self) -> &'static str
+        ensures { result.now ≡ fault_name self }
+    {
+        match self {
+            SaveFault::SaveShape => "SaveShape",
+            SaveFault::SaveTooLong => "SaveTooLong",
+            SaveFault::SaveSolver => "SaveSolver",
+        }
+    }
+}
+
+/// A fault of a save, or want of memory.
+#[derive(Clone, Copy, Debug, PartialEq, Eq)]
+pub enum SaveFaultOrMemory {
+    /// A growth found no memory.
+    Memory,
+    /// The save has this fault.
+    Fault(SaveFault),
+}
+
+impl From<AllocError> for SaveFaultOrMemory {
+    ghost from_gives = { λ _ fault. fault ≡ Memory };
+
+    fn from(_error: AllocError) -> SaveFaultOrMemory {
+        SaveFaultOrMemory::Memory
+    }
+}
+
+impl<T: Drop> From<AllocFailed<T>> for SaveFaultOrMemory {
+    ghost from_gives = { λ _ fault. fault ≡ Memory };
+
+    fn from(_error: AllocFailed<T>) -> SaveFaultOrMemory {
+        SaveFaultOrMemory::Memory
+    }
+}
+
+impl From<ReadFault> for SaveFaultOrMemory {
+    ghost from_gives = { λ reading fault. fault ≡ fault_of_reading reading };
+
+    fn from(fault: ReadFault) -> SaveFaultOrMemory {
+        match fault {
+            ReadFault::Memory => SaveFaultOrMemory::Memory,
+            ReadFault::Shape => SaveFaultOrMemory::Fault(SaveFault::SaveShape),
+        }
+    }
+}
+
+impl From<SourceFaultOrMemory> for SaveFaultOrMemory {
+    ghost from_gives = { λ source fault. fault ≡ fault_of_source source };
+
+    fn from(fault: SourceFaultOrMemory) -> SaveFaultOrMemory {
+        match fault {
+            SourceFaultOrMemory::Memory => SaveFaultOrMemory::Memory,
+            SourceFaultOrMemory::Fault(_) => SaveFaultOrMemory::Fault(SaveFault::SaveShape),
+        }
+    }
+}

@@ -1,0 +1,193 @@
+//! The check of what a new file may not do to saved names.
+ghost use Rattle.std.specs.Prelude.{◌≡◌, ◌∷◌, [], None, Some, flat_map, length, if◌then◌else◌, IfOk};
+ghost use Rattle.gms_store.specs.Declarations.{content_of};
+ghost use Rattle.gms_check.specs.Errors.{first_of, sooner};
+ghost use Rattle.gms_check.specs.Names.{is_variable};
+ghost use Rattle.gms_save.specs.JointErrors.{each_sooner, is_saved, names_typed, restart_at, restarts_at, targets, typed_names};
+ghost use Rattle.gms_save.specs.RestartChecks.{IsCheckOf, error_by, fixed_by, variable_in};
+
+use gms_ast::{Act, Decl, DeclKind, Named, Program, Stmt, Target};
+use gms_check::{CompileError, ErrorKind};
+use gms_known::{Marks, mark_statement};
+use gms_labels::Place;
+use gms_store::{Store, SymbolKind};
+use gq_frac::Frac;
+use std::alloc::{AllocError, Global};
+
+/// What the saved source declares and assigns, by which the statements of the new file are looked at.
+#[derive(Drop)]
+pub(crate) struct RestartCheck {
+    /// The first line of the new file.
+    pub from: u32,
+    /// What the saved source declares.
+    pub saved: Store<Frac>,
+    /// What the joint program declares.
+    pub declared: Store<Frac>,
+    /// The sets that the saved source assigns.
+    pub assigned: Marks,
+}
+
+impl RestartCheck {
+    /// The check of a joint program whose new file begins at a line.
+    pub fn new(alloc: Global, joint: &Program<Frac>, from: u32) -> Result<RestartCheck, AllocError>
+        ensures { IfOk result (IsCheckOf from joint.now) }
+    {
+        let names = joint.names.len();
+        let declared = Store::new(alloc, joint)?;
+        let mut saved = Store::blank(alloc, names)?;
+        let mut assigned = Marks::new(alloc, names)?;
+        for statement in &joint.statements {
+            if is_saved(statement, from) {
+                saved.declare_act(alloc, &statement.act)?;
+                mark_statement(statement, &declared, &mut assigned);
+            }
+        }
+        Ok(RestartCheck {
+            from,
+            saved,
+            declared,
+            assigned,
+        })
+    }
+
+    /// Puts the first `Restart` of each of some statements in the place of its error, where it comes first.
+    pub fn add_errors(&self, statements: &[Stmt<Frac>], each: &mut [Option<CompileError>])
+        requires { length each.old ≡ length statements.now }
+        ensures { each.new ≡ each_sooner (error_by self.now) each.old statements.now }
+    {
+        for (place, statement) in statements.iter().enumerate() {
+            each[place] = sooner(each[place], self.error_of(statement));
+        }
+    }
+
+    /// The first `Restart` of a statement of the new file, where there is one. The saved source has none.
+    fn error_of(&self, statement: &Stmt<Frac>) -> Option<CompileError>
+        ensures { result ≡ error_by self.now statement.now }
+    {
+        if is_saved(statement, self.from) {
+            return None;
+        }
+        sooner(
+            self.type_error(&statement.act),
+            self.target_error(statement),
+        )
+    }
+
+    /// The first saved variable to which an act gives a type.
+    fn type_error(&self, act: &Act<Frac>) -> Option<CompileError>
+        ensures { result ≡ first_of (restarts_at (variable_in self.now.saved) (typed_names act.now)) }
+    {
+        match act {
+            Act::Declare { kind, items } => self.type_error_among(*kind, items.as_slice()),
+            _ => None,
+        }
+    }
+
+    /// The first saved variable among names that are declared, where they are given a type.
+    fn type_error_among(&self, kind: DeclKind, items: &[Decl<Frac>]) -> Option<CompileError>
+        ensures { result ≡ first_of (restarts_at (variable_in self.now.saved) (names_typed kind items.now)) }
+    {
+        if !gives_type(kind) {
+            return None;
+        }
+        let mut first = None;
+        for item in items {
+            first = sooner(first, self.type_error_at(item.named));
+        }
+        first
+    }
+
+    /// `Restart` at a name that is given a type, where it is that of a saved variable.
+    fn type_error_at(&self, named: Named) -> Option<CompileError>
+        ensures { result ≡ first_of (restarts_at (variable_in self.now.saved) ((named.at, named.name) ∷ [])) }
+    {
+        error_where(self.is_saved_variable(named.name), named.at)
+    }
+
+    /// The first set of the saved source that a statement assigns and the saved source does not.
+    #[cycle(targets)]
+    fn target_error(&self, statement: &Stmt<Frac>) -> Option<CompileError>
+        ensures { result ≡ first_of (restarts_at (fixed_by self.now) (targets statement.now)) }
+    {
+        match &statement.act {
+            Act::Assign { target, .. } => self.target_error_at(target),
+            Act::Loop { body, .. } => self.target_error_among(body),
+            _ => None,
+        }
+    }
+
+    /// The first such set of some statements.
+    #[cycle(targets)]
+    fn target_error_among(&self, statements: &[Stmt<Frac>]) -> Option<CompileError>
+        ensures { result ≡ first_of (restarts_at (fixed_by self.now) (flat_map targets statements.now)) }
+    {
+        let mut first = None;
+        for statement in statements {
+            first = sooner(first, self.target_error(statement));
+        }
+        first
+    }
+
+    /// `Restart` at what is assigned, where it is such a set.
+    fn target_error_at(&self, target: &Target<Frac>) -> Option<CompileError>
+        ensures { result ≡ first_of (restarts_at (fixed_by self.now) ((target.now.at, target.now.name) ∷ [])) }
+    {
+        error_where(self.is_fixed(target.name), target.at)
+    }
+
+    /// Whether the saved source declares a name as a variable.
+    fn is_saved_variable(&self, name: u32) -> bool
+        ensures { result ≡ variable_in self.now.saved name }
+    {
+        self.saved.kind_of(name) == SymbolKind::Variable
+    }
+
+    /// Whether a name is that of a set that the saved source declares and does not assign, an alias as its set.
+    fn is_fixed(&self, name: u32) -> bool
+        ensures { result ≡ fixed_by self.now name }
+    {
+        let set = self.declared.base(name);
+        self.saved.kind_of(set) == SymbolKind::Set && !self.assigned.is_set(set)
+    }
+}
+
+/// Whether a statement is one of the saved source, where the new file begins at a line.
+fn is_saved(statement: &Stmt<Frac>, from: u32) -> bool
+    ensures { result ≡ is_saved from statement.now }
+{
+    statement.at.line < from
+}
+
+/// Whether a declaration gives variables a type.
+fn gives_type(kind: DeclKind) -> bool
+    ensures { result ≡ is_variable (content_of kind) }
+{
+    match kind {
+        DeclKind::Free | DeclKind::Positive | DeclKind::Negative | DeclKind::Discrete => true,
+        _ => false,
+    }
+}
+
+/// `Restart` at a place, where it is an error there.
+fn error_where(is_error: bool, at: Place) -> Option<CompileError>
+    ensures { result ≡ (if is_error then Some (restart_at at) else None) }
+{
+    if is_error {
+        Some(CompileError {
+            kind: ErrorKind::Restart,
+            at,
+        })
+    } else {
+        None
+    }
+}
+
+/// The earlier of two errors, where there are any.
+fn sooner(one: Option<CompileError>, other: Option<CompileError>) -> Option<CompileError>
+    ensures { result ≡ sooner one other }
+{
+    match one {
+        Some(error) => Some(error.or_earlier(other)),
+        None => other,
+    }
+}

@@ -1,0 +1,223 @@
+//! Saving a state, and restoring it.
+ghost use Rattle.std.specs.Prelude.{◌≡◌, ◌↔◌, ◌<◌, ◌^◌, [], ℕ, false, length, map, string_bytes, IsTrue, IfOk, MatchResult};
+ghost use Rattle.gq_frac.specs.Frac.{frac_value};
+ghost use Rattle.gms_store.specs.State.{members_in, symbol_at};
+ghost use Rattle.gms_store.specs.Declarations.{declared_state};
+ghost use Rattle.gms_known.specs.Facts.{marked};
+ghost use Rattle.gms_check.specs.CompileErrors.{compile_errors};
+ghost use Rattle.gms_check.specs.Loaded.{IsAccepted};
+ghost use Rattle.gms_saved.specs.SavedState.{saved_text};
+ghost use Rattle.gms_saved.specs.Validity.{declared_in};
+ghost use Rattle.gms_save.specs.Saves.{IsOnly, Restores, solvers_chosen, with_solver};
+ghost use Rattle.gms_save.specs.RestoreSteps.{IsFree, IsFaultyBy, IsNoStateBy, IsSavedAt, IsSavedIn, IsStateOf};
+
+use crate::fault::{SaveFault, SaveFaultOrMemory};
+use crate::saved::Saved;
+use crate::solvers::{place_of_solver, solvers_chosen};
+use gms_ast::Program;
+use gms_check::{found_errors, load, statement_errors};
+use gms_known::{Marks, dynamic_sets};
+use gms_parse::parse;
+use gms_saved::{
+    are_in_range, has_same_members, is_given_well, is_solver_name, read_source, read_state, text_of,
+};
+use gms_store::Store;
+use gq_frac::Frac;
+use std::alloc::{AllocError, Global};
+
+/// How many bytes a save has at most.
+pub const MOST_BYTES: usize = 67_108_864;
+
+/// The save of a state of a program, over the program's source, with the name of the solver in place of its number (GAMS
+/// User's Guide, "Save and Restart"): a text that a person can read, and exactly one for each state.
+///
+/// `AllocError` comes where memory was wanting. A save of over 67,108,864 bytes is made, and `restore` does not take it.
+pub fn save(
+    alloc: Global,
+    source: &[u8],
+    program: &Program<Frac>,
+    store: &Store<Frac>,
+    solver: &str,
+) -> Result<Vec<u8>, AllocError>
+    ensures { IfOk result (λ text. text.items ≡ saved_text source.now program.now.names store.now solver.now) }
+{
+    text_of(alloc, source, &program.names, store, solver.as_bytes())
+}
+
+/// What a save has: the source, its program, and the state after it, with the solver's place among solvers of these names
+/// (GAMS User's Guide, "Save and Restart").
+///
+/// `SaveTooLong` comes exactly where there are over 67,108,864 bytes. Else `SaveShape` comes exactly where the bytes are no
+/// save: a save has the one text of a state that the program of its source can have, and that program has no error but
+/// perhaps in its choice of a solver. Else `SaveSolver` comes exactly where the save says that there was no solver and the
+/// list is not empty, or where the list lacks its solver. `Memory` comes where memory was wanting.
+///
+/// The save of a state of the program restores to that state, over the source that was saved: no text is the save of two.
+pub fn restore(alloc: Global, bytes: &[u8], solvers: &[String]) -> Result<Saved, SaveFaultOrMemory>
+    requires { length solvers.now < 2 ^ 32 }
+    ensures answer { Restores (map string_bytes solvers.now) bytes.now result }
+    ensures only { IfOk result (IsOnly (map string_bytes solvers.now) bytes.now) }
+{
+    if bytes.len() > MOST_BYTES {
+        return Err(SaveFaultOrMemory::Fault(SaveFault::SaveTooLong));
+    }
+    let (source, text) = read_source(bytes)?;
+    let program = read_program(alloc, source)?;
+    let (mut store, solver) = saved_state(alloc, &program, text)?;
+    if !is_text(alloc, bytes, source, &program, &store, solver)? {
+        return Err(SaveFaultOrMemory::Fault(SaveFault::SaveShape));
+    }
+    let Some(place) = place_of_solver(solvers, solver) else {
+        return Err(SaveFaultOrMemory::Fault(SaveFault::SaveSolver));
+    };
+    put_solver(&mut store, place);
+    let copy = Vec::from_slice(alloc, source)?;
+    Ok(Saved {
+        source: copy,
+        program,
+        store,
+    })
+}
+
+/// The program of a source, where it has no error with solvers of the names that it chooses.
+fn read_program(alloc: Global, source: &[u8]) -> Result<Program<Frac>, SaveFaultOrMemory>
+    ensures { MatchResult result (λ program. IsFree source.now program) (λ fault. IsFaultyBy source.now fault) }
+{
+    let program = parse(alloc, source)?;
+    if !is_without_errors(alloc, &program)? {
+        return Err(SaveFaultOrMemory::Fault(SaveFault::SaveShape));
+    }
+    Ok(program)
+}
+
+/// Whether a program has no error, with solvers of the names that it chooses.
+fn is_without_errors(alloc: Global, program: &Program<Frac>) -> Result<bool, AllocError>
+    ensures { IfOk result (λ none. IsTrue none ↔ (compile_errors frac_value program.now (solvers_chosen program.now) ≡ [])) }
+{
+    let solvers = solvers_chosen(alloc, program)?;
+    let each = statement_errors(alloc, program, &solvers)?;
+    let errors = found_errors(alloc, &each)?;
+    Ok(errors.is_empty())
+}
+
+/// The saved state of a program of which a text is, with the first solver in its settings, and the name of its solver.
+fn saved_state<'t>(
+    alloc: Global,
+    program: &Program<Frac>,
+    text: &'t [u8],
+) -> Result<(Store<Frac>, &'t [u8]), SaveFaultOrMemory>
+    requires { IsAccepted frac_value program.now }
+    ensures { MatchResult result (λ p. IsStateOf program.now text.now p.0 p.1.now) (λ fault. IsNoStateBy program.now text.now fault) }
+{
+    let _labels = program.labels.len();
+    let (store, solver) = read_state(alloc, program, text)?;
+    if !is_saved(alloc, program, &store, solver)? {
+        return Err(SaveFaultOrMemory::Fault(SaveFault::SaveShape));
+    }
+    Ok((store, solver))
+}
+
+/// Whether a state that declares what a program does is a saved one of it.
+fn is_saved(
+    alloc: Global,
+    program: &Program<Frac>,
+    store: &Store<Frac>,
+    solver: &[u8],
+) -> Result<bool, AllocError>
+    requires accepted { IsAccepted frac_value program.now }
+    requires declares { declared_in store.now ≡ declared_in (declared_state program.now) }
+    ensures { IfOk result (λ saved. IsTrue saved ↔ IsSavedIn program.now store.now solver.now) }
+{
+    if !are_in_range(store.settings()) {
+        return Ok(false);
+    }
+    if !is_solver_name(solver) {
+        return Ok(false);
+    }
+    let first = load(alloc, program)?;
+    let assigned = dynamic_sets(alloc, program)?;
+    are_saved(
+        alloc,
+        store,
+        &first,
+        &assigned,
+        program.labels.len(),
+        program.names.len(),
+    )
+}
+
+/// Whether a state has at each of so many names what a saved one has there.
+fn are_saved(
+    alloc: Global,
+    store: &Store<Frac>,
+    first: &Store<Frac>,
+    assigned: &Marks,
+    labels: u32,
+    names: u32,
+) -> Result<bool, AllocError>
+    requires { declared_in store.now ≡ declared_in first.now }
+    ensures { IfOk result (λ saved. IsTrue saved ↔ ((n : ℕ) → n < names → IsSavedAt labels (marked assigned.now) first.now store.now n)) }
+{
+    for name in 0..names {
+        if !is_saved_at(alloc, store, first, assigned, labels, name)? {
+            return Ok(false);
+        }
+    }
+    Ok(true)
+}
+
+/// Whether a state has at a name what a saved one has there.
+fn is_saved_at(
+    alloc: Global,
+    store: &Store<Frac>,
+    first: &Store<Frac>,
+    assigned: &Marks,
+    labels: u32,
+    name: u32,
+) -> Result<bool, AllocError>
+    requires { declared_in store.now ≡ declared_in first.now }
+    ensures { IfOk result (λ saved. IsTrue saved ↔ IsSavedAt labels (marked assigned.now) first.now store.now name) }
+{
+    if !is_given_well(alloc, store, labels, name)? {
+        return Ok(false);
+    }
+    Ok(keeps_members(store, first, assigned, name))
+}
+
+/// Whether a set that is not assigned has the members of the data.
+fn keeps_members(store: &Store<Frac>, first: &Store<Frac>, assigned: &Marks, name: u32) -> bool
+    requires { declared_in store.now ≡ declared_in first.now }
+    ensures { IsTrue result ↔ (marked assigned.now name ≡ false → members_in (symbol_at store.now name).content ≡ members_in (symbol_at first.now name).content) }
+{
+    if assigned.is_set(name) {
+        return true;
+    }
+    if store.is_alias(name) {
+        return true;
+    }
+    has_same_members(store, first, name)
+}
+
+/// Whether bytes are the text of a state over a source.
+fn is_text(
+    alloc: Global,
+    bytes: &[u8],
+    source: &[u8],
+    program: &Program<Frac>,
+    store: &Store<Frac>,
+    solver: &[u8],
+) -> Result<bool, AllocError>
+    ensures { IfOk result (λ same. IsTrue same ↔ (bytes.now ≡ saved_text source.now program.now.names store.now solver.now)) }
+{
+    let text = text_of(alloc, source, &program.names, store, solver)?;
+    Ok(text.as_slice() == bytes)
+}
+
+/// Puts the solver of a place into the settings of a state.
+fn put_solver(store: &mut Store<Frac>, place: u32)
+    ensures { store.new ≡ with_solver store.old place }
+{
+    let mut settings = store.settings();
+    settings.solver = place;
+    store.put_settings(settings);
+}

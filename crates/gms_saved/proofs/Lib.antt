@@ -1,0 +1,15 @@
+mod Cuts
+mod Declared
+mod EntryKinds
+mod Filling
+mod Finding
+mod Lines
+mod Mixing
+mod Numbers
+mod Pieces
+mod Putting
+mod Readable
+mod Sames
+mod Sorts
+mod Standings
+mod Tuples

@@ -1,0 +1,92 @@
+-- What readers find in good texts. A reader may take other texts too: what was read is written again, and compared with what was read.
+use Rattle.std.specs.Prelude.{◌≡◌, ◌≢◌, ◌⊎◌, codes, ℕ, ◌<◌, ◌≤◌, ◌^◌, not, ◌==◌, true, List, [], ◌∷◌, length, Result, Ok, Err}
+use Rattle.std.specs.List.{fold, prefix_len, AllByRecursion}
+use Rattle.gms_store.specs.declared.kind.SymbolKind.{SymbolKind}
+use Rattle.gms_store.specs.declared.kind.SymbolKind.TheVariants as kind
+use Rattle.gms_store.specs.declared.settings.Settings.{Settings}
+use Rattle.gms_store.specs.State.{Content, set_of, parameter_of, variable_of, equation_of, Symbol, State, after_membership, after_value, after_attributes, value_in, attributes_in, given_in, differs_in, statuses_in, fits_at}
+use Rattle.gms_tuple.specs.TupleOrder.{IsOrdered}
+use Rattle.gms_saved.specs.declared.fault.ReadFault.{ReadFault}
+use Rattle.gms_saved.specs.declared.fault.ReadFault.TheVariants.{Memory, Shape}
+use Rattle.gms_saved.specs.Validity.{emptied}
+
+-- no byte of a text is this one
+abbrev pub HasNone : ℕ → List ℕ → Type 0
+HasNone byte [] = Unit {0}
+HasNone byte (b ∷ bs) = (b ≢ byte) × HasNone byte bs
+
+-- how many bytes of a text stand before the first that is this one
+abbrev pub place_of : ℕ → List ℕ → ℕ
+place_of byte text = prefix_len (λ other. not (other == byte)) text
+
+-- what a reader finds is so; memory may be wanting, and nothing else
+abbrev pub Finds : {A : Type 0} → Result A ReadFault → (A → Type 0) → Type 0
+Finds (Ok x) Is = Is x
+Finds (Err Memory) Is = Unit {0}
+Finds (Err Shape) Is = ⊥
+
+-- the word for no bound: it is one of the two
+abbrev pub IsWordForNone : List ℕ → Type 0
+IsWordForNone word = (word ≡ codes "-INF") ⊎ (word ≡ codes "+INF")
+
+-- ---- entries
+
+-- a tuple that can be read: it has so many labels, of which there are at most 10, and each is below 2^32
+pub record IsReadableTuple (arity : ℕ) (t : List ℕ) : Type 0 where
+  pub count : length t ≡ arity
+  pub few : arity ≤ 10
+  pub small : AllByRecursion (λ label. label < 2 ^ 32) t
+
+-- an entry that can be read: its tuple can, its numbers fit, and it is other than an absent one
+pub record IsReadable (limit arity : ℕ) (content : Content) (t : List ℕ) : Type 0 where
+  pub tuple : IsReadableTuple arity t
+  pub fit : fits_at limit content t ≡ true
+  pub differs : differs_in content t ≡ true
+
+-- a content is of this kind, and has entries
+abbrev pub HasEntries : SymbolKind → Content → Type 0
+HasEntries kind.Set (set_of members) = Unit {0}
+HasEntries kind.Parameter (parameter_of entries) = Unit {0}
+HasEntries kind.Variable (variable_of type entries) = Unit {0}
+HasEntries kind.Equation (equation_of entries) = Unit {0}
+HasEntries kind content = ⊥
+
+-- the word before a name of this kind, with a blank behind it
+abbrev pub kind_word : SymbolKind → List ℕ
+kind_word kind.Set = codes "set "
+kind_word kind.Parameter = codes "parameter "
+kind_word kind.Variable = codes "variable "
+kind_word kind.Equation = codes "equation "
+kind_word kind.Model = codes "model "
+kind_word kind.Undeclared = []
+
+-- the state after what a content has at a tuple was put at a name
+abbrev pub after_given : State → ℕ → Content → List ℕ → State
+after_given state name (set_of members) t = after_membership state name t true
+after_given state name (parameter_of entries) t = after_value state name t (value_in (parameter_of entries) t)
+after_given state name content t = after_attributes state name t (attributes_in content t)
+
+-- the same at tuples one after another
+abbrev pub filled : State → ℕ → Content → List (List ℕ) → State
+filled state name content tuples = fold (λ state t. after_given state name content t) state tuples
+
+-- ---- names
+
+-- A content that can be read at a name: the name is declared so, with nothing given, the content's entries are in order, and each can be read.
+pub record IsReadablePart (limit : ℕ) (symbol : Symbol) (content : Content) : Type 0 where
+  pub declared : symbol.content ≡ emptied content
+  pub ordered : IsOrdered (given_in content)
+  pub entries : AllByRecursion (IsReadable limit (length symbol.domain) content) (given_in content)
+  -- its statuses have a byte
+  pub model : (statuses_in content).0 < 2 ^ 8
+  pub solver : (statuses_in content).1 < 2 ^ 8
+
+-- the symbols of a state can be read at the names of another
+abbrev pub AreReadable : ℕ → List Symbol → List Symbol → Type 0
+AreReadable limit [] [] = Unit {0}
+AreReadable limit (declared ∷ names) (symbol ∷ symbols) = (declared.domain ≡ symbol.domain) × IsReadablePart limit declared symbol.content × AreReadable limit names symbols
+AreReadable limit names symbols = ⊥
+
+-- the settings with the first solver
+abbrev pub unplaced : Settings → Settings
+unplaced settings = record settings { solver = 0 }

@@ -1,0 +1,33 @@
+//! Why a text was not read.
+ghost use Rattle.std.specs.Prelude.{◌≡◌};
+ghost use Rattle.gms_saved.specs.declared.fault.ReadFault.TheVariants.{Memory};
+
+use std::alloc::{AllocError, AllocFailed};
+use thiserror::Error;
+
+/// Why a text was not read as a part of a saved state.
+#[derive(Clone, Copy, Debug, PartialEq, Eq, Error)]
+pub enum ReadFault {
+    /// A growth found no memory.
+    #[error("out of memory")]
+    Memory,
+    /// The text is none that a state has.
+    #[error("this is no saved state")]
+    Shape,
+}
+
+impl From<AllocError> for ReadFault {
+    ghost from_gives = { λ _ fault. fault ≡ Memory };
+
+    fn from(_error: AllocError) -> ReadFault {
+        ReadFault::Memory
+    }
+}
+
+impl<T: Drop> From<AllocFailed<T>> for ReadFault {
+    ghost from_gives = { λ _ fault. fault ≡ Memory };
+
+    fn from(_error: AllocFailed<T>) -> ReadFault {
+        ReadFault::Memory
+    }
+}

@@ -1,0 +1,92 @@
+//! How the exact texts of numbers are read back.
+ghost use Rattle.std.specs.Prelude.{◌≡◌, ◌<◌, ◌^◌, ◌∷◌, [], ℕ, true, decimal, IfSome, IsSomeAnd};
+ghost use Rattle.gq_number.specs.Number.{Number};
+ghost use Rattle.gq_field.specs.Fits.{fits};
+ghost use Rattle.gq_text.specs.ExactText.{exact_text, signed};
+
+use crate::digits::Digits;
+use crate::literal::spelled;
+use crate::parts::{split_digits, split_sign};
+use crate::show::{put_exact, put_whole};
+use gq_field::ExactField;
+
+/// The whole number whose decimal digits the text is, without a needless zero before them. `None` exactly where it is not
+/// that of a number below 2^128.
+pub fn read_whole(text: &[u8]) -> Option<u128>
+    ensures value { IfSome result (λ n. text.now ≡ decimal n) }
+    ensures found { (n : ℕ) → n < 2 ^ 128 → text.now ≡ decimal n → IsSomeAnd result (λ m. m ≡ n) }
+{
+    let n = digits_in(text)?;
+    let mut digits = Digits::new();
+    put_whole(n, &mut digits);
+    if digits.as_str().as_bytes() == text {
+        Some(n)
+    } else {
+        None
+    }
+}
+
+/// The number whose exact text this is: its numerator, and where the denominator is not 1 then `/` and the denominator, in
+/// lowest terms. `None` exactly where it is that of no number within the field's limit.
+pub fn read_exact<F: ExactField>(text: &[u8]) -> Option<F>
+    ensures value { IfSome result (λ x. text.now ≡ exact_text (F.value x)) }
+    ensures found { (x : Number) → fits F.limit x ≡ true → text.now ≡ exact_text x → IsSomeAnd result (λ y. F.value y ≡ x) }
+{
+    let x = quotient_in(text)?;
+    let mut digits = Digits::new();
+    put_exact(x, &mut digits);
+    if digits.as_str().as_bytes() == text {
+        Some(x)
+    } else {
+        None
+    }
+}
+
+/// The number that the digits of a text spell. Those of a number below 2^128 are read.
+fn digits_in(text: &[u8]) -> Option<u128>
+    ensures { (n : ℕ) → n < 2 ^ 128 → text.now ≡ decimal n → IsSomeAnd result (λ m. m ≡ n) }
+{
+    let (digits, rest) = split_digits(text);
+    if rest.is_empty() {
+        spelled(0, digits)
+    } else {
+        None
+    }
+}
+
+/// The value of a text of digits behind a sign or none, over other digits or none. The exact text of a number within the
+/// limit is read.
+fn quotient_in<F: ExactField>(text: &[u8]) -> Option<F>
+    ensures { (x : Number) → fits F.limit x ≡ true → text.now ≡ exact_text x → IsSomeAnd result (λ y. F.value y ≡ x) }
+{
+    let (negative, unsigned) = split_sign(text);
+    let (digits, rest) = split_digits(unsigned);
+    let above = spelled(0, digits)?;
+    let below = denominator_in(rest)?;
+    fraction(negative, above, below)
+}
+
+/// The number that the digits behind a `/` spell; 1 where there is no text.
+fn denominator_in(text: &[u8]) -> Option<u128>
+    ensures one { text.now ≡ [] → IsSomeAnd result (λ d. d ≡ 1) }
+    ensures other { (n : ℕ) → n < 2 ^ 128 → text.now ≡ 47 ∷ decimal n → IsSomeAnd result (λ d. d ≡ n) }
+{
+    match text {
+        [] => Some(1),
+        [b'/', digits @ ..] => digits_in(digits),
+        _ => None,
+    }
+}
+
+/// The value of a magnitude with a sign over a denominator, where these are parts of one within the limit.
+fn fraction<F: ExactField>(negative: bool, above: u128, below: u128) -> Option<F>
+    ensures { (x : Number) → fits F.limit x ≡ true → x.numerator ≡ signed negative above → x.denominator ≡ below →
+        IsSomeAnd result (λ y. F.value y ≡ x) }
+{
+    if above > F::limit() || below == 0 {
+        return None;
+    }
+    let whole = above as i128;
+    let numerator = if negative { -whole } else { whole };
+    F::from_parts(numerator, below).ok()
+}

@@ -1,0 +1,9 @@
+use Rattle.std.proofs.Common.{ℕ, nat_abs, sym, ap, ◌∙◌, subst}
+use Rattle.std.specs.Int.{◌∣◌}
+use Rattle.lp_numbers.specs.Lines.{whole_at}
+use Rattle.lp_numbers.specs.Widths.{listed}
+use Rattle.lp_numbers.proofs.numbers.Numbers.divisor_of.Goals as goal
+
+pub returns-in-Narrow-clause-numbers : goal.returns-in-Narrow-clause-numbers
+returns-in-Narrow-clause-numbers c =
+    subst (λ l. (k : ℕ) → c.divisor_of.result ∣ nat_abs (whole_at l k)) (c.as_slice.ensures.value ∙ sym (ap listed c.in-Narrow.is) ∙ c.self.view_is) c.divisor_of.ensures.numbers

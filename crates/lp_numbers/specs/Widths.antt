@@ -1,0 +1,15 @@
+-- Whole numbers as callers see them, and the two ways in which they are kept.
+use Rattle.std.specs.Prelude.{◌-◌, ◌^◌, ℤ, List}
+use Rattle.lp_numbers.specs.declared.kept.Kept.{Kept}
+use Rattle.lp_numbers.specs.declared.kept.Kept.TheVariants as kept
+use Rattle.lp_numbers.specs.Lines.{AreWithin}
+
+-- the numbers that are kept so
+abbrev pub listed : Kept → List ℤ
+listed (kept.Narrow list) = list.items
+listed (kept.Wide list) = list.items
+
+-- numbers of one word each have magnitudes of at most 63 bits
+abbrev pub AreKept : Kept → Type 0
+AreKept (kept.Narrow list) = AreWithin list.items (2 ^ 63 - 1)
+AreKept (kept.Wide list) = Unit {0}

@@ -1,0 +1,16 @@
+//! Floor 4, linear programs. The whole numbers of a line: of one word each while they are small, of two where they are not.
+#![tactic(auto)]
+
+mod common;
+mod compare;
+mod kept;
+mod narrow;
+mod numbers;
+mod products;
+mod wide;
+
+pub use common::gcd;
+pub use compare::compare_ratios;
+pub use numbers::Numbers;
+pub use products::{product_within, sum_within};
+pub use wide::{cross_difference, greatest};

@@ -1,0 +1,144 @@
+//! The loops over whole numbers of one word each.
+ghost use Rattle.std.specs.Prelude.{◌≡◌, ◌⊎◌, ℕ, ◌+◌, ◌*◌, ◌<◌, ◌≤◌, ◌^◌, ◌-◌, pos, ◌-ℤ◌, ◌*ℤ◌, neg_ℤ, nat_abs, length};
+ghost use Rattle.std.specs.Int.{◌∣◌};
+ghost use Rattle.lp_numbers.specs.Lines.{whole_at, AreWithin, AreDivided, HaveRoom, AreLessened, ArePlaces, AreLessenedFrom, AreOver, AreNegated};
+
+use crate::common::shared_by;
+
+/// The product of two whole numbers.
+#[inline(always)]
+fn product(a: i64, n: i64) -> i64
+    requires { nat_abs (a *ℤ n) < 2 ^ 63 }
+    ensures { result ≡ a *ℤ n }
+{
+    a * n
+}
+
+/// The difference of two whole numbers.
+#[inline(always)]
+fn difference(a: i64, b: i64) -> i64
+    requires { nat_abs (a -ℤ b) < 2 ^ 63 }
+    ensures { result ≡ a -ℤ b }
+{
+    a - b
+}
+
+/// The greater of a magnitude and that of a number.
+#[inline(always)]
+fn greater(most: u64, n: i64) -> u64
+    ensures above { (most ≤ result) × (nat_abs n ≤ result) }
+    ensures one { (result ≡ most) ⊎ (result ≡ nat_abs n) }
+{
+    let magnitude = n.unsigned_abs();
+    if magnitude > most { magnitude } else { most }
+}
+
+/// Turns each number into `a` times it less `b` times the other list's; answers a magnitude that none of them passes.
+pub(crate) fn lessen(numbers: &mut [i64], a: i64, b: i64, others: &[i64]) -> u64
+    requires sized { length others.now ≡ length numbers.old }
+    requires room { HaveRoom (2 ^ 63 - 1) a b numbers.old others.now }
+    ensures { AreLessened a b numbers.old others.now numbers.new result }
+{
+    let mut most = 0;
+    for c in 0..numbers.len() {
+        let first = product(a, numbers[c]);
+        let second = product(b, others[c]);
+        let left = difference(first, second);
+        numbers[c] = left;
+        most = greater(most, left);
+    }
+    most
+}
+
+/// Takes from each number `b` times the other list's, where the places are those at which that has a number other than 0; answers a
+/// magnitude that is at least `least` and that none of them passes.
+pub(crate) fn lessen_at(
+    numbers: &mut [i64],
+    b: i64,
+    others: &[i64],
+    places: &[usize],
+    least: u64,
+) -> u64
+    requires sized { length others.now ≡ length numbers.old }
+    requires places { ArePlaces others.now (length others.now) places.now }
+    requires within { AreWithin numbers.old least }
+    requires room { HaveRoom (2 ^ 63 - 1) (pos 1) b numbers.old others.now }
+    ensures { AreLessenedFrom least b numbers.old others.now numbers.new result }
+{
+    let mut most = least;
+    for i in 0..places.len() {
+        let c = places[i];
+        let second = product(b, others[c]);
+        let left = difference(numbers[c], second);
+        numbers[c] = left;
+        most = greater(most, left);
+    }
+    most
+}
+
+/// A divisor of each number and of a denominator.
+pub(crate) fn divisor_of(numbers: &[i64], denominator: u64) -> u64
+    requires { 0 < denominator }
+    ensures positive { 0 < result }
+    ensures denominator { result ∣ denominator }
+    ensures numbers { AreDivided numbers.now result }
+{
+    let mut divisor = denominator;
+    for n in numbers {
+        if divisor == 1 {
+            return 1;
+        }
+        divisor = shared_by(n.unsigned_abs(), divisor);
+    }
+    divisor
+}
+
+/// A number over a divisor of it. 0 is not divided: most numbers of a line are.
+#[inline(always)]
+fn quotient(n: i64, divisor: u64) -> i64
+    requires positive { 0 < divisor }
+    requires small { divisor < 2 ^ 63 }
+    requires divides { divisor ∣ nat_abs n }
+    ensures { result *ℤ pos divisor ≡ n }
+{
+    if n == 0 {
+        return 0;
+    }
+    n / divisor as i64
+}
+
+/// Divides each number by a divisor of them all.
+pub(crate) fn divide(numbers: &mut [i64], divisor: u64)
+    requires positive { 0 < divisor }
+    requires small { divisor < 2 ^ 63 }
+    requires divides { AreDivided numbers.old divisor }
+    ensures { AreOver divisor numbers.old numbers.new }
+{
+    for c in 0..numbers.len() {
+        let over = quotient(numbers[c], divisor);
+        numbers[c] = over;
+    }
+}
+
+/// Changes the sign of each number.
+pub(crate) fn negate(numbers: &mut [i64])
+    requires { (c : ℕ) → nat_abs (whole_at numbers.old c) < 2 ^ 63 }
+    ensures { AreNegated numbers.old numbers.new }
+{
+    for c in 0..numbers.len() {
+        let negated = difference(0, numbers[c]);
+        numbers[c] = negated;
+    }
+}
+
+/// `a` times `n` less `b` times `x`, in two words.
+#[inline(always)]
+pub(crate) fn cross(a: i64, n: i64, b: i64, x: i64) -> i128
+    requires first { nat_abs a < 2 ^ 63 }
+    requires second { nat_abs b < 2 ^ 63 }
+    ensures { result ≡ a *ℤ n -ℤ b *ℤ x }
+{
+    let first = a as i128 * n as i128;
+    let second = b as i128 * x as i128;
+    first - second
+}

@@ -1,6 +1,0 @@
-use Rattle.std.specs.Prelude.{nat_abs}
-use Rattle.lp_whole.specs.Lines.{AreDividedTo}
-use Rattle.lp_whole.proofs.numbers.divide.Given as goal
-
-abbrev pub invariant-loop-c : goal.invariant-loop-c
-invariant-loop-c l = AreDividedTo (nat_abs l.divisor) l.initial.numbers l.numbers l.c

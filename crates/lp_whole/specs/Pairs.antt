@@ -1,0 +1,70 @@
+-- A bound for each two rows, by which every step of an exchange fits (Edmonds, and Bareiss, on integer pivoting).
+use Rattle.std.specs.Prelude.{◌≡◌, ◌≢◌, ℕ, ◌+◌, ◌*◌, ◌<◌, ◌≤◌, ℤ, pos, ◌*ℤ◌, ◌<ℤ◌, nat_abs, List, length, Option, Some, None}
+use Rattle.gq_number.specs.Number.{ratio}
+use Rattle.lp_whole.specs.declared.line.Line.{Line}
+use Rattle.lp_whole.specs.declared.pairs.Measure.{Measure}
+use Rattle.lp_whole.specs.Form.{lines_number, numbers_above, AreFactors}
+use Rattle.lp_whole.specs.Room.{row_denominator, row_most}
+
+-- A row has the whole number f for the variable that enters, and the row of the variable that leaves has p. Without a factor that
+-- they share they are b and a, and there is room below a magnitude for the first row times a less the second times b.
+pub record HasPairRoom (f p : ℤ) (most other limit : ℕ) : Type 0 where
+  pub of_row : ℤ
+  pub of_leaving : ℤ
+  pub shared : ℕ
+  pub positive : 0 < shared
+  pub first : of_row *ℤ pos shared ≡ p
+  pub second : of_leaving *ℤ pos shared ≡ f
+  pub room : nat_abs of_row * most + nat_abs of_leaving * other ≤ limit
+
+-- There is no such room without the greatest common divisor of the two numbers.
+pub record HasNoReducedRoom (f p : ℤ) (most other limit : ℕ) : Type 0 where
+  pub of_row : ℤ
+  pub of_leaving : ℤ
+  pub factors : AreFactors f p of_row of_leaving
+  pub no_room : limit < nat_abs of_row * most + nat_abs of_leaving * other
+
+-- There is no room for two rows: not by their whole numbers as they are, and not without their greatest common divisor where that
+-- of the variable that leaves is above 0.
+pub record HasNoPairRoom (f p : ℤ) (most other limit : ℕ) : Type 0 where
+  pub plain : limit < nat_abs p * most + nat_abs f * other
+  pub reduced : pos 0 <ℤ p → HasNoReducedRoom f p most other limit
+
+-- The measure of a row: its whole number at a column, and its greatest magnitude.
+pub record IsMeasured (lines : List Line) (deferred : Option ℕ) (place column : ℕ) (m : Measure) : Type 0 where
+  pub number : ratio m.number (row_denominator deferred lines place) ≡ numbers_above deferred (lines_number lines) place column
+  pub most : m.most ≡ row_most deferred lines place
+
+-- a magnitude that no part of any row passes, by one that no part of any line passes
+abbrev pub rows_top : Option ℕ → ℕ → ℕ
+rows_top None top = top
+rows_top (Some k) top = top * top + top * top
+
+-- Twice the square of a magnitude that no part of any row passes is at most a bound.
+pub record IsRoomy (lines : List Line) (deferred : Option ℕ) (bound : ℕ) : Type 0 where
+  pub top : ℕ
+  pub rows : (i : ℕ) → i < length lines → row_most deferred lines i ≤ top
+  pub square : top * top + top * top ≤ bound
+
+-- The row i, and that of the variable that leaves, have room together.
+pub record IsPairFit (lines : List Line) (deferred : Option ℕ) (leaving column bound i : ℕ) : Type 0 where
+  pub number : ℤ
+  pub of_leaving : ℤ
+  pub number_is : ratio number (row_denominator deferred lines i) ≡ numbers_above deferred (lines_number lines) i column
+  pub leaving_is : ratio of_leaving (row_denominator deferred lines leaving) ≡ numbers_above deferred (lines_number lines) leaving column
+  pub room : HasPairRoom number of_leaving (row_most deferred lines i) (row_most deferred lines leaving) bound
+
+-- each other row of the first n has room together with that of the variable that leaves
+abbrev pub ArePairsFit : List Line → Option ℕ → ℕ → ℕ → ℕ → ℕ → Type 0
+ArePairsFit lines deferred leaving column bound n = (i : ℕ) → i < n → i ≢ leaving → IsPairFit lines deferred leaving column bound i
+
+-- Some row and that of the variable that leaves have no room together.
+pub record IsSomePairCrowded (lines : List Line) (deferred : Option ℕ) (leaving column bound : ℕ) : Type 0 where
+  pub at : ℕ
+  pub within : at < length lines
+  pub other : at ≢ leaving
+  pub number : ℤ
+  pub of_leaving : ℤ
+  pub number_is : ratio number (row_denominator deferred lines at) ≡ numbers_above deferred (lines_number lines) at column
+  pub leaving_is : ratio of_leaving (row_denominator deferred lines leaving) ≡ numbers_above deferred (lines_number lines) leaving column
+  pub no_room : HasNoPairRoom number of_leaving (row_most deferred lines at) (row_most deferred lines leaving) bound
