@@ -19,7 +19,7 @@ use Rattle.gms_save.specs.declared.fault.SaveFaultOrMemory.{SaveFaultOrMemory}
 use Rattle.gms_save.specs.declared.fault.SaveFaultOrMemory.TheVariants.{Memory, Fault}
 use Rattle.gms_save.specs.declared.saved.Saved.{Saved}
 use Rattle.gms_save.specs.Faults.{fault_of_reading, fault_of_source}
-use Rattle.gms_save.specs.RestoreSteps.{IsFaulty, IsFaultyBy, IsFree, IsNoStateBy, IsSavedIn, IsStateOf}
+use Rattle.gms_save.specs.RestoreSteps.{IsFaulty, IsFaultyBy, IsFree, IsNoStateBy, IsSavedIn, IsStateOf, IsUnplacedBy}
 use Rattle.gms_save.specs.Saves.{IsOnly, IsSaveOf, IsUnfit, Restores, most_bytes, number_limit, place_of_solver, with_solver}
 use Rattle.gms_save.proofs.SavedNames.{saved-placed, text-placed}
 
@@ -157,6 +157,16 @@ module _ (solvers : List (List ℕ)) (bytes source text : List ℕ) (short : len
             placed = placed ∙ ap (λ (s : State). Some s.settings.solver) (sym store_is);
           },
         )
+
+      -- no place was found for the solver
+      pub unplaced : (r : Result Saved SaveFaultOrMemory) (e : SaveFaultOrMemory) → IsErrAnd r (λ f. f ≡ e) → IsUnplacedBy bytes (saved_text source program.names store solver) solvers solver e → Restores solvers bytes r
+      unplaced r e h why = let p = err_from_is_err_and r h in rw (p.1, p.2) (by e why)
+        where
+          by : (e : SaveFaultOrMemory) → IsUnplacedBy bytes (saved_text source program.names store solver) solvers solver e → Restores solvers bytes (Err e)
+          by Memory why = tt
+          by (Fault SaveTooLong) why = absurd why
+          by (Fault SaveShape) why = other-text why
+          by (Fault SaveSolver) why = no-solver why.0 why.1
 
       -- and are the save of nothing else
       pub only-one : (saved : Saved) (place : ℕ) → saved.program ≡ program → saved.source.items ≡ source → saved.store ≡ with_solver store place → place_of_solver solvers solver ≡ Some place → IsOnly solvers bytes saved

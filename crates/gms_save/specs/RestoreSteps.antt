@@ -1,5 +1,5 @@
 -- What the steps of restoring find: a program, and a state of it.
-use Rattle.std.specs.Prelude.{◌≡◌, ◌⊎◌, ℕ, Bool, false, List, [], length}
+use Rattle.std.specs.Prelude.{◌≡◌, ◌⊎◌, ℕ, Bool, false, List, [], length, Some, None}
 use Rattle.gq_frac.specs.declared.frac.Frac.{Frac}
 use Rattle.gq_frac.specs.Frac.{frac_value}
 use Rattle.gms_ast.specs.declared.program.Program.{Program}
@@ -16,7 +16,7 @@ use Rattle.gms_saved.specs.Validity.{IsGivenWell, IsSavedOf}
 use Rattle.gms_save.specs.declared.fault.SaveFault.TheVariants.{SaveTooLong, SaveShape, SaveSolver}
 use Rattle.gms_save.specs.declared.fault.SaveFaultOrMemory.{SaveFaultOrMemory}
 use Rattle.gms_save.specs.declared.fault.SaveFaultOrMemory.TheVariants.{Memory, Fault}
-use Rattle.gms_save.specs.Saves.{number_limit, solvers_chosen, with_solver}
+use Rattle.gms_save.specs.Saves.{number_limit, place_of_solver, solvers_chosen, with_solver}
 
 -- ---- the program
 
@@ -65,3 +65,16 @@ IsNoStateBy program text Memory = Unit {0}
 IsNoStateBy program text (Fault SaveTooLong) = ⊥
 IsNoStateBy program text (Fault SaveShape) = IsNoState program text
 IsNoStateBy program text (Fault SaveSolver) = ⊥
+
+-- ---- the place of the solver
+
+-- Bytes are a text, and a saved solver has this place among solvers of these names.
+abbrev pub IsPlaced : List ℕ → List ℕ → List (List ℕ) → List ℕ → ℕ → Type 0
+IsPlaced bytes text solvers solver place = (bytes ≡ text) × (place_of_solver solvers solver ≡ Some place)
+
+-- why there is no such place: bytes are not the text, or they are it and the solvers lack the saved one, or memory was wanting
+abbrev pub IsUnplacedBy : List ℕ → List ℕ → List (List ℕ) → List ℕ → SaveFaultOrMemory → Type 0
+IsUnplacedBy bytes text solvers solver Memory = Unit {0}
+IsUnplacedBy bytes text solvers solver (Fault SaveTooLong) = ⊥
+IsUnplacedBy bytes text solvers solver (Fault SaveShape) = bytes ≡ text → ⊥
+IsUnplacedBy bytes text solvers solver (Fault SaveSolver) = (bytes ≡ text) × (place_of_solver solvers solver ≡ None)

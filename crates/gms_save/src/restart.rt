@@ -1,9 +1,10 @@
 //! The check of what a new file may not do to saved names.
-ghost use Rattle.std.specs.Prelude.{◌≡◌, ◌∷◌, [], None, Some, flat_map, length, if◌then◌else◌, IfOk};
-ghost use Rattle.gms_store.specs.Declarations.{content_of};
+ghost use Rattle.std.specs.Prelude.{◌≡◌, ◌∷◌, [], false, None, Some, flat_map, length, replicate, if◌then◌else◌, IfOk};
+ghost use Rattle.gms_store.specs.Declarations.{content_of, declared_state};
+ghost use Rattle.gms_known.specs.Facts.{with_marks};
 ghost use Rattle.gms_check.specs.Errors.{first_of, sooner};
 ghost use Rattle.gms_check.specs.Names.{is_variable};
-ghost use Rattle.gms_save.specs.JointErrors.{each_sooner, is_saved, names_typed, restart_at, restarts_at, targets, typed_names};
+ghost use Rattle.gms_save.specs.JointErrors.{each_sooner, is_saved, names_typed, restart_at, restarts_at, saved_assigned, saved_names, targets, typed_names};
 ghost use Rattle.gms_save.specs.RestartChecks.{IsCheckOf, error_by, fixed_by, variable_in};
 
 use gms_ast::{Act, Decl, DeclKind, Named, Program, Stmt, Target};
@@ -27,21 +28,52 @@ pub(crate) struct RestartCheck {
     pub assigned: Marks,
 }
 
+/// What the statements of a joint program declare that begin above a line.
+fn declared_before(
+    alloc: Global,
+    joint: &Program<Frac>,
+    from: u32,
+) -> Result<Store<Frac>, AllocError>
+    ensures { IfOk result (λ saved. saved ≡ saved_names from joint.now) }
+{
+    let names = joint.names.len();
+    let mut saved = Store::blank(alloc, names)?;
+    for statement in &joint.statements {
+        if is_saved(statement, from) {
+            saved.declare_act(alloc, &statement.act)?;
+        }
+    }
+    Ok(saved)
+}
+
+/// Marks of the sets that these statements assign, an alias as its set.
+fn assigned_before(
+    alloc: Global,
+    joint: &Program<Frac>,
+    from: u32,
+    declared: &Store<Frac>,
+) -> Result<Marks, AllocError>
+    requires { declared.now ≡ declared_state joint.now }
+    ensures { IfOk result (λ assigned. assigned ≡ with_marks (replicate (length joint.now.names) false) (saved_assigned from joint.now)) }
+{
+    let names = joint.names.len();
+    let mut assigned = Marks::new(alloc, names)?;
+    for statement in &joint.statements {
+        if is_saved(statement, from) {
+            mark_statement(statement, declared, &mut assigned);
+        }
+    }
+    Ok(assigned)
+}
+
 impl RestartCheck {
     /// The check of a joint program whose new file begins at a line.
     pub fn new(alloc: Global, joint: &Program<Frac>, from: u32) -> Result<RestartCheck, AllocError>
         ensures { IfOk result (IsCheckOf from joint.now) }
     {
-        let names = joint.names.len();
         let declared = Store::new(alloc, joint)?;
-        let mut saved = Store::blank(alloc, names)?;
-        let mut assigned = Marks::new(alloc, names)?;
-        for statement in &joint.statements {
-            if is_saved(statement, from) {
-                saved.declare_act(alloc, &statement.act)?;
-                mark_statement(statement, &declared, &mut assigned);
-            }
-        }
+        let assigned = assigned_before(alloc, joint, from, &declared)?;
+        let saved = declared_before(alloc, joint, from)?;
         Ok(RestartCheck {
             from,
             saved,

@@ -9,7 +9,7 @@ ghost use Rattle.gms_check.specs.Loaded.{IsAccepted};
 ghost use Rattle.gms_saved.specs.SavedState.{saved_text};
 ghost use Rattle.gms_saved.specs.Validity.{declared_in};
 ghost use Rattle.gms_save.specs.Saves.{IsOnly, Restores, solvers_chosen, with_solver};
-ghost use Rattle.gms_save.specs.RestoreSteps.{IsFree, IsFaultyBy, IsNoStateBy, IsSavedAt, IsSavedIn, IsStateOf};
+ghost use Rattle.gms_save.specs.RestoreSteps.{IsFree, IsFaultyBy, IsNoStateBy, IsPlaced, IsSavedAt, IsSavedIn, IsStateOf, IsUnplacedBy};
 
 use crate::fault::{SaveFault, SaveFaultOrMemory};
 use crate::saved::Saved;
@@ -62,16 +62,11 @@ pub fn restore(alloc: Global, bytes: &[u8], solvers: &[String]) -> Result<Saved,
         return Err(SaveFaultOrMemory::Fault(SaveFault::SaveTooLong));
     }
     let (source, text) = read_source(bytes)?;
+    let copy = Vec::from_slice(alloc, source)?;
     let program = read_program(alloc, source)?;
     let (mut store, solver) = saved_state(alloc, &program, text)?;
-    if !is_text(alloc, bytes, source, &program, &store, solver)? {
-        return Err(SaveFaultOrMemory::Fault(SaveFault::SaveShape));
-    }
-    let Some(place) = place_of_solver(solvers, solver) else {
-        return Err(SaveFaultOrMemory::Fault(SaveFault::SaveSolver));
-    };
+    let place = saved_place(alloc, bytes, source, &program, &store, solver, solvers)?;
     put_solver(&mut store, place);
-    let copy = Vec::from_slice(alloc, source)?;
     Ok(Saved {
         source: copy,
         program,
@@ -211,6 +206,30 @@ fn is_text(
 {
     let text = text_of(alloc, source, &program.names, store, solver)?;
     Ok(text.as_slice() == bytes)
+}
+
+/// The place of a saved solver among solvers of these names, where bytes are the text of a state over a source.
+fn saved_place(
+    alloc: Global,
+    bytes: &[u8],
+    source: &[u8],
+    program: &Program<Frac>,
+    store: &Store<Frac>,
+    solver: &[u8],
+    solvers: &[String],
+) -> Result<u32, SaveFaultOrMemory>
+    requires { length solvers.now < 2 ^ 32 }
+    ensures { MatchResult result
+        (λ place. IsPlaced bytes.now (saved_text source.now program.now.names store.now solver.now) (map string_bytes solvers.now) solver.now place)
+        (λ fault. IsUnplacedBy bytes.now (saved_text source.now program.now.names store.now solver.now) (map string_bytes solvers.now) solver.now fault) }
+{
+    if !is_text(alloc, bytes, source, program, store, solver)? {
+        return Err(SaveFaultOrMemory::Fault(SaveFault::SaveShape));
+    }
+    match place_of_solver(solvers, solver) {
+        Some(place) => Ok(place),
+        None => Err(SaveFaultOrMemory::Fault(SaveFault::SaveSolver)),
+    }
 }
 
 /// Puts the solver of a place into the settings of a state.
