@@ -47,12 +47,14 @@ pub fn save(
 /// What a save has: the source, its program, and the state after it, with the solver's place among solvers of these names
 /// (GAMS User's Guide, "Save and Restart").
 ///
-/// `SaveTooLong` comes exactly where there are over 67,108,864 bytes. Else `SaveShape` comes exactly where the bytes are no
+/// `SaveTooLong` comes exactly where there are over 67,108,864 bytes. Else `SaveShape` comes only where the bytes are no
 /// save: a save has the one text of a state that the program of its source can have, and that program has no error but
-/// perhaps in its choice of a solver. Else `SaveSolver` comes exactly where the save says that there was no solver and the
-/// list is not empty, or where the list lacks its solver. `Memory` comes where memory was wanting.
+/// perhaps in its choice of a solver. Else `SaveSolver` comes only where the save says that there was no solver and the
+/// list is not empty, or where the list lacks its solver. `Memory` comes where memory was wanting. Else the bytes are the
+/// save of what is restored.
 ///
-/// The save of a state of the program restores to that state, over the source that was saved: no text is the save of two.
+/// Whatever state of the restored program the bytes are the save of is the one that was restored, over the same source: no
+/// text is the save of two.
 pub fn restore(alloc: Global, bytes: &[u8], solvers: &[String]) -> Result<Saved, SaveFaultOrMemory>
     requires { length solvers.now < 2 ^ 32 }
     ensures answer { Restores (map string_bytes solvers.now) bytes.now result }
