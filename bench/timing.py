@@ -4,6 +4,8 @@ Times are processor times of whole runs, the least of several. From them goes th
 """
 import argparse
 import os
+import re
+import shutil
 import subprocess
 import sys
 import tempfile
@@ -29,14 +31,14 @@ def own_program():
     return os.path.join(TOP, said.rstrip("\n"))
 
 
-def used_by(words, folder):
-    """Runs a command in a folder, and tells its processor time and its peak memory in megabytes. Status 3 is that of a run which a fault
-    stops. The memory is never less than that of the script itself, from which the command was started."""
+def used_by(words, folder, ends=(0, 3)):
+    """Runs a command in a folder, and tells its processor time and its peak memory in megabytes. It has to end with one of these statuses;
+    3 is that of a run which a fault stops. The memory is never less than that of the script itself, from which the command was started."""
     with open(f"{folder}/said", "w", encoding="utf-8") as said:
         running = subprocess.Popen(words, cwd=folder, stdout=said, stderr=subprocess.STDOUT)
         _, status, used = os.wait4(running.pid, 0)
     running.returncode = os.waitstatus_to_exitcode(status)
-    if running.returncode not in (0, 3):
+    if running.returncode not in ends:
         sys.exit(f"{' '.join(words)} ended with status {running.returncode} and said {text_in(f'{folder}/said')!r}")
     return used.ru_utime + used.ru_stime, used.ru_maxrss / 1024
 
@@ -44,6 +46,34 @@ def used_by(words, folder):
 def timed(words, folder):
     """Runs a command in a folder, and tells its processor time."""
     return used_by(words, folder)[0]
+
+
+def instructions_of(words, folder, ends=(0, 3)):
+    """How many instructions of its own a command takes in a folder, by valgrind: those of the C library do not count, so that figures of two
+    machines can be compared."""
+    if not shutil.which("valgrind"):
+        sys.exit("valgrind is not installed, so nothing was counted")
+    profile = f"{folder}/profile"
+    ran = subprocess.run(["valgrind", "--tool=callgrind", f"--callgrind-out-file={profile}", *words], cwd=folder, capture_output=True)
+    if ran.returncode not in ends:
+        sys.exit(f"{' '.join(words)} ended with status {ran.returncode} and said {ran.stderr[-300:]!r}")
+    return own_cost(text_in(profile), os.path.basename(words[0]))
+
+
+def own_cost(profile, program):
+    """The cost of a callgrind profile in the code of a program itself: of each line behind its name that is not the cost of a call."""
+    names, cost, is_own, is_call = {}, 0, False, False
+    for line in profile.splitlines():
+        named = re.fullmatch(r"c?ob=(\(\d+\))(?: (.*))?", line)
+        if named:
+            names.setdefault(named[1], os.path.basename(named[2] or ""))
+            is_own = names[named[1]] == program if line.startswith("ob=") else is_own
+        elif line.startswith("calls="):
+            is_call = True
+        elif re.match(r"[-+*\d]", line):
+            cost += 0 if is_call or not is_own else int(line.split()[1])
+            is_call = False
+    return cost
 
 
 def text_in(path):

@@ -32,21 +32,21 @@ read-at : (state : State) (n : ℕ) → symbol_at state n ≡ slice_index_or sta
 read-at state n = unwrap_or-slice_get state.symbols n no_symbol
 
 -- past the names nothing changes
-put-past : (state : State) (i : ℕ) (v : Symbol) → nat_lt i (length state.symbols) ≡ false → put_at state i v ≡ state
+pub put-past : (state : State) (i : ℕ) (v : Symbol) → nat_lt i (length state.symbols) ≡ false → put_at state i v ≡ state
 put-past state i v l =
     let past : length state.symbols ≤ i = grind (arith, nat_tests) in
     ap (λ (symbols : List Symbol). record { symbols = symbols; settings = state.settings }) (set_past state.symbols i v past)
 
-put-same : (state : State) (i : ℕ) (v : Symbol) → nat_lt i (length state.symbols) ≡ true → symbol_at (put_at state i v) i ≡ v
+pub put-same : (state : State) (i : ℕ) (v : Symbol) → nat_lt i (length state.symbols) ≡ true → symbol_at (put_at state i v) i ≡ v
 put-same state i v l =
     read-at (put_at state i v) i ∙ get_or-set_same state.symbols i v no_symbol (ltb-true i (length state.symbols) l)
 
-put-other : (state : State) (i n : ℕ) (v : Symbol) → n ≢ i → symbol_at (put_at state i v) n ≡ symbol_at state n
+pub put-other : (state : State) (i n : ℕ) (v : Symbol) → n ≢ i → symbol_at (put_at state i v) n ≡ symbol_at state n
 put-other state i n v ne =
     read-at (put_at state i v) n ∙ get_or-set_other state.symbols i n v no_symbol ne ∙ sym (read-at state n)
 
 -- a reading that the new symbol answers as the old one is as before everywhere
-read-kept : {Y : Type 0} (read : Symbol → Y) (state : State) (i : ℕ) (v : Symbol) → read v ≡ read (symbol_at state i) → (n : ℕ) → read (symbol_at (put_at state i v) n) ≡ read (symbol_at state n)
+pub read-kept : {Y : Type 0} (read : Symbol → Y) (state : State) (i : ℕ) (v : Symbol) → read v ≡ read (symbol_at state i) → (n : ℕ) → read (symbol_at (put_at state i v) n) ≡ read (symbol_at state n)
 read-kept read state i v same n = by (n == i) refl
   where
     at : (t : Bool) → nat_lt i (length state.symbols) ≡ t → read (symbol_at (put_at state i v) i) ≡ read (symbol_at state i)

@@ -25,3 +25,7 @@ pub mod ActUses
 pub mod LoadedData
 pub mod StatementParts
 pub mod ActDepths
+pub mod GivenData
+pub mod DeclaredNames
+pub mod LoadedNames
+pub mod LeftAmounts

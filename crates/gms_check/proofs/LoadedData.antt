@@ -87,7 +87,7 @@ module _ {F : Type 0} where
       by Repeated clean = let e = clean DataFault in cc
       by Full clean = let e = clean DataFault in cc
 
-  item-loadable : (known : Known F) (kind : DeclKind) (item : Decl F) → AreClean known (item_uses known kind item) → IsLoadableItem kind known.state item
+  pub item-loadable : (known : Known F) (kind : DeclKind) (item : Decl F) → AreClean known (item_uses known kind item) → IsLoadableItem kind known.state item
   item-loadable known kind item clean =
       let positions = positions_of kind (names_of item.domain) in
       let few : length positions ≤ 10 = at-most 10 (length positions) (clean.0 WrongArity) in

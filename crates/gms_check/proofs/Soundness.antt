@@ -108,7 +108,7 @@ module _ {F : Type 0} where
   -- ---- statements
 
   -- a statement without an error has parts without errors
-  statement-clean : (known : Known F) (statement : Stmt F) → statement_error known statement ≡ None → AreClean known (statement_uses statement known.state [])
+  pub statement-clean : (known : Known F) (statement : Stmt F) → statement_error known statement ≡ None → AreClean known (statement_uses statement known.state [])
   statement-clean known statement = by statement.act refl
     where
       by : (act : Act F) → statement.act ≡ act → first_of (act_errors known statement act) ≡ None → AreClean known (statement_uses statement known.state [])

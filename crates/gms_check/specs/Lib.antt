@@ -4,12 +4,14 @@ pub mod Checked
 pub mod Checking
 pub mod CompileErrors
 pub mod Controls
+pub mod DeclaredData
 pub mod DeclarationUses
 pub mod Domains
 pub mod Errors
 pub mod Faults
 pub mod IndexList
 pub mod Kinds
+pub mod LeftSides
 pub mod Linearity
 pub mod Loadable
 pub mod Loaded

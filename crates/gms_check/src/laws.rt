@@ -1,9 +1,27 @@
 //! What holds of a program without compile errors.
-ghost use Rattle.std.specs.Prelude.{◌≡◌, ℕ, List, []};
+ghost use Rattle.std.specs.Prelude.{◌≡◌, ◌<◌, ℕ, true, List, [], length, Option, Some, None};
 ghost use Rattle.gq_number.specs.Number.{Number};
+ghost use Rattle.gms_ast.specs.declared.declaration.Decl.{Decl};
+ghost use Rattle.gms_ast.specs.declared.declaration.DeclKind.{DeclKind};
+ghost use Rattle.gms_ast.specs.declared.declaration.DeclKind.TheVariants.{Set, Equation};
+ghost use Rattle.gms_ast.specs.declared.expression.Expr.{Expr};
+ghost use Rattle.gms_ast.specs.declared.program.Act.TheVariants.{Assign};
 ghost use Rattle.gms_ast.specs.declared.program.Program.{Program};
-ghost use Rattle.gms_check.specs.CompileErrors.{compile_errors};
-ghost use Rattle.gms_check.specs.Checked.{IsChecked};
+ghost use Rattle.gms_ast.specs.declared.program.Right.TheVariants.{Value};
+ghost use Rattle.gms_ast.specs.declared.program.Stmt.{Stmt};
+ghost use Rattle.gms_ast.specs.declared.program.Target.{Target};
+ghost use Rattle.gms_labels.specs.declared.place.Place.{Place};
+ghost use Rattle.gms_store.specs.declared.kind.VariableType.{VariableType};
+ghost use Rattle.gms_store.specs.declared.kind.VariableType.TheVariants.{Free};
+ghost use Rattle.gms_store.specs.State.{no_symbol, symbol_at, symbol_of, value_of, members_of, attributes_of, absent_variable, unbounded};
+ghost use Rattle.gms_store.specs.Declarations.{names_of, positions_of};
+ghost use Rattle.gms_tuple.specs.TupleSet.{has};
+ghost use Rattle.gms_check.specs.CompileErrors.{compile_errors, known_after};
+ghost use Rattle.gms_check.specs.Checked.{IsChecked, StandsAfter};
+ghost use Rattle.gms_check.specs.DeclaredData.{Declares, IsFree, IsUndeclared, datum_at, has_values, is_put_in, type_of, value_put};
+ghost use Rattle.gms_check.specs.LeftSides.{AreLeftIndices, StandsIn};
+ghost use Rattle.gms_check.specs.Loaded.{IsAccepted, loaded, sound};
+ghost use Rattle.gms_check.specs.StatementUses.{index_list};
 
 use gq_field::ExactField;
 
@@ -13,4 +31,43 @@ use gq_field::ExactField;
 /// controlled are one-dimensional, and controlled once; so is the set of an `ord`, which is ordered.
 pub fn checked_laws<F: ExactField>()
     ensures checked { (program : Program F) (solvers : List (List ℕ)) → compile_errors F.value program solvers ≡ [] → IsChecked F.value program solvers }
+{}
+
+/// What stands on the left of an assignment in a program without compile errors, also of one in the body of a loop: each set among its
+/// indices has one dimension, and each amount of a lag is a number or a scalar, which is the same at all elements.
+pub fn left_laws<F: ExactField>()
+    ensures { (program : Program F) (solvers : List (List ℕ)) (before : List (Stmt F)) (outer inner : Stmt F) (depth : ℕ) (target : Target F) (condition : Option (Expr F)) (right_at : Place) (right : Expr F) →
+        compile_errors F.value program solvers ≡ [] → StandsAfter program before outer → StandsIn depth inner outer →
+        inner.act ≡ Assign target condition right_at (Value right) →
+        AreLeftIndices (known_after F.value program solvers (sound before)).state (index_list target.indices) }
+{}
+
+/// What is loaded of a program that has no compile error with solvers of some names, before its first statement acts: a set has
+/// the tuples of its items and no other, a parameter at each tuple the value of the item that has it and 0 elsewhere, a variable the
+/// bounds of its type and an equation none, with level and marginal 0. Each of them has the positions that it was declared with.
+/// Of a name that no statement declares there is nothing.
+///
+/// GAMS User's Guide, "Set Definition"; "Data Entry: Parameters, Scalars and Tables"; "Variables".
+pub fn load_laws<F: ExactField>()
+    ensures members { (program : Program F) (item : Decl F) (t : List ℕ) →
+        IsAccepted F.value program → Declares program Set item → item.named.name < length program.names →
+        has (members_of (loaded F.value program) item.named.name) t ≡ is_put_in (datum_at item.items t) }
+    ensures values { (program : Program F) (kind : DeclKind) (item : Decl F) (t : List ℕ) →
+        IsAccepted F.value program → Declares program kind item → item.named.name < length program.names →
+        has_values kind ≡ true →
+        value_of (loaded F.value program) item.named.name t ≡ value_put F.value (datum_at item.items t) }
+    ensures bounds { (program : Program F) (kind : DeclKind) (item : Decl F) (type : VariableType) (t : List ℕ) →
+        IsAccepted F.value program → Declares program kind item → item.named.name < length program.names →
+        type_of kind ≡ Some type → (type ≡ Free → IsFree program item.named.name) →
+        attributes_of (loaded F.value program) item.named.name t ≡ absent_variable type }
+    ensures equations { (program : Program F) (item : Decl F) (t : List ℕ) →
+        IsAccepted F.value program → Declares program Equation item → item.named.name < length program.names →
+        attributes_of (loaded F.value program) item.named.name t ≡ unbounded }
+    ensures positions { (program : Program F) (kind : DeclKind) (item : Decl F) →
+        IsAccepted F.value program → Declares program kind item → item.named.name < length program.names →
+        type_of kind ≡ None →
+        (symbol_of (loaded F.value program) item.named.name).domain ≡ positions_of kind (names_of item.domain) }
+    ensures undeclared { (program : Program F) (name : ℕ) →
+        IsAccepted F.value program → IsUndeclared program name →
+        symbol_at (loaded F.value program) name ≡ no_symbol }
 {}

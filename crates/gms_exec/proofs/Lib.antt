@@ -32,3 +32,4 @@ mod Standings
 mod Stepping
 mod Loops
 mod AfterSolve
+mod Once

@@ -4,6 +4,7 @@ pub mod Dimensions
 pub mod Elements
 pub mod Given
 pub mod Membership
+pub mod Once
 pub mod Options
 pub mod Reads
 pub mod Run

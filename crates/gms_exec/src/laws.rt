@@ -1,19 +1,27 @@
-//! Laws of assignments and solves: what is read after one.
-ghost use Rattle.std.specs.Prelude.{◌≡◌, ◌<◌, ℕ, pos, true, List, Some, All, length, slice_get, unwrap_or};
+//! Laws of assignments and solves: what is read after one, and that an assignment gives no element twice.
+ghost use Rattle.std.specs.Prelude.{◌≡◌, ◌<◌, ℕ, pos, true, List, Option, Some, Ok, All, length, slice_get, unwrap_or};
 ghost use Rattle.gq_number.specs.Number.{Number, whole};
 ghost use Rattle.gq_extended.specs.Extended.{Extended};
 ghost use Rattle.gms_ast.specs.declared.expression.Suffix.{Suffix};
 ghost use Rattle.gms_ast.specs.declared.expression.Suffix.TheVariants as suffix;
+ghost use Rattle.gms_ast.specs.StatementTrees.{Target};
+ghost use Rattle.gms_ast.specs.Trees.{Tree};
+ghost use Rattle.gms_labels.specs.declared.place.Place.{Place};
 ghost use Rattle.gms_tuple.specs.TupleSet.{has};
 ghost use Rattle.gms_store.specs.State.{State, Entries, parameter_of, set_of, model_with, base_of, symbol_of, value_of, attributes_of, members_of, statuses_in, has_attributes, with_level, with_marginal};
 ghost use Rattle.lp_form.specs.declared.key.Key.{Key};
 ghost use Rattle.lp_core.specs.declared.program.Lp.{Lp};
 ghost use Rattle.lp_core.specs.declared.answer.End.{End};
 ghost use Rattle.lp_core.specs.declared.answer.End.TheVariants.{Optimal};
+ghost use Rattle.gms_eval.specs.Bindings.{Pairs};
+ghost use Rattle.gms_exec.specs.Assignment.{given_by};
 ghost use Rattle.gms_exec.specs.Given.{AllGiven, after_given};
+ghost use Rattle.gms_exec.specs.Once.{AreLeft, IsOnce};
 ghost use Rattle.gms_exec.specs.Reads.{value_at, membership_at, attributes_with};
 ghost use Rattle.gms_exec.specs.Solved.{column_keys, row_keys, statuses_of, after_end};
 ghost use Rattle.gms_exec.specs.Elements.{AreElements, IsNot, elements, feasible_levels, has_no_point};
+
+use gq_field::ExactField;
 
 /// What is read after an assignment, which gives elements of one name values or membership: at each element what it was given, or what was
 /// there where it was given nothing. Other names stay as they were, and so do the settings.
@@ -39,6 +47,16 @@ pub fn assignment_laws()
         symbol_of (after_given kind name all state) other ≡ symbol_of state other }
     ensures settings { (state : State) (name : ℕ) (kind : Suffix) (all : AllGiven) →
         (after_given kind name all state).settings ≡ state.settings }
+{}
+
+/// An assignment gives no element twice, where its left side is as in an accepted program: each set among the indices has one dimension,
+/// and each amount of a lag is a number or a scalar. So of what an element is given nothing is lost, and the order in which
+/// elements are given counts nothing (GAMS User's Guide, "Data Manipulations with Parameters", indexed assignments).
+pub fn once_laws<F: ExactField>()
+    ensures { (state : State) (at : Place) (binding : Pairs) (target : Target F) (condition : Option (Tree F)) (right_at : Place) (right : Tree F) (given : AllGiven) →
+        AreLeft state target.indices →
+        given_by F.value F.limit state at binding target condition right_at right ≡ Ok given →
+        IsOnce given }
 {}
 
 /// What is read after a solve whose columns and rows are elements of the state. An optimum gives the element of a column

@@ -11,5 +11,5 @@ mod solving;
 mod statement;
 mod walk;
 
-pub use laws::{assignment_laws, solve_laws};
+pub use laws::{assignment_laws, once_laws, solve_laws};
 pub use statement::step;

@@ -1,18 +1,18 @@
 -- The number that a text means, where it means one.
-use Rattle.std.proofs.Common.{◌≡◌, ℕ, ◌+◌, ◌<◌, ◌⊎◌, Bool, true, false, List, [], ◌∷◌, ◌++◌, length, take, drop, refl, sym, ap, ◌∙◌, subst, arith, inl, inr, pos}
+use Rattle.std.proofs.Common.{◌≡◌, ℕ, ◌+◌, ◌<◌, ◌==◌, ◌⊎◌, Bool, true, false, cond, List, [], ◌∷◌, ◌++◌, length, take, drop, refl, sym, ap, ap₂, ◌∙◌, subst, arith, inl, inr, ℤ, pos, neg_ℤ}
 use Rattle.std.specs.List.{prefix_len}
 use Rattle.std.specs.Char.{is_ascii_digit}
 use Rattle.std.proofs.lemmas.Bool.Decides.{eqb_tells}
-use Rattle.gq_number.specs.Number.{Number, whole}
-use Rattle.gq_text.specs.Numeral.{AreDigits}
+use Rattle.gq_number.specs.Number.{Number}
+use Rattle.gq_text.specs.Numeral.{AreDigits, spelled}
 use Rattle.gq_text.specs.Decimal.{Decimal, number_of, IsSomeDigits, IsSigned, IsExponent, MeansNumber}
 use Rattle.gq_text.specs.Parts.{BeginsNoDigit, SplitsDigits, IsTail, Divides, SplitsSign, exponent_of}
-use Rattle.gq_text.proofs.Splits.{counted_digits, all_in_front, signed_digits, IsSigned_from, Spells-from, one_number}
+use Rattle.gq_text.proofs.Splits.{counted_digits, all_in_front, signed_digits as only_digits, IsSigned_from, Divides-from, Spells-from, one_division}
 use Rattle.gq_text.proofs.Readings.{no_digits, no_power}
-use Rattle.gms_expressions.specs.Valuations.{IsValuation}
+use Rattle.gms_expressions.specs.Valuations.{IsValuation, front_digits, behind_digits, point_digits, behind_point, signed_digits, exponent_in, number_in}
 
 -- something of which P holds, or that there is none
-abbrev Told : {X : Type 0} → (X → Type 0) → Type 0
+abbrev pub Told : {X : Type 0} → (X → Type 0) → Type 0
 Told {X} P = ((x : X) × P x) ⊎ ((x : X) → ¬ P x)
 
 append_nil : (xs : List ℕ) → xs ++ [] ≡ xs
@@ -43,7 +43,7 @@ signed_told text =
     let s = sign_of text in
     elim (digits_told s.1 (take (prefix_len is_ascii_digit s.1) s.1) (drop (prefix_len is_ascii_digit s.1) s.1) (counted_digits s.1)) [
       | inl h ↦ inl (exponent_of s.0 s.1, IsSigned_from text s.1 s.0 s.2 h)
-      | inr none ↦ inr (λ e h. none (signed_digits text s.1 s.0 e h s.2).0)
+      | inr none ↦ inr (λ e h. none (only_digits text s.1 s.0 e h s.2).0)
     ]
 
 mark_told : (b : ℕ) → ((b ≡ 101) ⊎ (b ≡ 69)) ⊎ (¬ ((b ≡ 101) ⊎ (b ≡ 69)))
@@ -99,7 +99,7 @@ divided_told text [] [] rest p = inr (λ x. no_digits text [] [] rest x p refl r
 divided_told text [] (c ∷ cs) rest p = with_power text [] (c ∷ cs) rest p (omega arith) (exponent_told rest)
 divided_told text (b ∷ bs) behind rest p = with_power text (b ∷ bs) behind rest p (omega arith) (exponent_told rest)
 
-number_told : (text : List ℕ) → Told (MeansNumber text)
+pub number_told : (text : List ℕ) → Told (MeansNumber text)
 number_told text =
     let front = counted_digits text in
     let tail = tail_of (drop (prefix_len is_ascii_digit text) text) front.all in
@@ -108,19 +108,69 @@ number_told text =
 
 -- ---- values
 
-valued : {text : List ℕ} → Told (MeansNumber text) → Number
-valued (inl x) = x.0
-valued (inr none) = whole (pos 0)
+-- a text with a sign in front or none, and its whole number
+record SignTold (text : List ℕ) : Type 0 where
+  negative : Bool
+  digits : List ℕ
+  splits : SplitsSign text negative digits
+  number : signed_digits text ≡ exponent_of negative digits
 
-valued_is : (text : List ℕ) (x : Number) (t : Told (MeansNumber text)) → MeansNumber text x → valued t ≡ x
-unfolding valued
-valued_is text x (inl y) m = one_number text y.0 x y.1 m
-valued_is text x (inr none) m = absurd (none x m)
+sign_told : (text : List ℕ) → SignTold text
+sign_told [] = record { negative = false; digits = []; splits = inr (inr (refl, refl, tt, tt)); number = refl }
+sign_told (b ∷ bs) =
+    elim (eqb_tells b 45) [
+      | inl minus ↦ record {
+        negative = true;
+        digits = bs;
+        splits = inl (ap (λ (z : ℕ). z ∷ bs) minus.1, refl);
+        number = ap (λ t. cond t (neg_ℤ (pos (spelled bs))) (cond (b == 43) (pos (spelled bs)) (pos (spelled (b ∷ bs))))) minus.0;
+      }
+      | inr other ↦ elim (eqb_tells b 43) [
+        | inl plus ↦ record {
+          negative = false;
+          digits = bs;
+          splits = inr (inl (ap (λ (z : ℕ). z ∷ bs) plus.1, refl));
+          number = ap (λ t. cond t (neg_ℤ (pos (spelled bs))) (cond (b == 43) (pos (spelled bs)) (pos (spelled (b ∷ bs))))) other.0 ∙ ap (λ t. cond t (pos (spelled bs)) (pos (spelled (b ∷ bs)))) plus.0;
+        }
+        | inr none ↦ record {
+          negative = false;
+          digits = b ∷ bs;
+          splits = inr (inr (refl, refl, other.1, none.1));
+          number = ap (λ t. cond t (neg_ℤ (pos (spelled bs))) (cond (b == 43) (pos (spelled bs)) (pos (spelled (b ∷ bs))))) other.0 ∙ ap (λ t. cond t (pos (spelled bs)) (pos (spelled (b ∷ bs)))) none.0;
+        }
+      ]
+    ]
 
--- the number that a text means, and 0 where it means none
-pub number_in : List ℕ → Number
-number_in text = valued (number_told text)
+exponent_is : (text : List ℕ) (e : ℤ) → IsExponent text e → exponent_in text ≡ e
+exponent_is [] e h = sym h
+exponent_is (mark ∷ text) e h = let s = sign_told text in s.number ∙ sym (only_digits text s.digits s.negative e h.1 s.splits).1
+
+-- the digits around a point that a text begins with, and what stands behind them
+divides : (text : List ℕ) → Divides text (front_digits text) (point_digits (behind_digits text)) (behind_point (behind_digits text))
+divides text =
+    let front = counted_digits text in
+    by (behind_digits text) front.text_is front.are_digits front.all
+  where
+    by : (tail : List ℕ) → text ≡ front_digits text ++ tail → AreDigits (front_digits text) → BeginsNoDigit tail → Divides text (front_digits text) (point_digits tail) (behind_point tail)
+    by [] is are all = record { tail = []; text_is = is; before_digits = are; behind_digits = tt; tail_is = inr (refl, refl, tt); all = tt }
+    by (b ∷ bs) is are all = go (b == 46) refl (eqb_tells b 46)
+      where
+        go : (t : Bool) → (b == 46) ≡ t → (((b == 46) ≡ true) × (b ≡ 46)) ⊎ (((b == 46) ≡ false) × (b ≡ 46 → ⊥)) → Divides text (front_digits text) (cond t (front_digits bs) []) (cond t (behind_digits bs) (b ∷ bs))
+        go true e (inl dot) = let d = counted_digits bs in record {
+          tail = b ∷ bs;
+          text_is = is;
+          before_digits = are;
+          behind_digits = d.are_digits;
+          tail_is = inl (ap (λ (z : ℕ). z ∷ bs) dot.1 ∙ ap (λ (l : List ℕ). 46 ∷ l) d.text_is);
+          all = d.all;
+        }
+        go true e (inr other) = absurd cc
+        go false e (inl dot) = absurd cc
+        go false e (inr other) = record { tail = b ∷ bs; text_is = is; before_digits = are; behind_digits = tt; tail_is = inr (refl, refl, other.1); all = all }
 
 pub number_in_is : IsValuation number_in
 unfolding number_in
-number_in_is text x m = valued_is text x (number_told text) m
+number_in_is text x m =
+    let same = one_division text (front_digits text) (point_digits (behind_digits text)) (behind_point (behind_digits text)) m.0.before m.0.behind m.1.power (divides text) (Divides-from text m.0 m.1) in
+    let power = exponent_is (behind_point (behind_digits text)) m.0.exponent (subst (λ (r : List ℕ). IsExponent r m.0.exponent) (sym same.same_rest) m.1.power_is) in
+    ap (λ (d : Decimal). number_of d) (ap₂ (λ (x : List ℕ × List ℕ) (e : ℤ). record { before = x.0; behind = x.1; exponent = e }) (ap₂ (λ (a : List ℕ) (b : List ℕ). (a, b)) same.same_before same.same_behind) power) ∙ sym m.2

@@ -1,8 +1,48 @@
--- What the texts of numbers mean.
-use Rattle.std.specs.Prelude.{ℕ, List, ◌≡◌}
+-- What the texts of numbers mean (GAMS User's Guide, "Language Items", numbers).
+use Rattle.std.specs.Prelude.{ℕ, ℤ, pos, neg_ℤ, ◌==◌, if◌then◌else◌, List, [], ◌∷◌, take, drop, ◌≡◌}
+use Rattle.std.specs.List.{prefix_len}
+use Rattle.std.specs.Char.{is_ascii_digit}
 use Rattle.gq_number.specs.Number.{Number}
-use Rattle.gq_text.specs.Decimal.{MeansNumber}
+use Rattle.gq_text.specs.Numeral.{spelled}
+use Rattle.gq_text.specs.Decimal.{Decimal, number_of, MeansNumber}
 
 -- each text that means a number has that number
 abbrev pub IsValuation : (List ℕ → Number) → Type 0
 IsValuation value = (text : List ℕ) (x : Number) → MeansNumber text x → value text ≡ x
+
+-- the digits that a text begins with
+abbrev pub front_digits : List ℕ → List ℕ
+front_digits text = take (prefix_len is_ascii_digit text) text
+
+-- what stands behind them
+abbrev pub behind_digits : List ℕ → List ℕ
+behind_digits text = drop (prefix_len is_ascii_digit text) text
+
+-- the digits behind a point, where a text begins with one
+abbrev pub point_digits : List ℕ → List ℕ
+point_digits [] = []
+point_digits (b ∷ text) = if b == 46 then front_digits text else []
+
+-- what stands behind the point and its digits, where there is one
+abbrev pub behind_point : List ℕ → List ℕ
+behind_point [] = []
+behind_point (b ∷ text) = if b == 46 then behind_digits text else b ∷ text
+
+-- the whole number of digits, with a sign before them or none
+abbrev pub signed_digits : List ℕ → ℤ
+signed_digits [] = pos 0
+signed_digits (b ∷ text) = if b == 45 then neg_ℤ (pos (spelled text)) else (if b == 43 then pos (spelled text) else pos (spelled (b ∷ text)))
+
+-- the exponent behind its mark, and 0 where there is none
+abbrev pub exponent_in : List ℕ → ℤ
+exponent_in [] = pos 0
+exponent_in (mark ∷ text) = signed_digits text
+
+-- the number that a text means; it is no matter what a text has that means none
+unfoldable pub number_in : List ℕ → Number
+number_in text =
+    number_of (record {
+      before = front_digits text;
+      behind = point_digits (behind_digits text);
+      exponent = exponent_in (behind_point (behind_digits text));
+    })

@@ -1,9 +1,7 @@
 //! Laws of what the clauses of the calls speak of.
-ghost use Rattle.std.specs.Prelude.{ℕ, List};
-ghost use Rattle.gq_number.specs.Number.{Number};
-ghost use Rattle.gms_expressions.specs.Valuations.{IsValuation};
+ghost use Rattle.gms_expressions.specs.Valuations.{IsValuation, number_in};
 
-/// Texts have values of which each is the number that its text means, where it means one.
+/// The number that is read off a text is the one that the text means, where it means one.
 pub fn valuation_laws()
-    ensures { (value : List ℕ → Number) × IsValuation value }
+    ensures { IsValuation number_in }
 {}

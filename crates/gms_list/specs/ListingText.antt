@@ -53,6 +53,11 @@ abbrev pub source_error_text : SourceFault → List ℕ
 source_error_text fault =
     line_of (codes "*** Source error " ++ decimal (source_code fault.error) ++ codes " " ++ source_name fault.error ++ place_text fault.at)
 
+-- the line of the fault of a save that cannot be restored, by the fault's number and name
+abbrev pub save_error_text : ℕ → List ℕ → Place → List ℕ
+save_error_text code name at =
+    line_of (codes "*** Source error " ++ decimal code ++ codes " " ++ name ++ place_text at)
+
 -- the line of an error of a program
 abbrev pub compile_error_text : CompileError → List ℕ
 compile_error_text error =

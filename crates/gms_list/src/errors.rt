@@ -1,9 +1,10 @@
 //! Errors of a source.
 ghost use Rattle.gms_fmt.specs.Columns.{Appends};
-ghost use Rattle.gms_list.specs.ListingText.{source_error_text, compile_error_text, compile_errors_text};
+ghost use Rattle.gms_list.specs.ListingText.{save_error_text, source_error_text, compile_error_text, compile_errors_text};
 
 use crate::listing::Listing;
 use gms_check::CompileError;
+use gms_labels::Place;
 use gms_parse::SourceFault;
 use std::alloc::{AllocError, Global};
 
@@ -16,6 +17,24 @@ impl Listing {
         let name = f.error.name();
         let row = f.at.line;
         let column = f.at.column;
+        let line = format!(in alloc;
+            "*** Source error {code} {name} at line {row} column {column}\n"
+        )?;
+        self.push(line.as_str())
+    }
+
+    /// Appends the line of the fault of a save that cannot be restored, by the fault's number and name.
+    pub fn save_fault(
+        &mut self,
+        alloc: Global,
+        code: u8,
+        name: &str,
+        at: Place,
+    ) -> Result<(), AllocError>
+        ensures { Appends result self.old self.new (save_error_text code name.now at) }
+    {
+        let row = at.line;
+        let column = at.column;
         let line = format!(in alloc;
             "*** Source error {code} {name} at line {row} column {column}\n"
         )?;

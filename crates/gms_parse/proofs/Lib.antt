@@ -40,3 +40,10 @@ pub mod Named
 pub mod EndTokens
 pub mod Sources
 pub mod Members
+pub mod Orders
+pub mod Decided
+pub mod TableSound
+pub mod TableItems
+pub mod TableFaults
+pub mod OneReading
+pub mod ProgramThere

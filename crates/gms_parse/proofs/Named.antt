@@ -17,7 +17,8 @@ use Rattle.gms_grammar.specs.GamsLookAhead.{look_ahead}
 use Rattle.gms_grammar.proofs.Basics.{both_ways}
 use Rattle.gms_grammar.proofs.Sound.{sound}
 use Rattle.gms_expressions.specs.ExpressionTrees.{second_in}
-use Rattle.gms_expressions.proofs.Valued.{number_in, number_in_is}
+use Rattle.gms_expressions.specs.Valuations.{number_in}
+use Rattle.gms_expressions.proofs.Valued.{number_in_is}
 use Rattle.gms_parse.specs.declared.fault.SourceFault.{SourceFault}
 use Rattle.gms_parse.specs.declared.fault.SourceFaultOrMemory.{SourceFaultOrMemory}
 use Rattle.gms_parse.specs.declared.reader.Reader.{Reader}

@@ -28,6 +28,10 @@ use Rattle.gms_parse.specs.Walks.{Seen, Walk, start, walk_behind, IsFaulty, AreS
 use Rattle.gms_parse.specs.Readings.{IsStuck, IsWrong, IsOver, IsWhole, RefusesWhole, IsReady, seen_from, kind_of, unexpected}
 use Rattle.gms_parse.specs.Meanings.{IsTabled, AreStatements}
 use Rattle.gms_expressions.proofs.Doors.{front_begins}
+use Rattle.gms_expressions.specs.Valuations.{number_in}
+use Rattle.gms_expressions.proofs.Valued.{number_in_is}
+use Rattle.gms_parse.specs.Tables.{items_given}
+use Rattle.gms_parse.proofs.TableItems.{all_items}
 use Rattle.gms_parse.proofs.Walks.{ahead_append}
 use Rattle.gms_parse.proofs.EndTokens.{HasEnd, has_end, begins_other, end_behind, end_alone}
 use Rattle.gms_parse.proofs.Named.{so_far, is_so_far}
@@ -130,5 +134,7 @@ program_of value {limit} {reader} {new} {statements} ready whole =
       names_are = sym got.leaves.names ∙ ap (λ (w : Walk). w.names) behind;
       labels_are = sym got.leaves.labels ∙ ap (λ (w : Walk). w.labels) behind;
       tables = (got.means (so_far new) (is_so_far new)).have;
-      statements_are = λ v h items right. (got.means (record { names = new.names; labels = new.labels; value = v }) (record { names = λ text n k. k; labels = λ text n k. k; value = h })).means items right;
+      statements_are =
+          (got.means (record { names = new.names; labels = new.labels; value = number_in }) (record { names = λ text n k. k; labels = λ text n k. k; value = number_in_is })).means
+          (items_given reader.source.now new.labels) (all_items new.labels limit reader.source.now (yield got.tree) (got.means (so_far new) (is_so_far new)).have);
     }

@@ -6,7 +6,6 @@ use Rattle.std.specs.declared.alloc.Global.{Global}
 use Rattle.std.proofs.lemmas.List.{append-nil, map-append, reverse-append}
 use Rattle.std.proofs.lemmas.List.Elements.{All-nil, All-cons, All-head, All-tail, All-append}
 use Rattle.gq_number.specs.Number.{Number as Rational, neg_ℚ}
-use Rattle.gq_text.proofs.Splits.{one_number}
 use Rattle.gms_labels.specs.Labels.{place_of}
 use Rattle.gms_labels.specs.declared.place.Place.{Place}
 use Rattle.gms_lexemes.specs.declared.kind.Kind.{Kind}
@@ -30,9 +29,8 @@ use Rattle.gms_table.specs.declared.fault.TableFaultOrMemory.{TableFaultOrMemory
 use Rattle.gms_table.specs.declared.fault.TableFaultOrMemory.TheVariants as answer
 use Rattle.gms_table.specs.Words.{Word, words_of}
 use Rattle.gms_table.specs.WordLabels.{AreNumbers, names_of}
-use Rattle.gms_table.specs.CellNumbers.{IsValue, signed}
 use Rattle.gms_table.specs.TableEntries as entries
-use Rattle.gms_table.specs.TableEntries.{Part, name as name_part, cell, table_of, parts_of, IsEntry, AreEntries, Stands, IsFirstFault, IsTable, IsRefusal}
+use Rattle.gms_table.specs.TableEntries.{Part, name as name_part, cell, table_of, parts_of, AreEntries, Stands, IsFirstFault, IsTable, IsRefusal}
 use Rattle.gms_grammar.specs.declared.terminal.Terminal.{Terminal}
 use Rattle.gms_grammar.specs.declared.terminal.Terminal.TheVariants.{Table, Name, Suffix, Text, LongText, Label, TableLine, Break, End}
 use Rattle.gms_grammar.specs.Grammar.{the, ◌·◌, many, leaf, pair, none, more, node, yield}
@@ -62,6 +60,7 @@ use Rattle.gms_parse.specs.Meanings.{IsNamed, IsDomain, IsTabled, IsStatement}
 use Rattle.gms_parse.proofs.TokenKinds.{same_kind}
 use Rattle.gms_parse.proofs.Alphabet.{AllPass, pass_append, pass_front, pass_rest, only, all_pass}
 use Rattle.gms_parse.proofs.Spelled.{word_kind}
+use Rattle.gms_parse.proofs.TableItems.{entries_only}
 use Rattle.gms_parse.proofs.Steps.{gives_one, gives_both, gives_the, gives_no_more, gives_again, refuses_first, refuses_second, refuses_the, refuses_again, refuses_later, refuses_token, refuses_memory}
 use Rattle.gms_parse.proofs.Nexts.{past, exact, gives_exact, begun_starts, earlier}
 use Rattle.gms_parse.proofs.Domains.{name_pushed, name_kept, not_no}
@@ -359,16 +358,6 @@ numbers_kept labels later keep (n ∷ ns) (text ∷ texts) h =
     let others : map Some ns ≡ map (place_of labels) texts = cc in
     ap₂ (λ a b. a ∷ b) (sym (keep text n (sym first))) (numbers_kept labels later keep ns texts others)
 
-somes_same : (ns ms : List ℕ) → map Some ns ≡ map Some ms → ns ≡ ms
-somes_same [] [] h = refl
-somes_same [] (m ∷ ms) h = let bad : [] ≡ Some m ∷ map Some ms = h in cc
-somes_same (n ∷ ns) [] h = let bad : Some n ∷ map Some ns ≡ [] = h in cc
-somes_same (n ∷ ns) (m ∷ ms) h =
-    let whole : Some n ∷ map Some ns ≡ Some m ∷ map Some ms = h in
-    let first : n ≡ m = cc in
-    let others : map Some ns ≡ map Some ms = cc in
-    ap₂ (λ a b. a ∷ b) first (somes_same ns ms others)
-
 entries_kept : {F : Type 0} (limit : ℕ) (value : F → Rational) (labels later : List (List ℕ)) → Keep labels later → (parts : List Part) (es : List (Entry F)) → AreEntries limit value labels parts es → AreEntries limit (λ x. x) later parts (map (entry_in value) es)
 entries_kept limit value labels later keep [] es h = ap (map (entry_in value)) h
 entries_kept limit value labels later keep (name_part word ∷ parts) es h = entries_kept limit value labels later keep parts es h
@@ -385,26 +374,6 @@ entries_kept limit value labels later keep (cell row headings word ∷ parts) (e
       },
       entries_kept limit value labels later keep parts es h.1,
     )
-
-value_same : (limit : ℕ) (text : List ℕ) (x y : Rational) → IsValue limit text x → IsValue limit text y → x ≡ y
-value_same limit text x y h k = h.value ∙ ap (signed text) (one_number _ h.magnitude k.magnitude h.means k.means) ∙ sym k.value
-
-one_entry : (limit : ℕ) (labels : List (List ℕ)) (row : Word) (headings : List Word) (word : Word) (e f : Entry Rational) → IsEntry limit (λ x. x) labels row headings word e → IsEntry limit (λ x. x) labels row headings word f → e ≡ f
-one_entry limit labels row headings word e f h k =
-    let heads : h.heading ∷ [] ≡ k.heading ∷ [] = sym h.under_one ∙ k.under_one in
-    let heading : h.heading ≡ k.heading = cc in
-    let at = h.at ∙ sym k.at in
-    let rows = somes_same e.row f.row (h.row_is ∙ sym k.row_is) in
-    let columns = somes_same e.column f.column (h.column_is ∙ ap (λ (x : Word). map (place_of labels) (names_of x)) heading ∙ sym k.column_is) in
-    let values = value_same limit word.text e.value f.value h.value_is k.value_is in
-    ap₂ (λ (x : Place × List ℕ) (y : List ℕ × Rational). record { at = x.0; row = x.1; column = y.0; value = y.1 }) (ap₂ (λ (a : Place) (b : List ℕ). (a, b)) at rows) (ap₂ (λ (a : List ℕ) (b : Rational). (a, b)) columns values)
-
-same_entries : (limit : ℕ) (labels : List (List ℕ)) (parts : List Part) (es fs : List (Entry Rational)) → AreEntries limit (λ x. x) labels parts es → AreEntries limit (λ x. x) labels parts fs → es ≡ fs
-same_entries limit labels [] es fs h k = h ∙ sym k
-same_entries limit labels (name_part word ∷ parts) es fs h k = same_entries limit labels parts es fs h k
-same_entries limit labels (cell row headings word ∷ parts) [] fs h k = absurd h
-same_entries limit labels (cell row headings word ∷ parts) (e ∷ es) [] h k = absurd k
-same_entries limit labels (cell row headings word ∷ parts) (e ∷ es) (f ∷ fs) h k = ap₂ (λ a b. a ∷ b) (one_entry limit labels row headings word e f h.0 k.0) (same_entries limit labels parts es fs h.1 k.1)
 
 items_shown : {F : Type 0} (value : F → Rational) (es : List (Entry F)) → map (item_in value) (map item_of_entry es) ≡ map item_of_entry (map (entry_in value) es)
 items_shown value [] = refl
@@ -591,7 +560,7 @@ module _ {limit : ℕ} {reader : Reader} {at start : ℕ} {t : Token} (w : Walk)
           (map item_of_entry (map (entry_in value) es), (map (entry_in value) es, kept parts sense.labels (λ text i p. s.labels text i p), refl)))
           (λ sense s table_items all.
           let whole = all ls (table_there (yield (statement_tree (u ∷ us))) front u us (statement_yield (u ∷ us)) front_lineless) in
-          ap (map (item_in value)) items_are ∙ items_shown value es ∙ ap (map item_of_entry) (same_entries limit sense.labels (parts_of_tokens source ls) (map (entry_in value) es) whole.0 (kept parts sense.labels (λ text i p. s.labels text i p)) whole.1) ∙ sym whole.2 ∙ ap table_items (sym (lines_yield (u ∷ us))))
+          ap (map (item_in value)) items_are ∙ items_shown value es ∙ ap (map item_of_entry) (entries_only sense.labels limit (parts_of_tokens source ls) (map (entry_in value) es) (kept parts sense.labels (λ text i p. s.labels text i p)) ∙ sym (entries_only sense.labels limit (parts_of_tokens source ls) whole.0 whole.1)) ∙ sym whole.2 ∙ ap table_items (sym (lines_yield (u ∷ us))))
         where
           kept : {ps : List Part} → parts_of lines ≡ ps → (later : List (List ℕ)) → Keep last.labels later → AreEntries limit (λ x. x) later ps (map (entry_in value) es)
           kept parts later keep = subst (λ (ps : List Part). AreEntries limit (λ x. x) later ps (map (entry_in value) es)) parts (entries_kept limit value last.labels later keep (parts_of lines) es tb.entries_are)

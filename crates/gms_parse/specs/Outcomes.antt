@@ -15,7 +15,7 @@ use Rattle.gms_ast.specs.declared.declaration.Item.{Item}
 use Rattle.gms_ast.specs.declared.program.Program.{Program as ProgramNode}
 use Rattle.gms_expressions.specs.ExpressionTrees.{first_place}
 use Rattle.gms_expressions.specs.Outcomes.{seen}
-use Rattle.gms_expressions.specs.Valuations.{IsValuation}
+use Rattle.gms_expressions.specs.Valuations.{number_in}
 use Rattle.gms_parse.specs.declared.fault.SourceError.{SourceError}
 use Rattle.gms_parse.specs.declared.fault.SourceError.TheVariants.{TooLong, Expected, NotInProfile}
 use Rattle.gms_parse.specs.declared.fault.SourceFault.{SourceFault}
@@ -25,8 +25,19 @@ use Rattle.gms_parse.specs.Faults.{error_of_lexical}
 use Rattle.gms_ast.specs.StatementTrees.{Statements}
 use Rattle.gms_ast.specs.StatementView.{statements_view}
 use Rattle.gms_parse.specs.Programs.{statements_of}
-use Rattle.gms_parse.specs.Tables.{AreTableItems}
+use Rattle.gms_parse.specs.Tables.{AreTableItems, items_given}
 use Rattle.gms_parse.specs.Walks.{Seen, start, kind_ahead, walk_behind, IsFaulty, AreSound}
+
+-- A program as it is seen, wherever its parts are kept in memory: its names, its labels, and the trees of its statements.
+pub record ProgramView : Type 0 where
+  pub names : List (List ℕ)
+  pub labels : List (List ℕ)
+  pub statements : Statements Number
+
+-- how a program is seen, of which the numbers have these values
+abbrev pub program_view : {F : Type 0} → (F → Number) → ProgramNode F → ProgramView
+program_view value_of program =
+    record { names = program.names; labels = program.labels; statements = statements_view value_of program.statements.items }
 
 -- the error of a token that is unexpected: of a word that the language leaves out this is said
 abbrev pub unexpected_error : List Seen → SourceError
@@ -53,8 +64,8 @@ module _ (limit : ℕ) (source : List ℕ) where
   AreAllItems labels tokens table_items = (lines : List Seen) → IsTableOf tokens lines → AreTableItems limit source labels lines (table_items lines)
 
   -- The program of the tokens, which is the only one: they are a program up to the end, and none has a fault. Its names and labels
-  -- are those that the tokens leave, each table has its items, and the statements are those that the derivation means, in which each
-  -- text of a number means its number, and each table gives its items.
+  -- are those that the tokens leave, each table has items, and the statements are those that the derivation means, in which a text has
+  -- the number that it means, and a table the items that its lines give.
   pub record IsProgramOf (tokens : List Seen) (names labels : List (List ℕ)) (statements : Statements Number) : Type 0 where
     pub tree : Tree Seen
     pub end : Token
@@ -64,8 +75,7 @@ module _ (limit : ℕ) (source : List ℕ) where
     pub names_are : names ≡ (walk_behind source start (yield tree) terminal.End).names
     pub labels_are : labels ≡ (walk_behind source start (yield tree) terminal.End).labels
     pub tables : HaveItems labels (yield tree)
-    pub statements_are : (value : List ℕ → Number) → IsValuation value → (table_items : List Seen → List (Item Number)) → AreAllItems labels (yield tree) table_items →
-        statements ≡ statements_of source names labels value neg_ℚ table_items tree
+    pub statements_are : statements ≡ statements_of source names labels number_in neg_ℚ (items_given source labels) tree
 
   -- The first faulty one of the tokens that begin a program, where one of kind `ahead` stands behind these.
   pub record IsFirstFaulty (front : List Seen) (ahead : Terminal) (fault : SourceFault) : Type 0 where
@@ -118,9 +128,13 @@ module _ (limit : ℕ) (source : List ℕ) where
   IsRefusal (Fault fault) = IsFault fault
   IsRefusal Memory = Unit {0}
 
-  -- The program of the source.
-  pub record IsProgram {F : Type 0} (value_of : F → Number) (program : ProgramNode F) : Type 0 where
+  -- The source has a program, which is seen so.
+  pub record HasProgram (view : ProgramView) : Type 0 where
     pub short : length source ≤ most_bytes
     pub tokens : List Token
     pub are_tokens : IsTokens source tokens
-    pub is : IsProgramOf (seen source tokens) program.names program.labels (statements_view value_of program.statements.items)
+    pub is : IsProgramOf (seen source tokens) view.names view.labels view.statements
+
+  -- the program of the source
+  abbrev pub IsProgram : {F : Type 0} → (F → Number) → ProgramNode F → Type 0
+  IsProgram value_of program = HasProgram (program_view value_of program)

@@ -9,9 +9,14 @@ use Rattle.gms_grammar.specs.declared.terminal.Terminal.{Terminal}
 use Rattle.gms_ast.specs.declared.declaration.Item.{Item}
 use Rattle.gms_table.specs.declared.entry.Entry.{Entry}
 use Rattle.gms_table.specs.declared.fault.TableFault.{TableFault}
-use Rattle.gms_table.specs.Words.{words_of}
-use Rattle.gms_table.specs.TableEntries.{Part, table_of, texts_of, AreEntries, IsFirstFault}
+use Rattle.gms_table.specs.Words.{Word, words_of}
+use Rattle.gms_table.specs.WordLabels.{names_of}
+use Rattle.gms_table.specs.CellNumbers.{unsigned, signed}
+use Rattle.gms_table.specs.TableEntries.{Part, name, cell, met, table_of, texts_of, AreEntries, IsFirstFault}
+use Rattle.gms_expressions.specs.ExpressionTrees.{or_0}
+use Rattle.gms_expressions.specs.Valuations.{number_in}
 use Rattle.gms_labels.specs.declared.place.Place.{Place}
+use Rattle.gms_labels.specs.Labels.{place_of}
 use Rattle.gms_parse.specs.declared.fault.SourceError.TheVariants.{NoHeading}
 use Rattle.gms_parse.specs.declared.fault.SourceFault.{SourceFault}
 use Rattle.gms_parse.specs.Faults.{error_of_table}
@@ -27,8 +32,8 @@ labels_of_lines source lines = texts_of (parts_of_tokens source lines)
 -- The fault of a table that has lines, where these labels were entered before and its name stands here: none of the lines has a
 -- heading, or the first fault in them.
 abbrev pub IsLineFault : ℕ → List ℕ → Place → List (List ℕ) → List (Terminal × Token) → SourceFault → Type 0
-IsLineFault limit source name labels lines fault =
-    ((parts_of_tokens source lines ≡ []) × (fault ≡ record { error = NoHeading; at = name })) ⊎ ((found : TableFault) × IsFirstFault limit labels (parts_of_tokens source lines) found × (fault ≡ record { error = error_of_table found.error; at = found.at }))
+IsLineFault limit source at labels lines fault =
+    ((parts_of_tokens source lines ≡ []) × (fault ≡ record { error = NoHeading; at = at })) ⊎ ((found : TableFault) × IsFirstFault limit labels (parts_of_tokens source lines) found × (fault ≡ record { error = error_of_table found.error; at = found.at }))
 
 -- positions with one label at each
 abbrev pub positions_of : List ℕ → List (List ℕ)
@@ -43,3 +48,27 @@ item_of_entry entry =
 abbrev pub AreTableItems : ℕ → List ℕ → List (List ℕ) → List (Terminal × Token) → List (Item Number) → Type 0
 AreTableItems limit source labels lines items =
     (entries : List (Entry Number)) × AreEntries limit (λ x. x) labels (parts_of_tokens source lines) entries × (items ≡ map item_of_entry entries)
+
+-- the numbers of labels among those of the source
+abbrev pub numbers_of : List (List ℕ) → List (List ℕ) → List ℕ
+numbers_of labels texts = map (λ text. or_0 (place_of labels text)) texts
+
+-- the entry of a number in a row, under a heading
+abbrev pub entry_at : List (List ℕ) → Word → Word → Word → Entry Number
+entry_at labels row word heading =
+    record { at = word.at; row = numbers_of labels (names_of row); column = numbers_of labels (names_of heading); value = signed word.text (number_in (unsigned word.text)) }
+
+-- the same under the first of headings; it is no matter where there is none
+abbrev pub entry_under : List (List ℕ) → Word → Word → List Word → Entry Number
+entry_under labels row word [] = entry_at labels row word row
+entry_under labels row word (heading ∷ others) = entry_at labels row word heading
+
+-- the entries that the words of a table give
+abbrev pub entries_in : List (List ℕ) → List Part → List (Entry Number)
+entries_in labels [] = []
+entries_in labels (name word ∷ parts) = entries_in labels parts
+entries_in labels (cell row headings word ∷ parts) = entry_under labels row word (met headings word) ∷ entries_in labels parts
+
+-- The items that the lines of a table give, where these labels are all of the source: where the table has items, they are these.
+abbrev pub items_given : List ℕ → List (List ℕ) → List (Terminal × Token) → List (Item Number)
+items_given source labels lines = map item_of_entry (entries_in labels (parts_of_tokens source lines))

@@ -7,6 +7,7 @@ mod data;
 mod declaration;
 mod fault;
 mod formula;
+mod laws;
 mod model;
 mod reader;
 mod source;
@@ -15,4 +16,5 @@ mod statement;
 mod table;
 
 pub use fault::{SourceError, SourceFault, SourceFaultOrMemory};
+pub use laws::source_laws;
 pub use source::parse;

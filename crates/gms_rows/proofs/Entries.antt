@@ -35,7 +35,7 @@ not_zero-true x some = by (number_cmp x (whole (pos 0))) refl
 pub not_zero-zero : is_not_zero (whole (pos 0)) ≡ false
 not_zero-zero = ap (λ o. not (is_eq o)) (tied_itself number_cmp_total (whole (pos 0)))
 
-not_zero-false : (x : Number) → is_not_zero x ≡ false → x ≡ whole (pos 0)
+pub not_zero-false : (x : Number) → is_not_zero x ≡ false → x ≡ whole (pos 0)
 not_zero-false x e = by (number_cmp x (whole (pos 0))) refl e
   where
     by : (o : Ordering) → number_cmp x (whole (pos 0)) ≡ o → not (is_eq o) ≡ false → x ≡ whole (pos 0)
@@ -53,7 +53,7 @@ unless-zero = ap (λ b. if b then Some (whole (pos 0)) else None) not_zero-zero
 unless-some : (x : Number) → x ≢ whole (pos 0) → unless_zero x ≡ Some x
 unless-some x some = ap (λ b. if b then Some x else None) (not_zero-true x some)
 
-unless-unwrapped : (x : Number) → unwrap_or (unless_zero x) (whole (pos 0)) ≡ x
+pub unless-unwrapped : (x : Number) → unwrap_or (unless_zero x) (whole (pos 0)) ≡ x
 unless-unwrapped x = by (is_not_zero x) refl
   where
     by : (b : Bool) → is_not_zero x ≡ b → unwrap_or (if b then Some x else None) (whole (pos 0)) ≡ x

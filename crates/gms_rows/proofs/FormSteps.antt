@@ -39,11 +39,11 @@ outside-get : (m : finite.FinMap key_cmp Number) (q : Key) → is_among (finite.
 outside-get m q out = none_there (finite.get m q) (finite.contains_key-keys m q ∙ out)
 
 -- a key that is not among those of a form has 0
-outside-one : (a : Form) (q : Key) → is_among (finite.keys a.numbers) q ≡ false → number_of_key a q ≡ whole (pos 0)
+pub outside-one : (a : Form) (q : Key) → is_among (finite.keys a.numbers) q ≡ false → number_of_key a q ≡ whole (pos 0)
 outside-one a q out = ap (λ o. unwrap_or o (whole (pos 0))) (outside-get a.numbers q out)
 
 -- a key that is not among those of two forms has 0 in both
-outside-two : (a b : Form) (q : Key) → is_among (keys_of_two a b) q ≡ false → (number_of_key a q ≡ whole (pos 0)) × (number_of_key b q ≡ whole (pos 0))
+pub outside-two : (a b : Form) (q : Key) → is_among (keys_of_two a b) q ≡ false → (number_of_key a q ≡ whole (pos 0)) × (number_of_key b q ≡ whole (pos 0))
 outside-two a b q out =
     let both = finite.entries a.numbers ++ finite.entries b.numbers in
     let found : finite.find key_cmp q both ≡ None = sym (finite.get-from_entries key_cmp-total both q) ∙ outside-get (finite.from_entries {R = key_cmp} both) q out in

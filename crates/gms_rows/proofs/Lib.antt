@@ -3,6 +3,7 @@ pub mod Entries
 pub mod FormSteps
 pub mod Places
 pub mod ColumnKeys
+pub mod PointSums
 pub mod Placing
 pub mod Faulting
 pub mod Having

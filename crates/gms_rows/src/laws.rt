@@ -1,11 +1,17 @@
 //! What the rows of a definition are, for every state: laws on a function with an empty body.
-ghost use Rattle.std.specs.Prelude.{◌≡◌, ◌≢◌, ℕ, Bool, true, List, Some, Ok, count_by, if◌then◌else◌};
+ghost use Rattle.std.specs.Prelude.{◌≡◌, ◌≢◌, ℕ, Bool, true, ◌||◌, List, Some, Ok, count_by, if◌then◌else◌};
 ghost use Rattle.std.specs.List.{All, AllPairs};
+ghost use Rattle.gq_number.specs.Number.{Number, ◌+ℚ◌, ◌-ℚ◌, ◌*ℚ◌, ◌/ℚ◌};
+ghost use Rattle.gms_labels.specs.declared.place.Place.{Place};
 ghost use Rattle.gms_store.specs.State.{State};
 ghost use Rattle.gms_tuple.specs.TupleOrder.{same_tuple};
 ghost use Rattle.gms_tuple.specs.TupleSet.{has};
+ghost use Rattle.gms_eval.specs.Bindings.{Pairs};
 ghost use Rattle.gms_eval.specs.Domain.{elements};
+ghost use Rattle.lp_form.specs.declared.key.Key.{Key};
 ghost use Rattle.gms_rows.specs.ElementRows.{sets_of, bound_to, holds_for, tuple_at, IsRowOf, HasPlainSets};
+ghost use Rattle.gms_rows.specs.Forms.{Form, is_number, sum_of, product_of, quotient_of};
+ghost use Rattle.gms_rows.specs.Points.{form_at};
 ghost use Rattle.gms_rows.specs.Rows.{Definition, FormRow, rows_of};
 
 use gq_field::ExactField;
@@ -27,4 +33,20 @@ pub fn row_laws<F: ExactField>()
     ensures differ { (state : State) (d : Definition F) (rows : List FormRow) → HasPlainSets state d →
         rows_of F.value F.limit state d ≡ Ok rows →
         AllPairs (λ a b. a.key ≢ b.key) rows }
+{}
+
+/// What a form is at a point, which gives each element of a variable a number: the sum of two forms, or their difference, is that of what
+/// they are there, the product with a number, or the quotient, is that of the form there and the number. Chvatal, "Linear Programming",
+/// chapter 1.
+pub fn form_laws<F: ExactField>()
+    ensures sum { (point : Key → Number) (at : Place) (b : Pairs) (subtracts : Bool) (left right form : Form) →
+        sum_of F.limit at b subtracts left right ≡ Ok form →
+        form_at point form ≡ (if subtracts then form_at point left -ℚ form_at point right else form_at point left +ℚ form_at point right) }
+    ensures product { (point : Key → Number) (at : Place) (b : Pairs) (left right form : Form) →
+        (is_number left || is_number right) ≡ true →
+        product_of F.limit at b left right ≡ Ok form →
+        form_at point form ≡ form_at point left *ℚ form_at point right }
+    ensures quotient { (point : Key → Number) (at : Place) (b : Pairs) (left form : Form) (x : Number) →
+        quotient_of F.limit at b left x ≡ Ok form →
+        form_at point form ≡ form_at point left /ℚ x }
 {}

@@ -14,5 +14,5 @@ mod variables;
 
 pub use equations::equations_of;
 pub use generation::generate;
-pub use laws::row_laws;
+pub use laws::{form_laws, row_laws};
 pub use linear::affine;

@@ -1,11 +1,11 @@
 -- What work comes to, carried through a call that failed and through one that is done behind another.
-use Rattle.std.proofs.Common.{◌≡◌, List, ℕ, Result, Ok, Err, refl, arith}
+use Rattle.std.proofs.Common.{◌≡◌, List, ℕ, Result, Ok, Err, refl, subst, arith}
 use Rattle.std.specs.Prelude.{IfOk, IsErrOf}
 use Rattle.gms_host.specs.declared.host.Failed.{Failed}
 use Rattle.gms_host.specs.declared.host.Failed.TheVariants.{Fault, Memory}
 use Rattle.gms_host.specs.Meaning.{Counts, Outside}
 use Rattle.gms_host.specs.Rules.{CountsReading, CountsWriting, IsCounted, with_output}
-use Rattle.gms_host.specs.Spooling.{Passes, WritesAll, WritesFront}
+use Rattle.gms_host.specs.Spooling.{Passes, PutsThrough, WritesAll, WritesFront}
 use Rattle.gms_host.proofs.Counting.{done_with, reading_more, writing_more}
 use Rattle.gms_host.proofs.Fronts.{front_on, passes_whole}
 use Rattle.gms_run.specs.InnerSteps.{ComesTo}
@@ -34,6 +34,17 @@ comes_as (Err Memory) Done Other f b d = tt
 pub told_as : {A : Type 0} (r : Result A Failed) (Done P Q : A → Type 0) (X : Type 0) → ((x : A) → Done x → P x → Q x) → ComesTo r Done X → IfOk r P → IfOk r Q
 told_as (Ok x) Done P Q X f d p = f x d p
 told_as (Err e) Done P Q X f d p = tt
+
+-- two things that hold where work is done
+pub both_of : {A : Type 0} (r : Result A Failed) (P Q : A → Type 0) → IfOk r P → IfOk r Q → IfOk r (λ x. P x × Q x)
+both_of (Ok x) P Q p q = (p, q)
+both_of (Err e) P Q p q = tt
+
+-- what putting a text comes to
+pub comes_put : {A : Type 0} (r : Result A Failed) (old new : Outside) (put due pending : List ℕ) → put ≡ due → PutsThrough r old new put pending → ComesTo r (λ x. Passes old new due pending) (WritesFront old new due)
+comes_put (Ok x) old new put due pending same p = subst (λ (text : List ℕ). Passes old new text pending) same p
+comes_put (Err Fault) old new put due pending same p = subst (λ (text : List ℕ). WritesFront old new text) same p.0
+comes_put (Err Memory) old new put due pending same p = tt
 
 -- where writing all ends a piece of work, what it comes to
 pub comes_flushed : {A : Type 0} (r : Result A Failed) (old mid new : Outside) (due pending : List ℕ) → Passes old mid due pending → WritesAll r mid new pending → ComesTo r (λ x. new ≡ with_output old due) (WritesFront old new due)

@@ -1,45 +1,83 @@
 -- A program that the host has is run, where no fault is met.
-use Rattle.std.proofs.Common.{◌≡◌, ℕ, true, List, Option, Some, None, IfSome, is_some, refl, sym, ap, ◌∙◌, subst, ◌⊎◌, inl, inr}
+use Rattle.std.proofs.Common.{◌≡◌, ℕ, ◌≤◌, true, List, length, Option, Some, None, IfSome, is_some, refl, sym, ap, ap₂, ◌∙◌, subst, ◌⊎◌, inl, inr, arith}
 use Rattle.std.specs.FinMap as files_map
 use Rattle.std.specs.Prelude.{◌↔◌}
 use Rattle.gms_host.specs.Meaning.{Meaning, Files, Outside}
 use Rattle.gq_frac.specs.Frac.{frac_value}
 use Rattle.gms_run.specs.declared.status.Status.{Status}
 use Rattle.gms_run.specs.declared.status.Status.TheVariants.{Done, Usage, Compile, Execution, ReadFault, WriteFault}
-use Rattle.gms_words.specs.CommandLine.{Asked, Origin, in_file, generated, request_of}
+use Rattle.gms_host.specs.Rules.{IsThere}
+use Rattle.gms_save.specs.declared.fault.SaveFault.{SaveFault}
+use Rattle.gms_save.specs.declared.fault.SaveFault.TheVariants.{SaveTooLong, SaveShape, SaveSolver}
+use Rattle.gms_save.specs.Saves.{most_bytes as most_save_bytes}
+use Rattle.gms_words.specs.CommandLine.{Asked, Origin, in_file, restarted, generated, request_of}
 use Rattle.gms_run.specs.Solving.{Solving, number_limit}
-use Rattle.gms_run.specs.Statuses.{CountsSo, EndsByNoFault, HasOrigin, IsReadyFor, IsRun, IsRunOf, IsSource, IsSourceOf, MeetsNoFault, NamesProgram}
-use Rattle.gms_parse.specs.Outcomes.{IsProgram}
-use Rattle.gms_run.proofs.OneReading.{program_or_fault}
+use Rattle.gms_run.specs.Scripts.{Script, Matter, scripted, unrestored, Taken, from_start, from_save, IsMatter, IsUnrestored}
+use Rattle.gms_run.specs.Listings.{ShowsWhy}
+use Rattle.gms_run.specs.Statuses.{CanRun, CountsSo, EndsByNoFault, Gives, HasFile, HasOrigin, IsFileOf, IsGood, IsGoodSave, IsReadyFor, IsRun, IsRunOf, IsTaken, MeetsNoFault, NamesProgram}
+use Rattle.gms_parse.specs.Outcomes.{program_view}
+use Rattle.gms_parse.proofs.OneReading.{program_or_fault}
 
 -- two values of one option are one
 pub one_value : {A : Type 0} {o : Option A} {x y : A} → o ≡ Some x → o ≡ Some y → x ≡ y
 one_value p q = cc
 
--- A reliable host is ready for words that name a program.
+-- A reliable host is ready for words that name what can be run.
 ready_for : (solvers : List (List ℕ)) (old : Meaning) (words : List (List ℕ)) → NamesProgram solvers old.outside words → old.counts.reliable ≡ true → IsReadyFor old words
 ready_for solvers old words n reliable =
-    record { reliable = reliable; there = subst (λ (o : Option Asked). IfSome o (λ request. HasOrigin old.outside request.source)) (sym n.named) (found n.request.source n.found) }
+    record { reliable = reliable; there = subst (λ (o : Option Asked). IfSome o (λ request. HasOrigin old.outside request.source)) (sym n.named) (found n.request.source n.taken n.found) }
   where
-    found : (o : Origin) → IsSourceOf old.outside o n.source → HasOrigin old.outside o
-    found (in_file file) f = subst (λ (files : Option Files). IfSome files (λ fs. is_some (files_map.get fs file) ≡ true)) (sym f.1) (ap is_some f.2)
-    found (generated size) f = tt
+    has : (file bytes : List ℕ) → HasFile old.outside file bytes → IsThere old.outside file
+    has file bytes f = subst (λ (files : Option Files). IfSome files (λ fs. is_some (files_map.get fs file) ≡ true)) (sym f.1) (ap is_some f.2)
 
--- where the host tells a source it is the source
-the_source : (old : Outside) (o : Origin) (told source : List ℕ) → IsSourceOf old o told → IsSource old o source → source ≡ told
-the_source old (in_file file) told source f is =
-    let at : files_map.get f.0 file ≡ Some source = subst (λ (files : Option Files). IfSome files (λ fs. files_map.get fs file ≡ Some source)) f.1 is in
+    found : (o : Origin) (taken : Taken) → Gives old.outside o taken → HasOrigin old.outside o
+    found (in_file file) (from_start source) f = has file source f
+    found (in_file file) (from_save save source) f = absurd f
+    found (restarted saved file) (from_start source) f = absurd f
+    found (restarted saved file) (from_save save source) f = (has saved save f.0, has file source f.1)
+    found (generated size) taken f = tt
+
+-- a file that the host tells is the one that was taken
+one_file : (old : Outside) (file told bytes : List ℕ) → HasFile old file told → IsFileOf old file bytes → bytes ≡ told
+one_file old file told bytes f is =
+    let at : files_map.get f.0 file ≡ Some bytes = subst (λ (files : Option Files). IfSome files (λ fs. files_map.get fs file ≡ Some bytes)) f.1 is in
     one_value at f.2
-the_source old (generated size) told source f is = is ∙ sym f
 
--- A program without errors is not refused.
+-- what the host gives is what was taken
+the_taken : (old : Outside) (o : Origin) (told taken : Taken) → Gives old o told → IsTaken old o taken → taken ≡ told
+the_taken old (in_file file) (from_start told) (from_start source) f is = ap from_start (one_file old file told source f is)
+the_taken old (in_file file) (from_save a b) taken f is = absurd f
+the_taken old (in_file file) (from_start told) (from_save a b) f is = absurd is
+the_taken old (restarted saved file) (from_save a b) (from_save save source) f is = ap₂ from_save (one_file old saved a save f.0 is.0) (one_file old file b source f.1 is.1)
+the_taken old (restarted saved file) (from_start told) taken f is = absurd f
+the_taken old (restarted saved file) (from_save a b) (from_start source) f is = absurd is
+the_taken old (generated size) (from_start told) (from_start source) f is = ap from_start (is ∙ sym f)
+the_taken old (generated size) (from_save a b) taken f is = absurd f
+the_taken old (generated size) (from_start told) (from_save a b) f is = absurd is
+
+-- A good script is not refused.
+good_script : (solvers : List (List ℕ)) (script : Script) (text : List ℕ) → IsGood solvers script → ShowsWhy solvers (scripted script) text → ⊥
+good_script solvers script text good (inl refusal) = program_or_fault number_limit script.source (program_view frac_value good.program) refusal.fault good.is_program refusal.refused
+good_script solvers script text good (inr (inl errors)) = errors.some (good.no_error errors.program errors.is_program)
+good_script solvers script text good (inr (inr misfit)) = misfit.misfit (good.fits misfit.program misfit.is_program)
+
+-- A good save can be restored.
+good_save : (solvers : List (List ℕ)) (save : List ℕ) (fault : SaveFault) → IsGoodSave solvers save → IsUnrestored solvers save fault → ⊥
+good_save solvers save SaveTooLong good is = let few : length save ≤ most_save_bytes = good.short in omega (arith, few, is)
+good_save solvers save SaveShape good is = good.fit (is.1 good.source good.names good.state good.solver good.text)
+good_save solvers save SaveSolver good is = good.placed is.1
+
+-- What can be run is not refused.
+good_matter : (solvers : List (List ℕ)) (taken : Taken) (matter : Matter) (text : List ℕ) → CanRun solvers taken → IsMatter solvers taken matter → ShowsWhy solvers matter text → ⊥
+good_matter solvers (from_start source) (scripted script) text can is why = good_script solvers script text (subst (IsGood solvers) (sym is) can) why
+good_matter solvers (from_start source) (unrestored fault) text can is why = absurd is
+good_matter solvers (from_save save file) (scripted script) text can is why = good_script solvers script text (subst (IsGood solvers) (sym is.joint) (can.1 is.saved is.restored)) why
+good_matter solvers (from_save save file) (unrestored fault) text can is why = good_save solvers save fault can.0 is
+
 not_refused : (solving : Solving) (old new : Outside) (words : List (List ℕ)) (request : Asked) → IsRunOf Compile solving old new request → (n : NamesProgram solving.before.names old words) → n.request ≡ request → ⊥
 not_refused solving old new words request run n same =
-    let is : run.source ≡ n.source = the_source old n.request.source n.source run.source n.found (subst (λ (r : Asked). IsSource old r.source run.source) (sym same) run.is_source) in
-    elim run.ran.listing.0 [
-      | inl refusal ↦ program_or_fault number_limit run.source frac_value n.program refusal.fault (subst (λ (s : List ℕ). IsProgram number_limit s frac_value n.program) (sym is) n.is_program) refusal.refused
-      | inr errors ↦ errors.some (n.no_error errors.program (subst (λ (s : List ℕ). IsProgram number_limit s frac_value errors.program) is errors.is_program))
-    ]
+    let is : run.taken ≡ n.taken = the_taken old n.request.source n.taken run.taken n.found (subst (λ (r : Asked). IsTaken old r.source run.taken) (sym same) run.is_taken) in
+    good_matter solving.before.names run.taken run.matter run.ran.text (subst (CanRun solving.before.names) (sym is) n.can_run) run.is_matter run.ran.listing.0
 
 -- What a run did that met no fault, for words that name a program: it is done, or an execution error stopped it.
 pub completes : (status : Status) (solving : Solving) (words : List (List ℕ)) (old new : Meaning) → IsRun status solving words old new → CountsSo status old.counts new.counts → (IsReadyFor old words → EndsByNoFault status) → NamesProgram solving.before.names old.outside words → MeetsNoFault old.counts new.counts → (status ≡ Done) ⊎ (status ≡ Execution)

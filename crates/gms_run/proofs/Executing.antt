@@ -5,7 +5,6 @@ use Rattle.gq_frac.specs.declared.frac.Frac.{Frac}
 use Rattle.gq_frac.specs.Frac.{frac_value}
 use Rattle.gms_ast.specs.declared.program.Program.{Program}
 use Rattle.gms_ast.specs.declared.program.Stmt.{Stmt}
-use Rattle.gms_check.specs.Loaded.{loaded}
 use Rattle.gms_store.specs.State.{State}
 use Rattle.gms_host.specs.Meaning.{Meaning, Outside}
 use Rattle.gms_host.specs.Rules.{CountsWriting}
@@ -22,7 +21,7 @@ use Rattle.gms_list.specs.ListingText.{echo_text}
 use Rattle.gms_run.specs.declared.status.Status.{Status}
 use Rattle.gms_run.specs.declared.status.Status.TheVariants.{Done, Execution}
 use Rattle.gms_run.specs.Solving.{Solvers, Solving, number_limit}
-use Rattle.gms_run.specs.Jobs.{IsCutOff, IsSolved, Job, body_of, first_of, job_of, shown_by}
+use Rattle.gms_run.specs.Jobs.{IsCutOff, IsSolved, Job, body_of, first_of, shown_by}
 use Rattle.gms_run.specs.InnerSteps.{Between, BreaksBehind, Ends, EndsBehind, IsListed, work}
 use Rattle.gms_run.proofs.Listed.{listed_none, listed_more, one_more}
 use Rattle.gms_run.proofs.Rest.{Done_so, EndsWith, begin, comes_to_rest, ends_done, ends_stopped, shown_by_first, solving_with, statements, statement_of, taken_by_first}
@@ -203,24 +202,28 @@ pub record BreaksJob (job : Job) (solving : Solving) (old new : Outside) : Type 
   pub front : WritesFront old new (body_of job solving)
   pub cut : IsCutOff job solving (length front.1.bytes)
 
-module _ (source : List ℕ) (program : Program Frac) (old mid : Outside) (due spool rest : List ℕ) (first : Passes old mid due spool) (none : rest ≡ []) (echo : due ≡ echo_text 1 source) where
-  -- a job that is not echoed is solved as the one that is
-  echoed : (state : State) (solving : Solving) → state ≡ loaded frac_value program → IsSolved (work program state program.statements.items) solving → IsSolved (job_of source program) solving
+module _ (job : Job) (old mid : Outside) (spool rest : List ℕ) (first : Passes old mid (echo_text job.line job.file) spool) (none : rest ≡ []) where
+  -- a job that is not echoed
+  abbrev quiet_job : State → Job
+  quiet_job state = work job.program state job.statements
+
+  -- is solved as the one that is
+  echoed : (state : State) (solving : Solving) → state ≡ job.state → IsSolved (quiet_job state) solving → IsSolved job solving
   echoed state solving same s =
-      let r = subst (λ st. IsSolved (work program st program.statements.items) solving) same s in
+      let r = subst (λ st. IsSolved (quiet_job st) solving) same s in
       record { all_taken = r.all_taken; answered = r.answered; ended = r.ended; grown = r.grown }
 
   -- what is in front is the echo
-  in_front : (shown bytes lost : List ℕ) → (spool ++ rest) ++ shown ≡ bytes ++ lost → echo_text 1 source ++ shown ≡ (first.bytes ++ bytes) ++ lost
+  in_front : (shown bytes lost : List ℕ) → (spool ++ rest) ++ shown ≡ bytes ++ lost → echo_text job.line job.file ++ shown ≡ (first.bytes ++ bytes) ++ lost
   in_front shown bytes lost split =
-      ap (λ t. t ++ shown) (sym echo ∙ first.split) ∙ append_assoc first.bytes spool shown
+      ap (λ t. t ++ shown) first.split ∙ append_assoc first.bytes spool shown
       ∙ ap (λ t. first.bytes ++ (t ++ shown)) (sym (ap (λ t. spool ++ t) none ∙ append-nil spool)) ∙ ap (λ t. first.bytes ++ t) split ∙ sym (append_assoc first.bytes bytes lost)
 
   -- The statements came to their end behind the echo.
-  pub ends_echoed : (status : Status) (solving : Solving) (state last : State) (programs : List (Lp Frac)) (new : Outside) (pending : List ℕ) → state ≡ loaded frac_value program →
-      EndsBehind status (work program state program.statements.items) solving last programs mid new (spool ++ rest) pending → EndsJob status (job_of source program) solving last programs old new pending
+  pub ends_echoed : (status : Status) (solving : Solving) (state last : State) (programs : List (Lp Frac)) (new : Outside) (pending : List ℕ) → state ≡ job.state →
+      EndsBehind status (quiet_job state) solving last programs mid new (spool ++ rest) pending → EndsJob status job solving last programs old new pending
   ends_echoed status solving state last programs new pending same e =
-      let r = subst (λ st. EndsBehind status (work program st program.statements.items) solving last programs mid new (spool ++ rest) pending) same e in
+      let r = subst (λ st. EndsBehind status (quiet_job st) solving last programs mid new (spool ++ rest) pending) same e in
       record {
         ends = record { solved = echoed state solving same e.ends.solved; halts = r.ends.halts; comes = r.ends.comes; kept = r.ends.kept };
         passes = record { bytes = first.bytes ++ r.passes.bytes; written = output-both old mid new first.bytes r.passes.bytes first.written r.passes.written; split = in_front _ r.passes.bytes pending r.passes.split };
@@ -228,15 +231,15 @@ module _ (source : List ℕ) (program : Program Frac) (old mid : Outside) (due s
       }
 
   -- what is pending of a longer text
-  pends_echoed : (shown bytes : List ℕ) → length ((spool ++ rest) ++ shown) ≤ length bytes + 4096 → length (echo_text 1 source ++ shown) ≤ length (first.bytes ++ bytes) + 4096
+  pends_echoed : (shown bytes : List ℕ) → length ((spool ++ rest) ++ shown) ≤ length bytes + 4096 → length (echo_text job.line job.file ++ shown) ≤ length (first.bytes ++ bytes) + 4096
   pends_echoed shown bytes h =
-      let e : length (echo_text 1 source ++ shown) ≡ length ((first.bytes ++ []) ++ ((spool ++ rest) ++ shown)) = ap length (in_front shown [] ((spool ++ rest) ++ shown) refl) in
+      let e : length (echo_text job.line job.file ++ shown) ≡ length ((first.bytes ++ []) ++ ((spool ++ rest) ++ shown)) = ap length (in_front shown [] ((spool ++ rest) ++ shown) refl) in
       omega (arith, e, h, length-append (first.bytes ++ []) ((spool ++ rest) ++ shown), length-append first.bytes bytes, length-append first.bytes [])
 
   -- They were cut off behind the echo.
-  pub breaks_echoed : (solving : Solving) (state : State) (new : Outside) → state ≡ loaded frac_value program → BreaksBehind (work program state program.statements.items) solving mid new (spool ++ rest) → BreaksJob (job_of source program) solving old new
+  pub breaks_echoed : (solving : Solving) (state : State) (new : Outside) → state ≡ job.state → BreaksBehind (quiet_job state) solving mid new (spool ++ rest) → BreaksJob job solving old new
   breaks_echoed solving state new same b =
-      let r = subst (λ st. BreaksBehind (work program st program.statements.items) solving mid new (spool ++ rest)) same b in
+      let r = subst (λ st. BreaksBehind (quiet_job st) solving mid new (spool ++ rest)) same b in
       record {
         solved = echoed state solving same b.solved;
         front = (r.front.0, record { bytes = first.bytes ++ r.front.1.bytes; written = output-both old mid new first.bytes r.front.1.bytes first.written r.front.1.written; split = in_front _ r.front.1.bytes r.front.0 r.front.1.split });
@@ -244,13 +247,12 @@ module _ (source : List ℕ) (program : Program Frac) (old mid : Outside) (due s
       }
 
 -- The echo itself was not written whole, and nothing was executed.
-pub breaks_first : (source : List ℕ) (program : Program Frac) (before : Solvers) (answers : List (Answer Frac)) (old new : Outside) (due : List ℕ) → answers ≡ [] → due ≡ echo_text 1 source → WritesFront old new due →
-    BreaksJob (job_of source program) (record { before = before; after = before; answers = answers }) old new
-breaks_first source program before answers old new due none echo f =
-    let job = job_of source program in
+pub breaks_first : (job : Job) (before : Solvers) (answers : List (Answer Frac)) (old new : Outside) → answers ≡ [] → WritesFront old new (echo_text job.line job.file) →
+    BreaksJob job (record { before = before; after = before; answers = answers }) old new
+breaks_first job before answers old new none f =
     let r = comes_to_rest job before 0 true (begin job before) [] (done_none job before) in
     subst (λ (given : List (Answer Frac)). BreaksJob job (record { before = before; after = before; answers = given }) old new) (sym none) (record {
       solved = r.solved;
-      front = front_longer (shown_by job (solving_with job before (begin job before))) (subst (WritesFront old new) echo f);
+      front = front_longer (shown_by job (solving_with job before (begin job before))) f;
       cut = inl (refl, refl);
     })

@@ -1,11 +1,12 @@
 -- The listing of a source, put together from its parts, as it goes out.
 use Rattle.std.proofs.Common.{◌≡◌, ◌≢◌, Option, Some, None, ℕ, zero, suc, ◌+◌, ◌<◌, ◌≤◌, ◌==◌, true, false, not, List, [], ◌∷◌, ◌++◌, length, take, map, get_or, Vec, refl, sym, ap, ap₂, ◌∙◌, subst, append_assoc, add-one, ◌⊎◌, inl, inr, arith, length-append}
-use Rattle.std.specs.Prelude.{String, string_bytes, vec_len, slice_get, IfSome, Bool}
+use Rattle.std.specs.Prelude.{String, string_bytes, vec_len, slice_get, option_map, unwrap_or, IfSome, IsTrue, Bool, ◌↔◌}
 use Rattle.std.specs.declared.alloc.Global.{Global}
 use Rattle.std.proofs.Math.Seq.{take-suc}
 use Rattle.std.proofs.lemmas.Bool.{eqb-true}
 use Rattle.std.proofs.lemmas.List.{length-map, map-append, take_all}
 use Rattle.std.proofs.lemmas.List.FromFn.{length-range_with_len}
+use Rattle.std.proofs.lemmas.Option.{slice_get-map}
 use denote.Enum.Bare.{sameb}
 use Rattle.gq_number.specs.Number.{Number}
 use Rattle.gq_frac.specs.declared.frac.Frac.{Frac}
@@ -19,9 +20,7 @@ use Rattle.gms_ast.specs.declared.program.Stmt.{Stmt}
 use Rattle.gms_parse.specs.declared.fault.SourceError.{SourceError}
 use Rattle.gms_parse.specs.declared.fault.SourceError.TheVariants.{TooLong}
 use Rattle.gms_parse.specs.contracts.fault.SourceError.{the_type}
-use Rattle.gms_parse.specs.declared.fault.SourceFault.{SourceFault}
-use Rattle.gms_parse.specs.Outcomes.{IsProgram, IsFault}
-use Rattle.gms_check.specs.CompileErrors.{compile_errors}
+use Rattle.gms_parse.specs.Outcomes.{IsProgram}
 use Rattle.gms_event.specs.Events.{Event, Solved}
 use Rattle.gms_exec.specs.Run.{Halt}
 use Rattle.lp_core.specs.declared.answer.Answer.{Answer}
@@ -30,16 +29,22 @@ use Rattle.lp_core.specs.declared.program.Lp.{Lp}
 use Rattle.lp_core.specs.Numbers.{lp_numbers}
 use Rattle.gms_ranges.specs.Answered.{AreAnswered, IsAnswered}
 use Rattle.gms_ranges.specs.RangeTexts.{SaysRanges}
-use Rattle.gms_list.specs.ListingText.{echo_text, end_text, refused_echo, source_error_text, compile_errors_text}
+use Rattle.gms_list.specs.ListingText.{echo_text, end_text}
 use Rattle.gms_run.specs.declared.status.Status.{Status}
 use Rattle.gms_run.specs.declared.status.Status.TheVariants.{Done, Usage, Compile, Execution, ReadFault, WriteFault}
 use Rattle.gms_store.specs.State.{State}
-use Rattle.gms_words.specs.CommandLine.{Asked, Origin, in_file, generated, closing_line}
+use Rattle.gms_words.specs.CommandLine.{Asked, Origin, in_file, restarted, generated, closing_line}
 use Rattle.gms_run.specs.Solving.{Solving, SolvesNothing, number_limit, numbers_of, solves_in}
-use Rattle.gms_run.specs.Jobs.{HaltsSo, IsCutOff, IsSolved, Job, body_of, course_of, first_of, job_of, job_text, last_line, status_code}
-use Rattle.gms_run.specs.Listings.{AreClosing, AreRemarks, IsAccepted, IsExecuted, IsFront, IsListing, IsModelLine, TellsModel, TellsRanges, TellsRun, TellsSpans}
+use Rattle.gms_saved.specs.SavedState.{saved_text}
+use Rattle.gms_run.specs.Scripts.{Matter, Script, scripted, Fits, errors_of}
+use Rattle.gms_run.specs.Jobs.{HaltsSo, IsCutOff, IsSolved, Job, body_of, course_of, first_of, job_of, job_text, last_line, solver_name, status_code}
+use Rattle.gms_run.specs.Listings.{AreClosing, AreRemarks, IsAccepted, IsExecuted, IsFront, IsJob, IsListing, IsModelLine, SavesLast, SavesSo, ShowsErrors, ShowsWhy, TellsModel, TellsRanges, TellsRun, TellsSpans, echo_with, errors_text, refused_text, save_file, unrestored_text}
 use Rattle.gms_run.specs.Statuses.{IsUnwritten}
-use Rattle.gms_run.specs.InnerReports.{IsRanged, IsRemarked, IsTold, Lists, ListsErrors, Prepares}
+use Rattle.gms_save.specs.declared.fault.SaveFault.{SaveFault}
+use Rattle.gms_save.specs.declared.fault.SaveFault.TheVariants.{SaveShape}
+use Rattle.gms_run.specs.declared.script.Matter.{Matter as OwnMatter}
+use Rattle.gms_run.specs.declared.script.Matter.TheVariants.{Unrestored}
+use Rattle.gms_run.specs.InnerReports.{Accepts, Follows, IsRanged, IsRemarked, IsSave, IsTold, Lists, ListsErrors, Prepares, matter_in}
 use Rattle.gms_run.specs.InnerSteps.{Ends, IsAnsweredAt, KeepsPrograms}
 use Rattle.gms_run.proofs.Executing.{BreaksJob, EndsJob}
 
@@ -48,48 +53,80 @@ pub behind_nothing : (spool before text : List ℕ) → spool ++ before ≡ [] �
 behind_nothing spool before text empty = sym (append_assoc spool before text) ∙ ap (λ t. t ++ text) empty
 
 -- a body is on its way where nothing of it was written
-all_pending : (status : Status) (solving : Solving) (now : Outside) (source body pending : List ℕ) → IsListing status solving source (body ++ end_text (status_code status) (length solving.answers)) → pending ≡ body → status ≡ Compile → Prepares status solving now now source pending
-all_pending status solving now source body pending is same compile = record { body = body; listing = is; passes = subst (Passes now now body) (sym same) (passes_none now body); room = inl compile }
+all_pending : (status : Status) (solving : Solving) (now : Outside) (matter : Matter) (body pending : List ℕ) → IsListing status solving matter (body ++ end_text (status_code status) (length solving.answers)) → pending ≡ body → status ≡ Compile → Prepares status solving now now matter pending
+all_pending status solving now matter body pending is same compile = record { body = body; listing = is; passes = subst (Passes now now body) (sym same) (passes_none now body); room = inl compile }
+
+-- a test does not both hold and fail
+not_both : (b : Bool) → b ≡ true → b ≡ false → ⊥
+not_both b e f = absurd cc
 
 -- ---- refusals
 
--- a source that is not too long has an echo
-pub echo_there : (error : SourceError) (source : List ℕ) → not (sameb the_type error TooLong) ≡ true → refused_echo error source ≡ echo_text 1 source
-echo_there TooLong source h = cc
-echo_there _ source h = refl
+-- a script that is not too long has an echo
+pub echo_there : (error : SourceError) (script : Script) → not (sameb the_type error TooLong) ≡ true → echo_with error script ≡ echo_text script.line script.file
+echo_there TooLong script h = cc
+echo_there _ script h = refl
 
 -- one that is too long has none
-pub echo_nowhere : (error : SourceError) (source : List ℕ) → not (sameb the_type error TooLong) ≡ false → refused_echo error source ≡ []
-echo_nowhere TooLong source h = refl
-echo_nowhere _ source h = cc
+pub echo_nowhere : (error : SourceError) (script : Script) → not (sameb the_type error TooLong) ≡ false → echo_with error script ≡ []
+echo_nowhere TooLong script h = refl
+echo_nowhere _ script h = cc
 
 -- two texts behind another
 pub two_behind : (old echo mid line new : List ℕ) → mid ≡ old ++ echo → new ≡ mid ++ line → new ≡ old ++ (echo ++ line)
 two_behind old echo mid line new p q = q ∙ ap (λ t. t ++ line) p ∙ append_assoc old echo line
 
--- The listing of a source that is no program.
-pub prepares_refusal : (status : Status) (solving : Solving) (now : Outside) (source spool before pending listing : List ℕ) (fault : SourceFault) →
-    IsFault number_limit source fault → SolvesNothing solving → spool ++ before ≡ [] → status ≡ Compile → pending ≡ spool → listing ≡ before ++ (refused_echo fault.error source ++ source_error_text fault) →
-    Prepares status solving now now source (pending ++ listing)
-prepares_refusal status solving now source spool before pending listing fault refused none empty same kept put =
-    let body : List ℕ = refused_echo fault.error source ++ source_error_text fault in
-    let is : IsListing Compile solving source (body ++ end_text 2 (length solving.answers)) = (inl (record { fault = fault; refused = refused; listing = ap (λ n. body ++ end_text 2 n) (ap length none.0) }), none) in
-    all_pending status solving now source body _ (subst (λ s. IsListing s solving source (body ++ end_text (status_code s) (length solving.answers))) (sym same) is) (ap₂ (λ a b. a ++ b) kept put ∙ behind_nothing spool before body empty) same
+-- the listing of what is refused
+shows_refused : (solving : Solving) (matter : Matter) (listed : List ℕ) → SolvesNothing solving → ShowsWhy solving.before.names matter (refused_text listed) → IsListing Compile solving matter (listed ++ end_text (status_code Compile) (length solving.answers))
+shows_refused solving matter listed none why =
+    (subst (ShowsWhy solving.before.names matter) (sym (ap (λ (answers : List (Answer Frac)). listed ++ end_text 2 (length answers)) none.0)) why, none)
 
--- The listing of a program that has errors.
-pub prepares_errors : (solving : Solving) (now : Outside) (source spool before after : List ℕ) (program : Program Frac) → IsProgram number_limit source frac_value program → SolvesNothing solving → spool ++ before ≡ [] →
-    ListsErrors true (compile_errors frac_value program solving.before.names) source before after → Prepares Compile solving now now source (spool ++ after)
-prepares_errors solving now source spool before after program is_program none empty (some, put) =
-    let body : List ℕ = echo_text 1 source ++ compile_errors_text (compile_errors frac_value program solving.before.names) in
-    let is : IsListing Compile solving source (body ++ end_text 2 (length solving.answers)) = (inr (record { program = program; is_program = is_program; some = some; listing = ap (λ n. body ++ end_text 2 n) (ap length none.0) }), none) in
-    all_pending Compile solving now source body _ is (ap (λ t. spool ++ t) put ∙ behind_nothing spool before body empty) refl
+-- Why there is nothing to run was listed.
+pub prepares_why : (status : Status) (solving : Solving) (now : Outside) (matter : Matter) (spool before pending after listed : List ℕ) → status ≡ Compile → SolvesNothing solving → spool ++ before ≡ [] → pending ≡ spool → after ≡ before ++ listed →
+    ShowsWhy solving.before.names matter (refused_text listed) → Prepares status solving now now matter (pending ++ after)
+prepares_why status solving now matter spool before pending after listed same none empty kept put why =
+    all_pending status solving now matter listed _
+    (subst (λ s. IsListing s solving matter (listed ++ end_text (status_code s) (length solving.answers))) (sym same) (shows_refused solving matter listed none why))
+    (ap₂ (λ a b. a ++ b) kept put ∙ behind_nothing spool before listed empty) same
 
--- where the errors for these solvers are listed they are those for the same solvers
-pub errors_listed : {X : Type 0} (name_of : X → List ℕ) (some b : Bool) (program : Program Frac) (slice solvers : List X) (source before after : List ℕ) → slice ≡ solvers → some ≡ b →
-    ListsErrors some (compile_errors frac_value program (map name_of slice)) source before after → ListsErrors b (compile_errors frac_value program (map name_of solvers)) source before after
-errors_listed {X} name_of some b program slice solvers source before after same is lists =
-    subst (λ (xs : List X). ListsErrors b (compile_errors frac_value program (map name_of xs)) source before after) same
-    (subst (λ (s : Bool). ListsErrors s (compile_errors frac_value program (map name_of slice)) source before after) is lists)
+-- whether a program is accepted by these solvers, it is by the same
+pub accepts_as : {X : Type 0} (name_of : X → List ℕ) (first o : Option State) (slice solvers : List X) (script : Script) (program : Program Frac) (before after : List ℕ) → slice ≡ solvers → first ≡ o → Accepts first (map name_of slice) script program before after → Accepts o (map name_of solvers) script program before after
+accepts_as {X} name_of first o slice solvers script program before after same is accepts =
+    subst (λ (xs : List X). Accepts o (map name_of xs) script program before after) same (subst (λ (f : Option State). Accepts f (map name_of slice) script program before after) is accepts)
+
+-- Why a program is not accepted was listed.
+pub prepares_unaccepted : (solving : Solving) (now : Outside) (script : Script) (program : Program Frac) (spool before after : List ℕ) → SolvesNothing solving → spool ++ before ≡ [] → Accepts None solving.before.names script program before after → Prepares Compile solving now now (scripted script) (spool ++ after)
+prepares_unaccepted solving now script program spool before after none empty (listed, (put, why)) =
+    prepares_why Compile solving now (scripted script) spool before spool after listed refl none empty refl put (inr why)
+
+-- errors that are listed are those of the program
+pub shows_errors : (solvers : List (List ℕ)) (script : Script) (program : Program Frac) → IsProgram number_limit script.source frac_value program → errors_of script.saved script.line program solvers ≢ [] → ShowsErrors solvers script (refused_text (errors_text script (errors_of script.saved script.line program solvers)))
+shows_errors solvers script program is_program some = record { program = program; is_program = is_program; some = some; listing = refl }
+
+-- A program with errors, which are listed, is not accepted.
+pub accepts_errors : (solvers : List (List ℕ)) (script : Script) (program : Program Frac) (some : Bool) (before after : List ℕ) → IsProgram number_limit script.source frac_value program → some ≡ true → ListsErrors some (errors_of script.saved script.line program solvers) script before after →
+    Accepts None solvers script program before after
+accepts_errors solvers script program some before after is_program is lists =
+    let errors = errors_of script.saved script.line program solvers in
+    let listed : ListsErrors true errors script before after = subst (λ b. ListsErrors b errors script before after) is lists in
+    (errors_text script errors, (listed.1, inl (shows_errors solvers script program is_program listed.0)))
+
+-- A program without errors that a saved state does not fit is not accepted.
+pub accepts_misfit : (solvers : List (List ℕ)) (script : Script) (program : Program Frac) (some fit : Bool) (before mid after : List ℕ) → IsProgram number_limit script.source frac_value program → some ≡ false → ListsErrors some (errors_of script.saved script.line program solvers) script before mid →
+    IsTrue fit ↔ Fits script.saved program → fit ≡ false → after ≡ mid ++ unrestored_text SaveShape → Accepts None solvers script program before after
+accepts_misfit solvers script program some fit before mid after is_program is lists fits misfit put =
+    let errors = errors_of script.saved script.line program solvers in
+    let listed : ListsErrors false errors script before mid = subst (λ b. ListsErrors b errors script before mid) is lists in (
+      unrestored_text SaveShape,
+      (
+        put ∙ ap (λ t. t ++ unrestored_text SaveShape) listed.1,
+        inr (record { program = program; is_program = is_program; no_error = listed.0; misfit = λ does. not_both fit (fits.1 does) misfit; listing = refl }),
+      ),
+    )
+
+-- why there is nothing to run of a save that cannot be restored
+pub unrestored_why : (solvers : List (List ℕ)) (matter : OwnMatter) (fault : SaveFault) → matter ≡ Unrestored fault → ShowsWhy solvers (matter_in matter) (refused_text (unrestored_text fault))
+unrestored_why solvers matter fault is = subst (λ (m : OwnMatter). ShowsWhy solvers (matter_in m) (refused_text (unrestored_text fault))) (sym is) refl
 
 -- ---- runs
 
@@ -102,18 +139,19 @@ ends_line Compile halted n is = absurd is
 ends_line ReadFault halted n is = absurd is
 ends_line WriteFault halted n is = absurd is
 
+-- the job of an accepted script
+pub job_of_script : (solvers : List (List ℕ)) (script : Script) (program : Program Frac) → IsAccepted solvers script program → IsJob solvers (scripted script) (job_of script program)
+job_of_script solvers script program accepted = record { script = script; to_run = refl; accepted = accepted; is_job = refl }
+
 -- a job that came to its end has its listing
-listed_job : (status : Status) (solving : Solving) (source : List ℕ) (program : Program Frac) → IsAccepted solving.before.names source program → IsSolved (job_of source program) solving → HaltsSo status (course_of (job_of source program) solving).halted →
-    IsListing status solving source (body_of (job_of source program) solving ++ end_text (status_code status) (length solving.answers))
-listed_job status solving source program accepted solved halts = by status halts
+listed_job : (status : Status) (solving : Solving) (matter : Matter) (job : Job) → IsJob solving.before.names matter job → IsSolved job solving → HaltsSo status (course_of job solving).halted →
+    IsListing status solving matter (body_of job solving ++ end_text (status_code status) (length solving.answers))
+listed_job status solving matter job is_job solved halts = by status halts
   where
-    job : Job
-    job = job_of source program
+    run : (s : Status) → HaltsSo s (course_of job solving).halted → IsExecuted solving matter (body_of job solving ++ end_text (status_code s) (length solving.answers))
+    run s h = record { job = job; is_job = is_job; solved = solved; listing = ap (λ t. body_of job solving ++ t) (ends_line s (course_of job solving).halted (length solving.answers) h) }
 
-    run : (s : Status) → HaltsSo s (course_of job solving).halted → IsExecuted solving source (body_of job solving ++ end_text (status_code s) (length solving.answers))
-    run s h = record { program = program; accepted = accepted; solved = solved; listing = ap (λ t. body_of job solving ++ t) (ends_line s (course_of job solving).halted (length solving.answers) h) }
-
-    by : (s : Status) → HaltsSo s (course_of job solving).halted → IsListing s solving source (body_of job solving ++ end_text (status_code s) (length solving.answers))
+    by : (s : Status) → HaltsSo s (course_of job solving).halted → IsListing s solving matter (body_of job solving ++ end_text (status_code s) (length solving.answers))
     by Done h = (run Done h, h)
     by Execution h = (run Execution h, h)
     by Usage h = absurd h
@@ -122,33 +160,32 @@ listed_job status solving source program accepted solved halts = by status halts
     by WriteFault h = absurd h
 
 -- The listing of a job that came to its end.
-pub prepares_job : (status : Status) (solving : Solving) (old new : Outside) (source left : List ℕ) (program : Program Frac) (last : State) (programs : List (Lp Frac)) → IsProgram number_limit source frac_value program → compile_errors frac_value program solving.before.names ≡ [] →
-    EndsJob status (job_of source program) solving last programs old new left → Prepares status solving old new source left
-prepares_job status solving old new source left program last programs is_program no_error e =
+pub prepares_job : (status : Status) (solving : Solving) (old new : Outside) (matter : Matter) (left : List ℕ) (job : Job) (last : State) (programs : List (Lp Frac)) → IsJob solving.before.names matter job →
+    EndsJob status job solving last programs old new left → Prepares status solving old new matter left
+prepares_job status solving old new matter left job last programs is_job e =
     record {
-      body = body_of (job_of source program) solving;
-      listing = listed_job status solving source program (record { is_program = is_program; no_error = no_error }) e.ends.solved e.ends.halts;
+      body = body_of job solving;
+      listing = listed_job status solving matter job is_job e.ends.solved e.ends.halts;
       passes = e.passes;
       room = inr e.room;
     }
 
 -- A job that was cut off.
-pub unwritten_job : (solving : Solving) (old new : Outside) (source : List ℕ) (program : Program Frac) → IsProgram number_limit source frac_value program → compile_errors frac_value program solving.before.names ≡ [] → BreaksJob (job_of source program) solving old new → IsUnwritten solving old new source
-unwritten_job solving old new source program is_program no_error b =
-    let job = job_of source program in
+pub unwritten_job : (solving : Solving) (old new : Outside) (matter : Matter) (job : Job) → IsJob solving.before.names matter job → BreaksJob job solving old new → IsUnwritten solving old new matter
+unwritten_job solving old new matter job is_job b =
     let line : List ℕ = last_line (course_of job solving).halted (length solving.answers) in
     record {
       text = job_text job solving;
       front = (b.front.0 ++ line, record { bytes = b.front.1.bytes; written = b.front.1.written; split = ap (λ t. t ++ line) b.front.1.split ∙ append_assoc b.front.1.bytes b.front.0 line });
-      due = inr (record { program = program; accepted = record { is_program = is_program; no_error = no_error }; solved = b.solved; listing = refl }, b.cut);
+      due = inr (record { job = job; is_job = is_job; solved = b.solved; listing = refl }, b.cut);
     }
 
 -- ---- what is said in the end
 
 -- The remarks on a run that came to its end are those that it calls for.
-pub remarked : (status : Status) (solving : Solving) (request : Asked) (source text : List ℕ) (program : Program Frac) (last : State) (solved : List (Lp Frac)) → IsProgram number_limit source frac_value program → Ends status (job_of source program) solving last solved →
-    IsRemarked request program last solved solving.answers text → AreRemarks status solving request source text
-remarked status solving request source text program last solved is_program ends (ranges, line, ranged, told, split) = (
+pub remarked : (status : Status) (solving : Solving) (request : Asked) (matter : Matter) (text : List ℕ) (job : Job) (last : State) (solved : List (Lp Frac)) → IsJob solving.before.names matter job → Ends status job solving last solved →
+    IsRemarked request job.program last solved solving.answers text → AreRemarks status solving request matter text
+remarked status solving request matter text job last solved is_job ends (ranges, line, ranged, told, split) = (
   ranges,
   line,
   spans request.ranges status ends.halts ranged,
@@ -156,19 +193,16 @@ remarked status solving request source text program last solved is_program ends 
   split,
 )
   where
-    job : Job
-    job = job_of source program
-
-    of_spans : SaysRanges program.names program.labels number_limit 1 (map (lp_numbers frac_value) solved) (numbers_of solving.answers) ranges → TellsSpans solving source ranges
+    of_spans : SaysRanges job.program.names job.program.labels number_limit 1 (map (lp_numbers frac_value) solved) (numbers_of solving.answers) ranges → TellsSpans solving matter ranges
     of_spans said =
         record {
-          program = program;
-          is_program = is_program;
+          job = job;
+          is_job = is_job;
           in_order = ends.kept.in_order;
-          said = subst (λ (programs : List (Lp Number)). SaysRanges program.names program.labels number_limit 1 programs (numbers_of solving.answers) ranges) ends.kept.shown said;
+          said = subst (λ (programs : List (Lp Number)). SaysRanges job.program.names job.program.labels number_limit 1 programs (numbers_of solving.answers) ranges) ends.kept.shown said;
         }
 
-    spans : (asked : Bool) (s : Status) → HaltsSo s (course_of job solving).halted → IsRanged asked program solved solving.answers ranges → TellsRanges asked s solving source ranges
+    spans : (asked : Bool) (s : Status) → HaltsSo s (course_of job solving).halted → IsRanged asked job.program solved solving.answers ranges → TellsRanges asked s solving matter ranges
     spans false s h said = said
     spans true Done h said = of_spans said
     spans true Execution h said = of_spans said
@@ -177,12 +211,13 @@ remarked status solving request source text program last solved is_program ends 
     spans true ReadFault h said = absurd h
     spans true WriteFault h said = absurd h
 
-    of_model : (size : ℕ) → IsModelLine size program last solving.answers line → TellsModel solving size source line
+    of_model : (size : ℕ) → IsModelLine size job.program last solving.answers line → TellsModel solving size matter line
     of_model size told =
-        record { program = program; is_program = is_program; told = subst (λ (state : State). IsModelLine size program state solving.answers line) (sym ends.comes) told }
+        record { job = job; is_job = is_job; told = subst (λ (state : State). IsModelLine size job.program state solving.answers line) (sym ends.comes) told }
 
-    tells : (o : Origin) (s : Status) → HaltsSo s (course_of job solving).halted → IsTold o program last solving.answers line → TellsRun s solving o source line
+    tells : (o : Origin) (s : Status) → HaltsSo s (course_of job solving).halted → IsTold o job.program last solving.answers line → TellsRun s solving o matter line
     tells (in_file file) s h told = told
+    tells (restarted saved file) s h told = told
     tells (generated size) Done h told = of_model size told
     tells (generated size) Execution h told = of_model size told
     tells (generated size) Usage h told = absurd h
@@ -190,23 +225,44 @@ remarked status solving request source text program last solved is_program ends 
     tells (generated size) ReadFault h told = absurd h
     tells (generated size) WriteFault h told = absurd h
 
--- On a source that is refused there are none.
-pub no_remarks : (status : Status) (solving : Solving) (request : Asked) (source text : List ℕ) → status ≡ Compile → text ≡ [] → AreRemarks status solving request source text
-no_remarks status solving request source text same none =
-    subst (λ s. AreRemarks s solving request source text) (sym same) ([], [], ranges request.ranges, line request.source, none)
+-- The save of the last state of a job that came to its end.
+pub saves_job : (status : Status) (solving : Solving) (request : Asked) (matter : Matter) (bytes : List ℕ) (job : Job) (last : State) (programs : List (Lp Frac)) (solvers : List (List ℕ)) → solvers ≡ solving.before.names → IsJob solving.before.names matter job → Ends status job solving last programs →
+    IsSave status request solvers job.source job.program last bytes → SavesSo status solving request matter bytes
+saves_job status solving request matter bytes job last programs solvers names is_job ends = by (save_file status request)
   where
-    ranges : (asked : Bool) → TellsRanges asked Compile solving source []
+    by : (file : Option (List ℕ)) → IfSome file (λ f. bytes ≡ saved_text job.source job.program.names last (solver_name solvers last)) → IfSome file (λ f. SavesLast solving matter bytes)
+    by None is = tt
+    by (Some file) is =
+        record {
+          job = job;
+          is_job = is_job;
+          text = is ∙ ap₂ (λ (ns : List (List ℕ)) (state : State). saved_text job.source job.program.names state (solver_name ns state)) names (sym ends.comes);
+        }
+
+-- What is to be done behind the listing of a job that came to its end.
+pub follows_job : (status : Status) (solving : Solving) (request : Asked) (matter : Matter) (text bytes : List ℕ) (job : Job) (last : State) (programs : List (Lp Frac)) (solvers : List (List ℕ)) → IsJob solving.before.names matter job → Ends status job solving last programs →
+    IsRemarked request job.program last programs solving.answers text → IsSave status request solvers job.source job.program last bytes → solvers ≡ solving.before.names → Follows status solving request matter text bytes
+follows_job status solving request matter text bytes job last programs solvers is_job ends told saved names =
+    record { remarks = remarked status solving request matter text job last programs is_job ends told; saves = saves_job status solving request matter bytes job last programs solvers names is_job ends saved }
+
+-- On what is refused there are no remarks, and nothing is saved.
+pub nothing_follows : (status : Status) (solving : Solving) (request : Asked) (matter : Matter) (text bytes : List ℕ) → status ≡ Compile → text ≡ [] → Follows status solving request matter text bytes
+nothing_follows status solving request matter text bytes same none =
+    subst (λ s. Follows s solving request matter text bytes) (sym same) (record { remarks = ([], [], ranges request.ranges, line request.source, none); saves = tt })
+  where
+    ranges : (asked : Bool) → TellsRanges asked Compile solving matter []
     ranges true = refl
     ranges false = refl
 
-    line : (o : Origin) → TellsRun Compile solving o source []
+    line : (o : Origin) → TellsRun Compile solving o matter []
     line (in_file file) = refl
+    line (restarted saved file) = refl
     line (generated size) = refl
 
 -- The closing lines are those that the run calls for.
-pub are_closing : (status : Status) (solving : Solving) (request : Asked) (source remarks lines output : List ℕ) (solves : ℕ) → AreRemarks status solving request source remarks → output ≡ request.output → solves ≡ length solving.answers →
-    lines ≡ remarks ++ closing_line (status_code status) solves output → AreClosing status solving request source lines
-are_closing status solving request source remarks lines output solves told named many closed =
+pub are_closing : (status : Status) (solving : Solving) (request : Asked) (matter : Matter) (remarks lines output : List ℕ) (solves : ℕ) → AreRemarks status solving request matter remarks → output ≡ request.output → solves ≡ length solving.answers →
+    lines ≡ remarks ++ closing_line (status_code status) solves output → AreClosing status solving request matter lines
+are_closing status solving request matter remarks lines output solves told named many closed =
     (remarks, told, closed ∙ ap₂ (λ (n : ℕ) (name : List ℕ). remarks ++ closing_line (status_code status) n name) many named)
 
 -- ---- answers of the programs that were kept
@@ -230,9 +286,9 @@ ends_answered status job solving last programs ends = answered_by solving.before
 -- ---- the last line
 
 -- The whole listing was written.
-pub lists_ended : (status : Status) (solving : Solving) (old mid new : Outside) (source pending : List ℕ) (solves : ℕ) → solves ≡ length solving.answers → Prepares status solving old mid source pending →
-    new ≡ with_output mid (pending ++ end_text (status_code status) solves) → Lists status solving old new source
-lists_ended status solving old mid new source pending solves many p w =
+pub lists_ended : (status : Status) (solving : Solving) (old mid new : Outside) (matter : Matter) (pending : List ℕ) (solves : ℕ) → solves ≡ length solving.answers → Prepares status solving old mid matter pending →
+    new ≡ with_output mid (pending ++ end_text (status_code status) solves) → Lists status solving old new matter
+lists_ended status solving old mid new matter pending solves many p w =
     let line : ℕ → List ℕ = end_text (status_code status) in
     record { text = p.body ++ line (length solving.answers); listing = p.listing; written = subst (λ n. new ≡ with_output old (p.body ++ line n)) many (passes_whole old mid new (p.body ++ line solves) (pending ++ line solves) (passes_behind (line solves) p.passes) w) }
 
@@ -254,20 +310,20 @@ as_long a b x y line e =
     omega (arith, n, m, length-append a x, length-append b y)
 
 -- a listing is a front that is due, where all but its last line and no more than a spool has of that is written
-listed_front : (status : Status) (solving : Solving) (source body : List ℕ) (written : ℕ) → (status ≡ Compile) ⊎ (length body ≤ written + 4096) → IsListing status solving source (body ++ end_text (status_code status) (length solving.answers)) →
-    IsFront solving source (body ++ end_text (status_code status) (length solving.answers)) written
-listed_front status solving source body written room is = by status room is
+listed_front : (status : Status) (solving : Solving) (matter : Matter) (body : List ℕ) (written : ℕ) → (status ≡ Compile) ⊎ (length body ≤ written + 4096) → IsListing status solving matter (body ++ end_text (status_code status) (length solving.answers)) →
+    IsFront solving matter (body ++ end_text (status_code status) (length solving.answers)) written
+listed_front status solving matter body written room is = by status room is
   where
     text : Status → List ℕ
     text s = body ++ end_text (status_code s) (length solving.answers)
 
-    executed : (s : Status) → (run : IsExecuted solving source (text s)) → HaltsSo s (course_of (job_of source run.program) solving).halted → length body ≤ written + 4096 → IsFront solving source (text s) written
+    executed : (s : Status) → (run : IsExecuted solving matter (text s)) → HaltsSo s (course_of run.job solving).halted → length body ≤ written + 4096 → IsFront solving matter (text s) written
     executed s run h few =
-        let job = job_of source run.program in
+        let job = run.job in
         let same : length body ≡ length (body_of job solving) = as_long body (body_of job solving) _ _ (ends_line s (course_of job solving).halted (length solving.answers) h) run.listing in
         inr (run, cut_whole job solving written run.solved.all_taken (omega (arith, same, few)))
 
-    by : (s : Status) → (s ≡ Compile) ⊎ (length body ≤ written + 4096) → IsListing s solving source (text s) → IsFront solving source (text s) written
+    by : (s : Status) → (s ≡ Compile) ⊎ (length body ≤ written + 4096) → IsListing s solving matter (text s) → IsFront solving matter (text s) written
     by Compile room is = inl is
     by Done (inr few) is = executed Done is.0 is.1 few
     by Execution (inr few) is = executed Execution is.0 is.1 few
@@ -278,9 +334,9 @@ listed_front status solving source body written room is = by status room is
     by WriteFault room is = absurd is.1
 
 -- The listing was written as far as its front.
-pub front_ended : (status : Status) (solving : Solving) (old mid new : Outside) (source pending : List ℕ) (solves : ℕ) → solves ≡ length solving.answers → Prepares status solving old mid source pending →
-    WritesFront mid new (pending ++ end_text (status_code status) solves) → IsUnwritten solving old new source
-front_ended status solving old mid new source pending solves many p front =
+pub front_ended : (status : Status) (solving : Solving) (old mid new : Outside) (matter : Matter) (pending : List ℕ) (solves : ℕ) → solves ≡ length solving.answers → Prepares status solving old mid matter pending →
+    WritesFront mid new (pending ++ end_text (status_code status) solves) → IsUnwritten solving old new matter
+front_ended status solving old mid new matter pending solves many p front =
     let line : List ℕ = end_text (status_code status) (length solving.answers) in
     let f : WritesFront mid new (pending ++ line) = subst (λ n. WritesFront mid new (pending ++ end_text (status_code status) n)) many front in
     record {
@@ -293,7 +349,7 @@ front_ended status solving old mid new source pending solves many p front =
           split = ap (λ t. t ++ line) p.passes.split ∙ append_assoc p.passes.bytes pending line ∙ ap (λ t. p.passes.bytes ++ t) f.1.split ∙ sym (append_assoc p.passes.bytes f.1.bytes f.0);
         },
       );
-      due = listed_front status solving source p.body _ (elim p.room [ inl e ↦ inl e | inr few ↦ inr (pends_over p.body p.passes.bytes f.1.bytes pending p.passes.split few) ]) p.listing;
+      due = listed_front status solving matter p.body _ (elim p.room [ inl e ↦ inl e | inr few ↦ inr (pends_over p.body p.passes.bytes f.1.bytes pending p.passes.split few) ]) p.listing;
     }
   where
     pends_over : (body bytes more pending : List ℕ) → body ≡ bytes ++ pending → length pending ≤ 4096 → length body ≤ length (bytes ++ more) + 4096
@@ -325,6 +381,14 @@ filled xs e = λ none.
     let n : length xs ≡ 0 = ap length none in
     let some = positive (length xs) e in
     omega (arith, n, some)
+
+-- what is told of the element at a place
+pub told_at : {X : Type 0} (f : X → List ℕ) (xs : List X) (k : ℕ) (x : X) (other : List ℕ) → slice_get xs k ≡ Some x → f x ≡ unwrap_or (slice_get (map f xs) k) other
+told_at f xs k x other is = sym (ap (λ (o : Option (List ℕ)). unwrap_or o other) (slice_get-map f xs k ∙ ap (option_map f) is))
+
+-- and where there is none
+pub told_nowhere : {X : Type 0} (f : X → List ℕ) (xs : List X) (k : ℕ) (other : List ℕ) → slice_get xs k ≡ None → other ≡ unwrap_or (slice_get (map f xs) k) other
+told_nowhere f xs k other is = sym (ap (λ (o : Option (List ℕ)). unwrap_or o other) (slice_get-map f xs k ∙ ap (option_map f) is))
 
 -- the names of one solver more
 pub named_more : {X : Type 0} (f : X → List ℕ) (xs : List X) (i : ℕ) (x : X) (names after : List (String Global)) (text : String Global) → i < length xs → x ≡ get_or xs i x →

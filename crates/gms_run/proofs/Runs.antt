@@ -1,180 +1,348 @@
 -- What a run did, put together from its steps.
-use Rattle.std.proofs.Common.{◌≡◌, refl, ℕ, ◌+◌, ◌<◌, ◌≤◌, Bool, true, false, List, [], length, take, Option, Some, Result, Ok, Err, Vec, IfOk, OnOk, sym, ap, ◌∙◌, subst, ◌⊎◌, inl, inr, arith, length-take, append-nil}
-use Rattle.std.specs.Prelude.{IfSome, IsErrOf}
+use Rattle.std.proofs.Common.{◌≡◌, refl, ℕ, ◌+◌, ◌<◌, ◌≤◌, Bool, true, false, List, [], ◌∷◌, ◌++◌, length, take, Option, Some, None, Result, Ok, Err, Vec, IfOk, OnOk, sym, ap, ◌∙◌, subst, ◌⊎◌, inl, inr, arith, length-append, length-take, append-nil}
+use Rattle.std.specs.Prelude.{IfSome, IsErrOf, IsSome}
+use Rattle.std.specs.FinMap as files_map
 use Rattle.std.specs.declared.alloc.AllocError.{AllocError}
 use Rattle.std.specs.declared.alloc.Global.{Global}
 use Rattle.std.proofs.lemmas.List.{take_all}
 use Rattle.std.proofs.lemmas.Bool.{cases_lt}
 use Rattle.gms_host.specs.declared.host.Failed.{Failed}
 use Rattle.gms_host.specs.declared.host.Failed.TheVariants.{Fault, Memory}
-use Rattle.gms_host.specs.Meaning.{Counts, Meaning, Outside, Rose}
+use Rattle.gms_host.specs.Meaning.{Counts, Files, Meaning, Outside, Rose}
 use Rattle.gms_host.specs.Rules.{ClosesOutput, CountsReading, CountsWriting, IsThere, OpensOutput, with_kept, with_opened, with_output, with_said}
 use Rattle.gms_host.specs.Spooling.{SaysFront}
 use Rattle.gms_host.proofs.Counting.{all_done, done_with}
 use Rattle.gms_lex.specs.Tokens.{most_bytes}
 use Rattle.gms_parse.specs.Outcomes.{IsFault}
-use Rattle.gms_list.specs.ListingText.{refused_listing}
+use Rattle.gms_save.specs.declared.saved.Saved.{Saved}
+use Rattle.gms_save.specs.declared.fault.SaveFault.{SaveFault}
+use Rattle.gms_save.specs.declared.fault.SaveFault.TheVariants.{SaveTooLong, SaveShape, SaveSolver}
+use Rattle.gms_save.specs.Saves.{most_bytes as most_save_bytes, IsRestored}
 use Rattle.gms_run.specs.declared.status.Status.{Status}
 use Rattle.gms_run.specs.declared.status.Status.TheVariants.{Done, Usage, Compile, Execution, ReadFault, WriteFault}
 use Rattle.gms_gen.specs.Generator.{model_text}
-use Rattle.gms_words.specs.CommandLine.{Asked, Origin, in_file, generated, read_fault_line, request_of}
+use Rattle.gms_words.specs.CommandLine.{Asked, Origin, in_file, restarted, generated, read_fault_line, request_of}
+use Rattle.gms_store.specs.State.{State}
 use Rattle.gms_run.specs.Solving.{Solving, SolvesNothing, number_limit}
-use Rattle.gms_run.specs.Listings.{AreClosing, IsExecuted, IsFront, IsListing, IsRefused, ShowsErrors, ShowsRefusal, TellsRanges, TellsRun, TellsSpans}
-use Rattle.gms_run.specs.Statuses.{CountsSo, EndsByNoFault, HasOrigin, IsReadyFor, IsReported, IsRun, IsSource, IsUnread, IsUnwritten, IsWriteFault, OfRequest, RanSo, SaysLine, with_listing, with_source}
-use Rattle.gms_run.specs.InnerReports.{CountsMention, CountsRun, EndsAs, Lists, ReadsFile}
+use Rattle.gms_run.specs.Scripts.{Script, Matter, scripted, unrestored, Taken, from_start, from_save, script_of, joint_script, joint_source, IsMatter, IsUnrestored}
+use Rattle.gms_run.specs.Jobs.{Job}
+use Rattle.gms_run.specs.Listings.{AreClosing, IsExecuted, IsFront, IsJob, IsListing, IsRefused, SavesLast, SavesSo, ShowsRefusal, ShowsWhy, TellsRanges, TellsRun, refusal_text, refused_text, save_file}
+use Rattle.gms_run.specs.Statuses.{CountsSo, EndsByNoFault, HasOrigin, IsFileOf, IsReadFault, IsReadyFor, IsReported, IsRun, IsTaken, IsUnread, IsUnreadOf, IsUnwritten, IsUnwrittenFile, IsWriteFault, OfRequest, RanSo, SaysLine, with_file, with_listing, with_read, with_save, with_saved, with_source, with_taken}
+use Rattle.gms_run.specs.InnerReports.{CountsMention, CountsRun, EndsAs, IsUnreadFile, Lists, LosesSave, RanBehind, RanOf, ReadsFile, WritesSave}
 use Rattle.gms_run.specs.InnerSteps.{ComesTo}
 use Rattle.gms_run.proofs.Comings.{failed_with}
 
 -- ---- sources that are too long
 
--- The listing of the refusal of a source that is too long is that of another that is too long.
-long_refusal : (a b text : List ℕ) → most_bytes < length a → most_bytes < length b → ShowsRefusal a text → ShowsRefusal b text
+-- The listing of the refusal of a script that is too long is that of another that is too long.
+long_refusal : (a b : Script) (text : List ℕ) → most_bytes < length a.source → most_bytes < length b.source → ShowsRefusal a text → ShowsRefusal b text
 long_refusal a b text long more r = by_fault r.refused
   where
-    by_fault : IsFault number_limit a r.fault → ShowsRefusal b text
+    by_fault : IsFault number_limit a.source r.fault → ShowsRefusal b text
     by_fault (inl too) =
-        record { fault = r.fault; refused = inl (more, too.1); listing = r.listing ∙ ap (refused_listing a) too.1 ∙ sym (ap (refused_listing b) too.1) }
-    by_fault (inr (inl lexical)) = let few : length a ≤ most_bytes = lexical.short in absurd (omega (arith, long, few))
-    by_fault (inr (inr syntactic)) = let few : length a ≤ most_bytes = syntactic.short in absurd (omega (arith, long, few))
+        record { fault = r.fault; refused = inl (more, too.1); listing = r.listing ∙ ap (λ fault. refused_text (refusal_text a fault)) too.1 ∙ sym (ap (λ fault. refused_text (refusal_text b fault)) too.1) }
+    by_fault (inr (inl lexical)) = let few : length a.source ≤ most_bytes = lexical.short in absurd (omega (arith, long, few))
+    by_fault (inr (inr syntactic)) = let few : length a.source ≤ most_bytes = syntactic.short in absurd (omega (arith, long, few))
 
--- a source that is too long is not executed
-no_run : (solving : Solving) (bytes text : List ℕ) → most_bytes < length bytes → IsExecuted solving bytes text → ⊥
-no_run solving bytes text long run = let few : length bytes ≤ most_bytes = run.accepted.is_program.short in omega (arith, few, long)
-
--- nor does it have the errors of a program
-no_errors : (solvers : List (List ℕ)) (bytes text : List ℕ) → most_bytes < length bytes → ShowsErrors solvers bytes text → ⊥
-no_errors solvers bytes text long errors = let few : length bytes ≤ most_bytes = errors.is_program.short in omega (arith, few, long)
-
--- what is refused of a source that is too long is refused of another
-long_refused : (solving : Solving) (a b text : List ℕ) → most_bytes < length a → most_bytes < length b → IsRefused solving a text → IsRefused solving b text
-long_refused solving a b text long more (inl refusal, none) = (inl (long_refusal a b text long more refusal), none)
-long_refused solving a b text long more (inr errors, none) = absurd (no_errors solving.before.names a text long errors)
-
--- what is listed of a source that is too long is listed of another
-long_listing : (status : Status) (solving : Solving) (a b text : List ℕ) → most_bytes < length a → most_bytes < length b → IsListing status solving a text → IsListing status solving b text
-long_listing Compile solving a b text long more is = long_refused solving a b text long more is
-long_listing Done solving a b text long more is = absurd (no_run solving a text long is.0)
-long_listing Execution solving a b text long more is = absurd (no_run solving a text long is.0)
-long_listing Usage solving a b text long more is = absurd is.1
-long_listing ReadFault solving a b text long more is = absurd is.1
-long_listing WriteFault solving a b text long more is = absurd is.1
-
-module _ (bytes : List ℕ) where
-  -- the first bytes of a source, one more than it may have
-  abbrev pub first_bytes : List ℕ
-  first_bytes = take (most_bytes + 1) bytes
-
-  -- What holds of the first bytes holds of the whole, where it does for two sources that are too long.
-  of_whole : (P : List ℕ → Type 0) → (most_bytes < length first_bytes → most_bytes < length bytes → P first_bytes → P bytes) → P first_bytes → P bytes
-  of_whole P long is =
-      elim (cases_lt (most_bytes + 1) (length bytes)) [
-        | inl h ↦ long (omega (arith, h, length-take (most_bytes + 1) bytes)) (omega (arith, h)) is
-        | inr h ↦ subst P (take_all (most_bytes + 1) bytes h) is
-      ]
-
-  -- What is listed of the first bytes is listed of the source.
-  pub listed_whole : (status : Status) (solving : Solving) (text : List ℕ) → IsListing status solving first_bytes text → IsListing status solving bytes text
-  listed_whole status solving text = of_whole (λ b. IsListing status solving b text) (λ long more is. long_listing status solving first_bytes bytes text long more is)
-
-  -- the same of the front of a text that is due
-  front_whole : (solving : Solving) (text : List ℕ) (written : ℕ) → IsFront solving first_bytes text written → IsFront solving bytes text written
-  front_whole solving text written = of_whole (λ b. IsFront solving b text written) (λ long more is. elim is [ inl refused ↦ inl (long_refused solving first_bytes bytes text long more refused) | inr run ↦ absurd (no_run solving first_bytes text long run.0) ])
-
--- ---- what is said in the end
-
--- no ranges are said of a source that is too long
-no_spans : (solving : Solving) (bytes text : List ℕ) → most_bytes < length bytes → TellsSpans solving bytes text → ⊥
-no_spans solving bytes text long spans = let few : length bytes ≤ most_bytes = spans.is_program.short in omega (arith, few, long)
-
-long_ranges : (asked : Bool) (status : Status) (solving : Solving) (a b text : List ℕ) → most_bytes < length a → TellsRanges asked status solving a text → TellsRanges asked status solving b text
-long_ranges false status solving a b text long said = said
-long_ranges true Done solving a b text long said = absurd (no_spans solving a text long said)
-long_ranges true Execution solving a b text long said = absurd (no_spans solving a text long said)
-long_ranges true Compile solving a b text long said = said
-long_ranges true Usage solving a b text long said = said
-long_ranges true ReadFault solving a b text long said = said
-long_ranges true WriteFault solving a b text long said = said
-
--- What is said at the end of the first bytes of a file is said of the file.
-closing_of_file : (status : Status) (solving : Solving) (request : Asked) (file whole lines : List ℕ) → request.source ≡ in_file file → AreClosing status solving request (first_bytes whole) lines → AreClosing status solving request whole lines
-closing_of_file status solving request file whole lines e (remarks, (ranges, line, ranged, told, split), closed) =
-    (remarks, (ranges, line, of_whole whole (λ (b : List ℕ). TellsRanges request.ranges status solving b ranges) (λ long more is. long_ranges request.ranges status solving (first_bytes whole) whole ranges long is) ranged, tells request.source e told, split), closed)
+-- a script that is too long has no job
+no_job : (solvers : List (List ℕ)) (script : Script) (job : Job) → most_bytes < length script.source → IsJob solvers (scripted script) job → ⊥
+no_job solvers script job long is =
+    let same : is.script ≡ script = one_script (sym is.to_run) in
+    let few : length is.script.source ≤ most_bytes = is.accepted.is_program.short in
+    let size : length is.script.source ≡ length script.source = ap (λ (s : Script). length s.source) same in
+    omega (arith, few, size, long)
   where
-    tells : (o : Origin) → o ≡ in_file file → TellsRun status solving o (first_bytes whole) line → TellsRun status solving o whole line
-    tells (in_file f) e t = t
-    tells (generated size) e t = let z : ⊥ = cc in absurd z
+    one_script : {x y : Script} → scripted x ≡ scripted y → x ≡ y
+    one_script e = cc
 
--- ---- reports
+-- what is listed of why a script that is too long is not run is listed of another
+long_why : (solvers : List (List ℕ)) (a b : Script) (text : List ℕ) → most_bytes < length a.source → most_bytes < length b.source → ShowsWhy solvers (scripted a) text → ShowsWhy solvers (scripted b) text
+long_why solvers a b text long more (inl refusal) = inl (long_refusal a b text long more refusal)
+long_why solvers a b text long more (inr (inl errors)) = let few : length a.source ≤ most_bytes = errors.is_program.short in absurd (omega (arith, few, long))
+long_why solvers a b text long more (inr (inr misfit)) = let few : length a.source ≤ most_bytes = misfit.is_program.short in absurd (omega (arith, few, long))
 
-module _ (solving : Solving) (old new : Outside) (request : Asked) (file whole : List ℕ) (in_it : request.source ≡ in_file file) where
-  -- what was reported of the first bytes of a file was reported of the file
-  reported_whole : (status : Status) → IsReported status solving old new request (first_bytes whole) → IsReported status solving old new request whole
-  reported_whole status r =
-      record { text = r.text; listing = listed_whole whole status solving r.text r.listing; lines = r.lines; closing = closing_of_file status solving request file whole r.lines in_it r.closing; outside = r.outside }
+module _ (solving : Solving) (a b : Script) (long : most_bytes < length a.source) (more : most_bytes < length b.source) where
+  -- of two scripts that are too long the same is refused
+  long_refused : (text : List ℕ) → IsRefused solving (scripted a) text → IsRefused solving (scripted b) text
+  long_refused text (why, none) = (long_why solving.before.names a b text long more why, none)
 
-  -- so was what could not be written
-  unwritten_whole : IsWriteFault solving old new request (first_bytes whole) → IsWriteFault solving old new request whole
-  unwritten_whole (inl u) = inl u
-  unwritten_whole (inr (inl u)) = inr (inl (record { text = u.text; front = u.front; due = front_whole whole solving u.text (length u.front.1.bytes) u.due }))
-  unwritten_whole (inr (inr (inl u))) = inr (inr (inl (record { status = u.status; text = u.text; listing = listed_whole whole u.status solving u.text u.listing; outside = u.outside })))
-  unwritten_whole (inr (inr (inr u))) = inr (inr (inr (record { status = u.status; text = u.text; listing = listed_whole whole u.status solving u.text u.listing; lines = u.lines; closing = closing_of_file u.status solving request file whole u.lines in_it u.closing; front = u.front })))
+  -- neither is executed
+  no_run : (text : List ℕ) → IsExecuted solving (scripted a) text → ⊥
+  no_run text run = no_job solving.before.names a run.job long run.is_job
 
-  -- and all that a run did
-  pub ran_whole : (status : Status) → RanSo status solving old new request (first_bytes whole) → RanSo status solving old new request whole
-  ran_whole Done r = reported_whole Done r
-  ran_whole Compile r = reported_whole Compile r
-  ran_whole Execution r = reported_whole Execution r
-  ran_whole WriteFault r = unwritten_whole r
-  ran_whole Usage r = absurd r
-  ran_whole ReadFault r = absurd r
+  -- the same is listed
+  long_listing : (status : Status) (text : List ℕ) → IsListing status solving (scripted a) text → IsListing status solving (scripted b) text
+  long_listing Compile text is = long_refused text is
+  long_listing Done text is = absurd (no_run text is.0)
+  long_listing Execution text is = absurd (no_run text is.0)
+  long_listing Usage text is = absurd is.1
+  long_listing ReadFault text is = absurd is.1
+  long_listing WriteFault text is = absurd is.1
 
--- What a run of a source that was taken did is what it did for a request.
-pub of_request : (status : Status) (solving : Solving) (old new : Meaning) (request : Asked) (source : List ℕ) → IsSource old.outside request.source source → RanSo status solving (with_source old.outside request.source source) new.outside request source → OfRequest status solving old new request
-of_request Done solving old new request source is r = record { source = source; is_source = is; ran = r }
-of_request Compile solving old new request source is r = record { source = source; is_source = is; ran = r }
-of_request Execution solving old new request source is r = record { source = source; is_source = is; ran = r }
-of_request WriteFault solving old new request source is r = record { source = source; is_source = is; ran = r }
-of_request Usage solving old new request source is r = absurd r
-of_request ReadFault solving old new request source is r = absurd r
+  -- and the same is due
+  long_front : (text : List ℕ) (written : ℕ) → IsFront solving (scripted a) text written → IsFront solving (scripted b) text written
+  long_front text written (inl refused) = inl (long_refused text refused)
+  long_front text written (inr run) = absurd (no_run text run.0)
+
+  long_ranges : (asked : Bool) (status : Status) (text : List ℕ) → TellsRanges asked status solving (scripted a) text → TellsRanges asked status solving (scripted b) text
+  long_ranges false status text said = said
+  long_ranges true Done text said = absurd (no_job solving.before.names a said.job long said.is_job)
+  long_ranges true Execution text said = absurd (no_job solving.before.names a said.job long said.is_job)
+  long_ranges true Compile text said = said
+  long_ranges true Usage text said = said
+  long_ranges true ReadFault text said = said
+  long_ranges true WriteFault text said = said
+
+  long_told : (o : Origin) (status : Status) (line : List ℕ) → TellsRun status solving o (scripted a) line → TellsRun status solving o (scripted b) line
+  long_told (in_file file) status line told = told
+  long_told (restarted saved file) status line told = told
+  long_told (generated size) Done line told = absurd (no_job solving.before.names a told.job long told.is_job)
+  long_told (generated size) Execution line told = absurd (no_job solving.before.names a told.job long told.is_job)
+  long_told (generated size) Compile line told = told
+  long_told (generated size) Usage line told = told
+  long_told (generated size) ReadFault line told = told
+  long_told (generated size) WriteFault line told = told
+
+  -- the same is said in the end
+  long_closing : (status : Status) (request : Asked) (lines : List ℕ) → AreClosing status solving request (scripted a) lines → AreClosing status solving request (scripted b) lines
+  long_closing status request lines (remarks, (ranges, line, ranged, told, split), closed) =
+      (remarks, (ranges, line, long_ranges request.ranges status ranges ranged, long_told request.source status line told, split), closed)
+
+  -- and nothing is saved
+  long_saves : (status : Status) (request : Asked) (save : List ℕ) → SavesSo status solving request (scripted a) save → SavesSo status solving request (scripted b) save
+  long_saves status request save = by (save_file status request)
+    where
+      by : (file : Option (List ℕ)) → IfSome file (λ f. SavesLast solving (scripted a) save) → IfSome file (λ f. SavesLast solving (scripted b) save)
+      by None is = tt
+      by (Some file) is = absurd (no_job solving.before.names a is.job long is.is_job)
+
+  long_reported : (status : Status) (old new : Outside) (request : Asked) → IsReported status solving old new request (scripted a) → IsReported status solving old new request (scripted b)
+  long_reported status old new request r =
+      record { text = r.text; listing = long_listing status r.text r.listing; save = r.save; saves = long_saves status request r.save r.saves; lines = r.lines; closing = long_closing status request r.lines r.closing; outside = r.outside }
+
+  -- what could not be written is the same
+  long_unwritten : (old new : Outside) (request : Asked) → IsWriteFault solving old new request (scripted a) → IsWriteFault solving old new request (scripted b)
+  long_unwritten old new request (inl u) = inl u
+  long_unwritten old new request (inr (inl u)) = inr (inl (record { text = u.text; front = u.front; due = long_front u.text (length u.front.1.bytes) u.due }))
+  long_unwritten old new request (inr (inr (inl u))) = inr (inr (inl (record { status = u.status; text = u.text; listing = long_listing u.status u.text u.listing; outside = u.outside })))
+  long_unwritten old new request (inr (inr (inr (inl u)))) = absurd (no_job solving.before.names a u.saves.job long u.saves.is_job)
+  long_unwritten old new request (inr (inr (inr (inr u)))) =
+      inr (inr (inr (inr (record { status = u.status; text = u.text; listing = long_listing u.status u.text u.listing; save = u.save; saves = long_saves u.status request u.save u.saves; lines = u.lines; closing = long_closing u.status request u.lines u.closing; front = u.front }))))
+
+  -- What a run did of a script that is too long it did of another.
+  pub long_ran : (status : Status) (old new : Outside) (request : Asked) → RanSo status solving old new request (scripted a) → RanSo status solving old new request (scripted b)
+  long_ran Done old new request r = long_reported Done old new request r
+  long_ran Compile old new request r = long_reported Compile old new request r
+  long_ran Execution old new request r = long_reported Execution old new request r
+  long_ran WriteFault old new request r = long_unwritten old new request r
+  long_ran Usage old new request r = absurd r
+  long_ran ReadFault old new request r = absurd r
+
+-- What holds of the first of some bytes, one more than there may be, holds of all, where it does for two that are too many.
+of_whole : (most : ℕ) (bytes : List ℕ) (P : List ℕ → Type 0) → (most < length (take (most + 1) bytes) → most < length bytes → P (take (most + 1) bytes) → P bytes) → P (take (most + 1) bytes) → P bytes
+of_whole most bytes P long is =
+    elim (cases_lt (most + 1) (length bytes)) [
+      | inl h ↦ long (omega (arith, h, length-take (most + 1) bytes)) (omega (arith, h)) is
+      | inr h ↦ subst P (take_all (most + 1) bytes h) is
+    ]
+
+module _ (status : Status) (solving : Solving) (old new : Outside) (request : Asked) where
+  -- what a run did of the first bytes of a file it did of the file
+  pub ran_whole : (whole : List ℕ) → RanSo status solving old new request (scripted (script_of (take (most_bytes + 1) whole))) → RanSo status solving old new request (scripted (script_of whole))
+  ran_whole whole =
+      of_whole most_bytes whole (λ b. RanSo status solving old new request (scripted (script_of b)))
+      (λ long more r. long_ran solving (script_of (take (most_bytes + 1) whole)) (script_of whole) long more status old new request r)
+
+  -- the same of a file that goes on from a saved state
+  joint_whole : (saved : List ℕ) (state : State) (whole : List ℕ) → RanSo status solving old new request (scripted (joint_script saved state (take (most_bytes + 1) whole))) → RanSo status solving old new request (scripted (joint_script saved state whole))
+  joint_whole saved state whole =
+      of_whole most_bytes whole (λ b. RanSo status solving old new request (scripted (joint_script saved state b)))
+      (λ long more r. long_ran solving (joint_script saved state (take (most_bytes + 1) whole)) (joint_script saved state whole) (too_long saved (take (most_bytes + 1) whole) long) (too_long saved whole more) status old new request r)
+    where
+      longer : (a b : List ℕ) → length b ≤ length (a ++ b)
+      longer a b = omega (arith, length-append a b)
+
+      too_long : (a b : List ℕ) → most_bytes < length b → most_bytes < length (joint_source a b)
+      too_long a b h =
+          let seam : length b ≤ length (10 ∷ 59 ∷ 10 ∷ b) = longer (10 ∷ 59 ∷ 10 ∷ []) b in
+          let joint : length (10 ∷ 59 ∷ 10 ∷ b) ≤ length (joint_source a b) = longer a (10 ∷ 59 ∷ 10 ∷ b) in
+          omega (arith, h, seam, joint)
+
+  -- what was run of a save and the first bytes of a file is what was run of the save and the file
+  pub file_whole : (save whole : List ℕ) → RanOf status solving old new request (from_save save (take (most_bytes + 1) whole)) → RanOf status solving old new request (from_save save whole)
+  file_whole save whole r = by r.matter r.is_matter r.ran
+    where
+      by : (m : Matter) → IsMatter solving.before.names (from_save save (take (most_bytes + 1) whole)) m → RanSo status solving old new request m → RanOf status solving old new request (from_save save whole)
+      by (unrestored fault) is ran = record { matter = unrestored fault; is_matter = is; ran = ran }
+      by (scripted script) is ran =
+          record {
+            matter = scripted (joint_script is.saved.source.items is.saved.store whole);
+            is_matter = record { saved = is.saved; short = is.short; restored = is.restored; joint = refl };
+            ran = joint_whole is.saved.source.items is.saved.store whole (subst (λ (s : Script). RanSo status solving old new request (scripted s)) is.joint ran);
+          }
+
+  -- what was run of the first bytes of a save was run of the save
+  pub save_whole : (whole file : List ℕ) → RanOf status solving old new request (from_save (take (most_save_bytes + 1) whole) file) → RanOf status solving old new request (from_save whole file)
+  save_whole whole file = of_whole most_save_bytes whole (λ b. RanOf status solving old new request (from_save b file)) (λ long more r. by long more r.matter r.is_matter r.ran)
+    where
+      same_fault : (fault : SaveFault) → most_save_bytes < length (take (most_save_bytes + 1) whole) → most_save_bytes < length whole → IsUnrestored solving.before.names (take (most_save_bytes + 1) whole) fault → IsUnrestored solving.before.names whole fault
+      same_fault SaveTooLong long more is = more
+      same_fault SaveShape long more is = let few : length (take (most_save_bytes + 1) whole) ≤ most_save_bytes = is.0 in absurd (omega (arith, few, long))
+      same_fault SaveSolver long more is = let few : length (take (most_save_bytes + 1) whole) ≤ most_save_bytes = is.0 in absurd (omega (arith, few, long))
+
+      by : most_save_bytes < length (take (most_save_bytes + 1) whole) → most_save_bytes < length whole → (m : Matter) → IsMatter solving.before.names (from_save (take (most_save_bytes + 1) whole) file) m → RanSo status solving old new request m → RanOf status solving old new request (from_save whole file)
+      by long more (scripted script) is ran = let few : length (take (most_save_bytes + 1) whole) ≤ most_save_bytes = is.short in absurd (omega (arith, few, long))
+      by long more (unrestored fault) is ran = record { matter = unrestored fault; is_matter = same_fault fault long more is; ran = ran }
+
+-- a line that was said after a file was read, or not
+says_later : {A : Type 0} {r : Result A Failed} (old mid new : Meaning) (before : Outside) (line : List ℕ) (there : Type 0) → CountsReading r there old.counts mid.counts → SaysLine mid new before line → SaysLine old new before line
+says_later old mid new before line there counts said =
+    let faults : mid.counts.write_faults ≡ old.counts.write_faults = ap (λ (c : Counts). c.write_faults) counts.rest in
+    record { front = said.front; whole = elim said.whole [ inl all ↦ inl all | inr rose ↦ inr (subst (λ n. Rose n new.counts.write_faults) faults rose) ] }
+
+says_from : {A : Type 0} {r : Result A Failed} (old mid new : Meaning) (line : List ℕ) (there : Type 0) → CountsReading r there old.counts mid.counts → SaysLine mid new mid.outside line → SaysLine old new mid.outside line
+says_from old mid new line there counts said = says_later old mid new mid.outside line there counts said
+
+-- ---- what is asked for
+
+-- What a run of what was taken did is what it did for a request.
+pub of_request : (status : Status) (solving : Solving) (old new : Meaning) (request : Asked) (taken : Taken) → IsTaken old.outside request.source taken → RanOf status solving (with_taken old.outside request.source taken) new.outside request taken → OfRequest status solving old new request
+of_request Done solving old new request taken is r = record { taken = taken; is_taken = is; matter = r.matter; is_matter = r.is_matter; ran = r.ran }
+of_request Compile solving old new request taken is r = record { taken = taken; is_taken = is; matter = r.matter; is_matter = r.is_matter; ran = r.ran }
+of_request Execution solving old new request taken is r = record { taken = taken; is_taken = is; matter = r.matter; is_matter = r.is_matter; ran = r.ran }
+of_request WriteFault solving old new request taken is r = record { taken = taken; is_taken = is; matter = r.matter; is_matter = r.is_matter; ran = r.ran }
+of_request Usage solving old new request taken is r = absurd r.ran
+of_request ReadFault solving old new request taken is r = absurd r.ran
 
 -- The same of a result, for a file whose first bytes were taken.
-pub of_file : (r : Result Status AllocError) (solving : Solving) (old mid new : Meaning) (request : Asked) (file : List ℕ) (source : Vec ℕ Global) (bytes : List ℕ) → request.source ≡ in_file file → bytes ≡ source.items → ReadsFile (done_with source) old.outside mid.outside file →
-    IfOk r (λ status. RanSo status solving mid.outside new.outside request bytes) → IfOk r (λ status. OfRequest status solving old new request)
+pub of_file : (r : Result Status AllocError) (solving : Solving) (old mid new : Meaning) (request : Asked) (file : List ℕ) (source : Vec ℕ Global) (bytes : List ℕ) → request.source ≡ in_file file → bytes ≡ source.items → ReadsFile (most_bytes + 1) (done_with source) old.outside mid.outside file →
+    IfOk r (λ status. RanSo status solving mid.outside new.outside request (scripted (script_of bytes))) → IfOk r (λ status. OfRequest status solving old new request)
 of_file (Ok status) solving old mid new request file source bytes in_it same read ran =
     let whole = read.0 in
-    let is : IsSource old.outside request.source whole = subst (λ (o : Origin). IsSource old.outside o whole) (sym in_it) read.1.0 in
+    let is : IsTaken old.outside request.source (from_start whole) = subst (λ (o : Origin). IsTaken old.outside o (from_start whole)) (sym in_it) read.1.0 in
     let taken : bytes ≡ take (most_bytes + 1) whole = same ∙ read.1.1.0 in
-    let place : mid.outside ≡ with_source old.outside request.source whole = read.1.1.1 ∙ ap (λ (o : Origin). with_source old.outside o whole) (sym in_it) in
-    of_request status solving old new request whole is
-    (ran_whole solving (with_source old.outside request.source whole) new.outside request file whole in_it status
-    (subst (λ (o : Outside). RanSo status solving o new.outside request (take (most_bytes + 1) whole)) place (subst (λ (b : List ℕ). RanSo status solving mid.outside new.outside request b) taken ran)))
+    let place : mid.outside ≡ with_taken old.outside request.source (from_start whole) = read.1.1.1 ∙ ap (λ (o : Origin). with_taken old.outside o (from_start whole)) (sym in_it) in
+    let ran_so : RanSo status solving (with_taken old.outside request.source (from_start whole)) new.outside request (scripted (script_of (take (most_bytes + 1) whole))) =
+    subst (λ (o : Outside). RanSo status solving o new.outside request (scripted (script_of (take (most_bytes + 1) whole)))) place (subst (λ (b : List ℕ). RanSo status solving mid.outside new.outside request (scripted (script_of b))) taken ran) in
+    of_request status solving old new request (from_start whole) is
+    (record { matter = scripted (script_of whole); is_matter = refl; ran = ran_whole status solving (with_taken old.outside request.source (from_start whole)) new.outside request whole ran_so })
 of_file (Err e) solving old mid new request file source bytes in_it same read ran = tt
 
 -- And for a model that was generated, without any call.
 pub of_generated : (r : Result Status AllocError) (solving : Solving) (old new : Meaning) (request : Asked) (size : ℕ) (source : List ℕ) → request.source ≡ generated size → source ≡ model_text size size size →
-    IfOk r (λ status. RanSo status solving old.outside new.outside request source) → IfOk r (λ status. OfRequest status solving old new request)
+    IfOk r (λ status. RanSo status solving old.outside new.outside request (scripted (script_of source))) → IfOk r (λ status. OfRequest status solving old new request)
 of_generated (Ok status) solving old new request size source e is ran =
-    of_request status solving old new request source (subst (λ (o : Origin). IsSource old.outside o source) (sym e) is) (subst (λ (o : Outside). RanSo status solving o new.outside request source) (ap (λ (o : Origin). with_source old.outside o source) (sym e)) ran)
+    of_request status solving old new request (from_start source) (subst (λ (o : Origin). IsTaken old.outside o (from_start source)) (sym e) is)
+    (record { matter = scripted (script_of source); is_matter = refl; ran = subst (λ (o : Outside). RanSo status solving o new.outside request (scripted (script_of source))) (ap (λ (o : Origin). with_taken old.outside o (from_start source)) (sym e)) ran })
 of_generated (Err x) solving old new request size source e is ran = tt
 
--- A report is what its status says.
-pub reports_so : (status : Status) (solving : Solving) (old new : Outside) (request : Asked) (source : List ℕ) → IsReported status solving old new request source → RanSo status solving old new request source
-reports_so Done solving old new request source r = r
-reports_so Compile solving old new request source r = r
-reports_so Execution solving old new request source r = r
-reports_so Usage solving old new request source r = absurd r.listing.1
-reports_so ReadFault solving old new request source r = absurd r.listing.1
-reports_so WriteFault solving old new request source r = absurd r.listing.1
+-- What was restored of a save goes on.
+pub of_joint : (r : Result Status AllocError) (solving : Solving) (old new : Outside) (request : Asked) (save file : List ℕ) (saved : Saved) → length save ≤ most_save_bytes → IsRestored solving.before.names save saved →
+    IfOk r (λ status. RanSo status solving old new request (scripted (joint_script saved.source.items saved.store file))) → IfOk r (λ status. RanOf status solving old new request (from_save save file))
+of_joint (Ok status) solving old new request save file saved short restored ran =
+    record { matter = scripted (joint_script saved.source.items saved.store file); is_matter = record { saved = saved; short = short; restored = restored; joint = refl }; ran = ran }
+of_joint (Err e) solving old new request save file saved short restored ran = tt
 
--- a run of a source did what its report came to
-pub ran_so : (reported : Result Status Failed) (r : Result Status AllocError) (solving : Solving) (old new : Outside) (request : Asked) (source : List ℕ) → EndsAs reported r →
-    ComesTo reported (λ status. IsReported status solving old new request source) (IsWriteFault solving old new request source) → IfOk r (λ status. RanSo status solving old new request source)
-ran_so (Ok status) r solving old new request source is done =
-    subst (λ (x : Result Status AllocError). IfOk x (λ s. RanSo s solving old new request source)) (sym is) (reports_so status solving old new request source done)
-ran_so (Err Fault) r solving old new request source is broken =
-    subst (λ (x : Result Status AllocError). IfOk x (λ s. RanSo s solving old new request source)) (sym is) broken
-ran_so (Err Memory) r solving old new request source (e, is) broken =
-    subst (λ (x : Result Status AllocError). IfOk x (λ s. RanSo s solving old new request source)) (sym is) tt
+-- What could not be restored is listed so.
+pub of_unrestored : (r : Result Status AllocError) (solving : Solving) (old new : Outside) (request : Asked) (save file : List ℕ) (fault : SaveFault) → IsUnrestored solving.before.names save fault →
+    IfOk r (λ status. RanSo status solving old new request (unrestored fault)) → IfOk r (λ status. RanOf status solving old new request (from_save save file))
+of_unrestored (Ok status) solving old new request save file fault is ran = record { matter = unrestored fault; is_matter = is; ran = ran }
+of_unrestored (Err e) solving old new request save file fault is ran = tt
+
+-- What was run behind a save that was read, whose file was taken, is what was run of the file.
+pub of_behind : (r : Result Status AllocError) (solving : Solving) (old mid new : Meaning) (request : Asked) (save file : List ℕ) (source : Vec ℕ Global) (bytes : List ℕ) → bytes ≡ source.items → ReadsFile (most_bytes + 1) (done_with source) old.outside mid.outside file →
+    IfOk r (λ status. RanOf status solving mid.outside new.outside request (from_save save bytes)) → IfOk r (λ status. RanBehind status solving old new request save file)
+of_behind (Err e) solving old mid new request save file source bytes same read ran = tt
+of_behind (Ok status) solving old mid new request save file source bytes same read ran = by status ran
+  where
+    whole : List ℕ
+    whole = read.0
+
+    of_status : (s : Status) → RanOf s solving mid.outside new.outside request (from_save save bytes) → (source : List ℕ) × (IsFileOf old.outside file source × RanOf s solving (with_source old.outside file source) new.outside request (from_save save source))
+    of_status s r = (
+      whole,
+      (
+        read.1.0,
+        file_whole s solving (with_source old.outside file whole) new.outside request save whole
+            (subst (λ (o : Outside). RanOf s solving o new.outside request (from_save save (take (most_bytes + 1) whole))) read.1.1.1 (subst (λ (b : List ℕ). RanOf s solving mid.outside new.outside request (from_save save b)) (same ∙ read.1.1.0) r)),
+      ),
+    )
+
+    by : (s : Status) → RanOf s solving mid.outside new.outside request (from_save save bytes) → RanBehind s solving old new request save file
+    by Done r = of_status Done r
+    by Compile r = of_status Compile r
+    by Execution r = of_status Execution r
+    by WriteFault r = of_status WriteFault r
+    by Usage r = absurd r.ran
+    by ReadFault r = absurd r.ran
+
+-- A file that goes on from a save could not be read, and the line that says so was said.
+pub unread_behind : (r : Result Status AllocError) (solving : Solving) (old mid new : Meaning) (request : Asked) (save file : List ℕ) → IsUnread old.outside mid.outside file → CountsReading (let x : Result (Vec ℕ Global) Failed = Err Fault in x) (IsThere old.outside file) old.counts mid.counts →
+    IfOk r (λ status. status ≡ ReadFault) → OnOk r (SaysLine mid new mid.outside (read_fault_line file)) → SolvesNothing solving → IfOk r (λ status. RanBehind status solving old new request save file)
+unread_behind (Ok status) solving old mid new request save file not counts same said none =
+    subst (λ s. RanBehind s solving old new request save file) (sym same) (record { before = mid.outside; unread = not; said = says_from old mid new (read_fault_line file) (IsThere old.outside file) counts said }, none)
+unread_behind (Err e) solving old mid new request save file not counts same said none = tt
+
+-- What was run of a save, whose first bytes were taken, and of the file behind it is what was run for a request.
+pub of_restart : (r : Result Status AllocError) (solving : Solving) (old mid new : Meaning) (request : Asked) (saved file : List ℕ) (save : Vec ℕ Global) (bytes : List ℕ) → request.source ≡ restarted saved file → bytes ≡ save.items → ReadsFile (most_save_bytes + 1) (done_with save) old.outside mid.outside saved →
+    CountsReading (done_with save) (IsThere old.outside saved) old.counts mid.counts → IfOk r (λ status. RanBehind status solving mid new request bytes file) → IfOk r (λ status. OfRequest status solving old new request)
+of_restart (Err e) solving old mid new request saved file save bytes in_it same read counts ran = tt
+of_restart (Ok status) solving old mid new request saved file save bytes in_it same read counts ran = by status ran
+  where
+    whole : List ℕ
+    whole = read.0
+
+    at : mid.outside ≡ with_saved old.outside saved whole
+    at = read.1.1.1
+
+    of_status : (s : Status) → (source : List ℕ) × (IsFileOf mid.outside file source × RanOf s solving (with_source mid.outside file source) new.outside request (from_save bytes source)) → OfRequest s solving old new request
+    of_status s (source, (there, r)) =
+        let found : IsFileOf (with_saved old.outside saved whole) file source = subst (λ (o : Outside). IsFileOf o file source) at there in
+        let is : IsTaken old.outside request.source (from_save whole source) = subst (λ (o : Origin). IsTaken old.outside o (from_save whole source)) (sym in_it) (read.1.0, found) in
+        let first : RanOf s solving (with_source (with_saved old.outside saved whole) file source) new.outside request (from_save (take (most_save_bytes + 1) whole) source) =
+        subst (λ (o : Outside). RanOf s solving (with_source o file source) new.outside request (from_save (take (most_save_bytes + 1) whole) source)) at
+        (subst (λ (b : List ℕ). RanOf s solving (with_source mid.outside file source) new.outside request (from_save b source)) (same ∙ read.1.1.0) r) in
+        of_request s solving old new request (from_save whole source) is
+        (subst (λ (o : Origin). RanOf s solving (with_taken old.outside o (from_save whole source)) new.outside request (from_save whole source)) (sym in_it)
+        (save_whole s solving (with_source (with_saved old.outside saved whole) file source) new.outside request whole source first))
+
+    unread_second : IsUnreadFile mid new file → IsReadFault old new request
+    unread_second u =
+        record {
+          file = file;
+          before = u.before;
+          unread = subst (λ (o : Origin). IsUnreadOf old.outside u.before o file) (sym in_it) (inr (refl, (whole, (read.1.0, subst (λ (o : Outside). IsUnread o u.before file) at u.unread))));
+          said = says_later old mid new u.before (read_fault_line file) (IsThere old.outside saved) counts u.said;
+        }
+
+    by : (s : Status) → RanBehind s solving mid new request bytes file → OfRequest s solving old new request
+    by Done r = of_status Done r
+    by Compile r = of_status Compile r
+    by Execution r = of_status Execution r
+    by WriteFault r = of_status WriteFault r
+    by Usage r = of_status Usage r
+    by ReadFault r = (unread_second r.0, r.1)
+
+-- ---- reports
+
+-- A report is what its status says.
+pub reports_so : (status : Status) (solving : Solving) (old new : Outside) (request : Asked) (matter : Matter) → IsReported status solving old new request matter → RanSo status solving old new request matter
+reports_so Done solving old new request matter r = r
+reports_so Compile solving old new request matter r = r
+reports_so Execution solving old new request matter r = r
+reports_so Usage solving old new request matter r = absurd r.listing.1
+reports_so ReadFault solving old new request matter r = absurd r.listing.1
+reports_so WriteFault solving old new request matter r = absurd r.listing.1
+
+-- a run of a matter did what its report came to
+pub ran_so : (reported : Result Status Failed) (r : Result Status AllocError) (solving : Solving) (old new : Outside) (request : Asked) (matter : Matter) → EndsAs reported r →
+    ComesTo reported (λ status. IsReported status solving old new request matter) (IsWriteFault solving old new request matter) → IfOk r (λ status. RanSo status solving old new request matter)
+ran_so (Ok status) r solving old new request matter is done =
+    subst (λ (x : Result Status AllocError). IfOk x (λ s. RanSo s solving old new request matter)) (sym is) (reports_so status solving old new request matter done)
+ran_so (Err Fault) r solving old new request matter is broken =
+    subst (λ (x : Result Status AllocError). IfOk x (λ s. RanSo s solving old new request matter)) (sym is) broken
+ran_so (Err Memory) r solving old new request matter (e, is) broken =
+    subst (λ (x : Result Status AllocError). IfOk x (λ s. RanSo s solving old new request matter)) (sym is) tt
 
 -- ---- the steps of a report
 
@@ -183,56 +351,77 @@ opened_as : (old mid : Outside) (name output : List ℕ) → name ≡ output →
 opened_as old mid name output same e = e ∙ ap (with_opened old) same
 
 -- the output was not opened
-pub unopened : (solving : Solving) (old new : Outside) (request : Asked) (source name : List ℕ) (failed : Failed) → name ≡ request.output → SolvesNothing solving → OpensOutput (Err failed) old new name → IsWriteFault solving old new request source
-unopened solving old new request source name failed same none opened =
+pub unopened : (solving : Solving) (old new : Outside) (request : Asked) (matter : Matter) (name : List ℕ) (failed : Failed) → name ≡ request.output → SolvesNothing solving → OpensOutput (Err failed) old new name → IsWriteFault solving old new request matter
+unopened solving old new request matter name failed same none opened =
     inl (record { none = none; outside = subst (λ (n : List ℕ). OpensOutput (Err failed) old new n) same opened })
 
 -- the listing was not written whole
-pub unwritten : (solving : Solving) (old mid new : Outside) (request : Asked) (source name : List ℕ) → name ≡ request.output → mid ≡ with_opened old name → IsUnwritten solving mid new source → IsWriteFault solving old new request source
-unwritten solving old mid new request source name same opened u = inr (inl (subst (λ (o : Outside). IsUnwritten solving o new source) (opened_as old mid name request.output same opened) u))
+pub unwritten : (solving : Solving) (old mid new : Outside) (request : Asked) (matter : Matter) (name : List ℕ) → name ≡ request.output → mid ≡ with_opened old name → IsUnwritten solving mid new matter → IsWriteFault solving old new request matter
+unwritten solving old mid new request matter name same opened u = inr (inl (subst (λ (o : Outside). IsUnwritten solving o new matter) (opened_as old mid name request.output same opened) u))
 
-module _ (status : Status) (solving : Solving) (old mid wrote : Outside) (request : Asked) (source name : List ℕ) (same : name ≡ request.output) (opened : mid ≡ with_opened old name) (lists : Lists status solving mid wrote source) where
+module _ (status : Status) (solving : Solving) (old mid wrote : Outside) (request : Asked) (matter : Matter) (name : List ℕ) (same : name ≡ request.output) (opened : mid ≡ with_opened old name) (lists : Lists status solving mid wrote matter) where
   -- what was written
   written : wrote ≡ with_listing old request.output lists.text
   written = lists.written ∙ ap (λ (o : Outside). with_output o lists.text) (opened_as old mid name request.output same opened)
 
   -- the output was not closed well
-  pub unclosed : (new : Outside) (failed : Failed) → ClosesOutput (Err failed) wrote new → IsWriteFault solving old new request source
+  pub unclosed : (new : Outside) (failed : Failed) → ClosesOutput (Err failed) wrote new → IsWriteFault solving old new request matter
   unclosed new failed closed =
       inr (inr (inl (record { status = status; text = lists.text; listing = lists.listing; outside = closed ∙ ap (λ (o : Outside). record o { writing = false }) written })))
 
-  module _ (shut : Outside) (closed : ClosesOutput all_done wrote shut) (lines : List ℕ) (closing : AreClosing status solving request source lines) where
-    kept : shut ≡ with_kept (with_listing old request.output lists.text)
+  module _ (shut : Outside) (closed : ClosesOutput all_done wrote shut) where
+    kept : shut ≡ with_file old request.output lists.text
     kept = closed ∙ ap with_kept written
 
-    -- the closing lines were not said whole
-    pub unsaid : (new : Outside) → SaysFront shut new lines → IsWriteFault solving old new request source
-    unsaid new front =
-        inr (inr (inr (record { status = status; text = lists.text; listing = lists.listing; lines = lines; closing = closing; front = subst (λ (o : Outside). SaysFront o new lines) kept front })))
+    -- the save was not written to its file
+    pub unsaved : (new : Outside) (save : List ℕ) → SavesSo status solving request matter save → LosesSave status request shut new save → IsWriteFault solving old new request matter
+    unsaved new save saves lost =
+        inr (inr (inr (inl (record {
+          status = status;
+          text = lists.text;
+          listing = lists.listing;
+          name = lost.name;
+          named = lost.named;
+          save = save;
+          saves = subst (λ (file : Option (List ℕ)). IfSome file (λ f. SavesLast solving matter save)) lost.named saves;
+          outside = subst (λ (o : Outside). IsUnwrittenFile o new lost.name save) kept lost.outside;
+        }))))
 
-    -- all was done
-    pub reported : (new : Outside) → new ≡ with_said shut lines → IsReported status solving old new request source
-    reported new said =
-        record { text = lists.text; listing = lists.listing; lines = lines; closing = closing; outside = said ∙ ap (λ (o : Outside). with_said o lines) kept }
+    module _ (done : Outside) (save : List ℕ) (saves : SavesSo status solving request matter save) (saved : WritesSave status request shut done save) (lines : List ℕ) (closing : AreClosing status solving request matter lines) where
+      stored : done ≡ with_save (with_file old request.output lists.text) (save_file status request) save
+      stored = saved ∙ ap (λ (o : Outside). with_save o (save_file status request) save) kept
+
+      -- the closing lines were not said whole
+      pub unsaid : (new : Outside) → SaysFront done new lines → IsWriteFault solving old new request matter
+      unsaid new front =
+          inr (inr (inr (inr (record { status = status; text = lists.text; listing = lists.listing; save = save; saves = saves; lines = lines; closing = closing; front = subst (λ (o : Outside). SaysFront o new lines) stored front }))))
+
+      -- all was done
+      pub reported : (new : Outside) → new ≡ with_said done lines → IsReported status solving old new request matter
+      reported new said =
+          record { text = lists.text; listing = lists.listing; save = save; saves = saves; lines = lines; closing = closing; outside = said ∙ ap (λ (o : Outside). with_said o lines) stored }
+
+-- ---- saves
+
+-- The save was written to its file, or not.
+pub saves_file : (r : Result (Unit {0}) Failed) (status : Status) (request : Asked) (old new : Outside) (name bytes : List ℕ) → save_file status request ≡ Some name → ComesTo r (λ done. new ≡ with_file old name bytes) (IsUnwrittenFile old new name bytes) →
+    ComesTo r (λ done. WritesSave status request old new bytes) (LosesSave status request old new bytes)
+saves_file (Ok done) status request old new name bytes named is = is ∙ ap (λ (file : Option (List ℕ)). with_save old file bytes) (sym named)
+saves_file (Err Fault) status request old new name bytes named is = record { name = name; named = named; outside = is }
+saves_file (Err Memory) status request old new name bytes named is = tt
+
+-- There is none to be written.
+pub saves_none : (status : Status) (request : Asked) (old : Outside) (bytes : List ℕ) → save_file status request ≡ None → WritesSave status request old old bytes
+saves_none status request old bytes none = ap (λ (file : Option (List ℕ)). with_save old file bytes) (sym none)
 
 -- ---- files that are not read
 
--- The file could not be read, and the line that says so was said.
-pub unread : (r : Result Status AllocError) (solving : Solving) (old mid new : Meaning) (request : Asked) (file : List ℕ) → request.source ≡ in_file file → IsUnread old.outside mid.outside file → CountsReading (let x : Result (Vec ℕ Global) Failed = Err Fault in x) (IsThere old.outside file) old.counts mid.counts →
+-- The first file of an origin could not be read, and the line that says so was said.
+pub unread : (r : Result Status AllocError) (solving : Solving) (old mid new : Meaning) (request : Asked) (file : List ℕ) → IsUnreadOf old.outside mid.outside request.source file → CountsReading (let x : Result (Vec ℕ Global) Failed = Err Fault in x) (IsThere old.outside file) old.counts mid.counts →
     IfOk r (λ status. status ≡ ReadFault) → OnOk r (SaysLine mid new mid.outside (read_fault_line file)) → SolvesNothing solving → IfOk r (λ status. OfRequest status solving old new request)
-unread (Ok status) solving old mid new request file in_it not counts same said none =
-    let faults : mid.counts.write_faults ≡ old.counts.write_faults = ap (λ (c : Counts). c.write_faults) counts.rest in
-    subst (λ s. OfRequest s solving old new request) (sym same) (
-      record {
-        file = file;
-        in_it = in_it;
-        before = mid.outside;
-        unread = not;
-        said = record { front = said.front; whole = elim said.whole [ inl all ↦ inl all | inr rose ↦ inr (subst (λ n. Rose n new.counts.write_faults) faults rose) ] };
-      },
-      none,
-    )
-unread (Err e) solving old mid new request file in_it not counts same said none = tt
+unread (Ok status) solving old mid new request file not counts same said none =
+    subst (λ s. OfRequest s solving old new request) (sym same) (record { file = file; before = mid.outside; unread = not; said = says_from old mid new (read_fault_line file) (IsThere old.outside file) counts said }, none)
+unread (Err e) solving old mid new request file not counts same said none = tt
 
 -- ---- lines
 
@@ -296,13 +485,13 @@ counts_reported status old new c is =
     met WriteFault (inr (inr e)) = let z : ⊥ = cc in absurd z
 
 -- a report has the listing of one of three statuses
-pub reported_status : (status : Status) (solving : Solving) (old new : Outside) (request : Asked) (source : List ℕ) → IsReported status solving old new request source → (status ≡ Done) ⊎ ((status ≡ Compile) ⊎ (status ≡ Execution))
-reported_status Done solving old new request source r = inl refl
-reported_status Compile solving old new request source r = inr (inl refl)
-reported_status Execution solving old new request source r = inr (inr refl)
-reported_status Usage solving old new request source r = absurd r.listing.1
-reported_status ReadFault solving old new request source r = absurd r.listing.1
-reported_status WriteFault solving old new request source r = absurd r.listing.1
+pub reported_status : (status : Status) (solving : Solving) (old new : Outside) (request : Asked) (matter : Matter) → IsReported status solving old new request matter → (status ≡ Done) ⊎ ((status ≡ Compile) ⊎ (status ≡ Execution))
+reported_status Done solving old new request matter r = inl refl
+reported_status Compile solving old new request matter r = inr (inl refl)
+reported_status Execution solving old new request matter r = inr (inr refl)
+reported_status Usage solving old new request matter r = absurd r.listing.1
+reported_status ReadFault solving old new request matter r = absurd r.listing.1
+reported_status WriteFault solving old new request matter r = absurd r.listing.1
 
 -- what a report counts that a fault ended
 pub counts_fault : (old new : Counts) → CountsWriting (let r : Result Status Failed = Err Fault in r) old new → CountsRun (let r : Result Status AllocError = Ok WriteFault in r) (old.reliable ≡ true) old new
@@ -318,13 +507,13 @@ pub counts_memory : (e : AllocError) (r : Result Status Failed) (old new : Count
 counts_memory e r old new c = record { said = tt; stay = λ t. c.rest ∙ ap (λ n. record old { write_faults = n }) (c.own.steady t); unmet = λ t. tt }
 
 -- what a run counts whose report came to this
-pub counts_so : (reported : Result Status Failed) (r : Result Status AllocError) (solving : Solving) (old new : Outside) (request : Asked) (source : List ℕ) (first last : Counts) → EndsAs reported r → CountsWriting reported first last →
-    ComesTo reported (λ status. IsReported status solving old new request source) (IsWriteFault solving old new request source) → CountsRun r (first.reliable ≡ true) first last
-counts_so (Ok status) r solving old new request source first last is counts done =
-    subst (λ (x : Result Status AllocError). CountsRun x (first.reliable ≡ true) first last) (sym is) (counts_reported status first last counts (reported_status status solving old new request source done))
-counts_so (Err Fault) r solving old new request source first last is counts broken =
+pub counts_so : (reported : Result Status Failed) (r : Result Status AllocError) (solving : Solving) (old new : Outside) (request : Asked) (matter : Matter) (first last : Counts) → EndsAs reported r → CountsWriting reported first last →
+    ComesTo reported (λ status. IsReported status solving old new request matter) (IsWriteFault solving old new request matter) → CountsRun r (first.reliable ≡ true) first last
+counts_so (Ok status) r solving old new request matter first last is counts done =
+    subst (λ (x : Result Status AllocError). CountsRun x (first.reliable ≡ true) first last) (sym is) (counts_reported status first last counts (reported_status status solving old new request matter done))
+counts_so (Err Fault) r solving old new request matter first last is counts broken =
     subst (λ (x : Result Status AllocError). CountsRun x (first.reliable ≡ true) first last) (sym is) (counts_fault first last counts)
-counts_so (Err Memory) r solving old new request source first last (e, is) counts broken =
+counts_so (Err Memory) r solving old new request matter first last (e, is) counts broken =
     subst (λ (x : Result Status AllocError). CountsRun x (first.reliable ≡ true) first last) (sym is) (counts_memory e (failed_with Status Memory) first last counts)
 
 -- and what it counts where nothing was done before
@@ -339,14 +528,15 @@ rose_on a b c h rose = omega (arith, h, rose)
 rose_first : (a b c : ℕ) → Rose a b → b ≤ c → Rose a c
 rose_first a b c rose h = omega (arith, h, rose)
 
--- what a run counts behind a file that was read
-pub counts_read : {A : Type 0} (x : A) (there : Type 0) (r : Result Status AllocError) (old mid new : Counts) → CountsReading (done_with x) there old mid → CountsRun r (mid.reliable ≡ true) mid new → CountsRun r ((old.reliable ≡ true) × there) old new
-counts_read x there r old mid new p q =
-    record { said = by r q.said; stay = λ t. q.stay (reliable t.0) ∙ first t; unmet = λ t. q.unmet (reliable t.0) }
-  where
-    reliable : old.reliable ≡ true → mid.reliable ≡ true
-    reliable t = ap (λ (c : Counts). c.reliable) p.rest ∙ t
+-- a host that was reliable is so behind a file that was read
+reliable_still : {A : Type 0} {r : Result A Failed} {there : Type 0} {old mid : Counts} → CountsReading r there old mid → old.reliable ≡ true → mid.reliable ≡ true
+reliable_still p t = ap (λ (c : Counts). c.reliable) p.rest ∙ t
 
+-- what a run counts behind a file that was read
+counts_read_on : {A : Type 0} (x : A) (there sure later : Type 0) (r : Result Status AllocError) (old mid new : Counts) → (sure → (old.reliable ≡ true) × there) → (sure → later) → CountsReading (done_with x) there old mid → CountsRun r later mid new → CountsRun r sure old new
+counts_read_on x there sure later r old mid new before behind p q =
+    record { said = by r q.said; stay = λ t. q.stay (behind t) ∙ first (before t); unmet = λ t. q.unmet (behind t) }
+  where
     first : (old.reliable ≡ true) × there → mid ≡ old
     first t = p.rest ∙ ap (λ n. record old { read_faults = n }) (p.own.steady t)
 
@@ -370,6 +560,22 @@ counts_read x there r old mid new p q =
     by : (r : Result Status AllocError) → IfOk r (λ s. CountsSo s mid new) → IfOk r (λ s. CountsSo s old new)
     by (Ok s) q = of_status s q
     by (Err e) q = tt
+
+-- where nothing else is to be read
+pub counts_read : {A : Type 0} (x : A) (there : Type 0) (r : Result Status AllocError) (old mid new : Counts) → CountsReading (done_with x) there old mid → CountsRun r (mid.reliable ≡ true) mid new → CountsRun r ((old.reliable ≡ true) × there) old new
+counts_read x there r old mid new p q = counts_read_on x there ((old.reliable ≡ true) × there) (mid.reliable ≡ true) r old mid new (λ t. t) (λ t. reliable_still p t.0) p q
+
+-- a file is still there behind another that was read
+still_there : (most : ℕ) (old mid : Outside) (file other whole : List ℕ) → mid ≡ with_read most old file whole → IsThere old other → IsThere mid other
+still_there most old mid file other whole at there =
+    subst (λ (files : Option Files). IfSome files (λ f. IsSome (files_map.get f other))) (sym (ap (λ (o : Outside). o.files) at)) there
+
+-- where another file is to be read behind it
+pub counts_restart : (r : Result Status AllocError) (old mid new : Meaning) (saved file : List ℕ) (save : Vec ℕ Global) → ReadsFile (most_save_bytes + 1) (done_with save) old.outside mid.outside saved → CountsReading (done_with save) (IsThere old.outside saved) old.counts mid.counts →
+    CountsRun r ((mid.counts.reliable ≡ true) × IsThere mid.outside file) mid.counts new.counts → CountsRun r ((old.counts.reliable ≡ true) × (IsThere old.outside saved × IsThere old.outside file)) old.counts new.counts
+counts_restart r old mid new saved file save read p q =
+    counts_read_on save (IsThere old.outside saved) ((old.counts.reliable ≡ true) × (IsThere old.outside saved × IsThere old.outside file)) ((mid.counts.reliable ≡ true) × IsThere mid.outside file) r old.counts mid.counts new.counts
+    (λ t. (t.0, t.1.0)) (λ t. (reliable_still p t.0, still_there (most_save_bytes + 1) old.outside mid.outside saved file read.0 read.1.1.1 t.1.1)) p q
 
 -- what a run counts whose file was not read
 pub counts_unread : (there : Type 0) (r : Result Status AllocError) (old mid new : Counts) → CountsReading (let x : Result (Vec ℕ Global) Failed = Err Fault in x) there old mid → CountsMention mid new → IfOk r (λ s. s ≡ ReadFault) → CountsRun r ((old.reliable ≡ true) × there) old new

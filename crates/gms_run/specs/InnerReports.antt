@@ -1,69 +1,124 @@
--- What the pieces that read a source and report it promise each other.
-use Rattle.std.specs.Prelude.{◌≡◌, ◌≢◌, ◌≤◌, ◌⊎◌, Bool, true, false, ℕ, ◌+◌, List, [], ◌++◌, map, take, drop, length, option_map, IfSome, IfOk, Result, Ok, Err, Vec}
+-- What the pieces that read what is to be run and report it promise each other.
+use Rattle.std.specs.Prelude.{◌≡◌, ◌≢◌, ◌≤◌, ◌⊎◌, Bool, true, false, ℕ, ◌+◌, List, [], ◌++◌, map, take, drop, length, Option, Some, None, option_map, IfSome, IfOk, Result, Ok, Err, Vec}
+use Rattle.std.specs.List.{All}
 use Rattle.std.specs.declared.alloc.Global.{Global}
 use Rattle.std.specs.declared.alloc.AllocError.{AllocError}
 use Rattle.gq_frac.specs.declared.frac.Frac.{Frac}
 use Rattle.gq_frac.specs.Frac.{frac_value}
 use Rattle.gms_host.specs.declared.host.Failed.{Failed}
 use Rattle.gms_host.specs.declared.host.Failed.TheVariants.{Fault as FailedSo, Memory}
-use Rattle.gms_host.specs.Meaning.{Outside, Counts}
+use Rattle.gms_host.specs.Meaning.{Meaning, Outside, Counts}
 use Rattle.gms_host.specs.Rules.{with_output, with_said}
 use Rattle.gms_host.specs.Spooling.{Passes, SaysFront}
 use Rattle.gms_ast.specs.declared.program.Program.{Program}
-use Rattle.gms_lex.specs.Tokens.{most_bytes}
 use Rattle.gms_check.specs.declared.error.CompileError.{CompileError}
-use Rattle.gms_store.specs.State.{State}
-use Rattle.gms_list.specs.ListingText.{compile_errors_text, echo_text, end_text}
+use Rattle.gms_store.specs.State.{State, symbol_at, members_in}
+use Rattle.gms_exec.specs.Stepping.{AreKept}
+use Rattle.gms_list.specs.ListingText.{end_text}
+use Rattle.gms_saved.specs.SavedState.{saved_text}
 use Rattle.lp_core.specs.declared.answer.Answer.{Answer}
 use Rattle.lp_core.specs.declared.program.Lp.{Lp}
 use Rattle.lp_core.specs.Numbers.{lp_numbers}
 use Rattle.gms_ranges.specs.RangeTexts.{SaysRanges}
-use Rattle.gms_words.specs.CommandLine.{Asked, Origin, in_file, generated}
+use Rattle.gms_words.specs.CommandLine.{Asked, Origin, in_file, restarted, generated, read_fault_line}
 use Rattle.gms_run.specs.declared.status.Status.{Status}
-use Rattle.gms_run.specs.declared.status.Status.TheVariants.{Compile, WriteFault}
-use Rattle.gms_run.specs.Solving.{Solving, number_limit, numbers_of}
-use Rattle.gms_run.specs.Jobs.{status_code}
-use Rattle.gms_run.specs.Listings.{IsListing, IsModelLine}
-use Rattle.gms_run.specs.Statuses.{CountsSo, EndsByNoFault, IsSource, IsUnread, with_source}
+use Rattle.gms_run.specs.declared.status.Status.TheVariants.{Compile, ReadFault, WriteFault}
+use Rattle.gms_run.specs.declared.script.Script.{Script as OwnScript}
+use Rattle.gms_run.specs.declared.script.Matter.{Matter as OwnMatter}
+use Rattle.gms_run.specs.declared.script.Matter.TheVariants.{ToRun, Unrestored}
+use Rattle.gms_run.specs.Solving.{Solving, SolvesNothing, number_limit, numbers_of}
+use Rattle.gms_run.specs.Scripts.{Script, Matter, scripted, unrestored, Taken, from_save, IsMatter, first_state}
+use Rattle.gms_run.specs.Jobs.{solver_name, status_code}
+use Rattle.gms_run.specs.Listings.{AreRemarks, IsAccepted, IsListing, IsModelLine, SavesSo, ShowsErrors, ShowsMisfit, errors_text, refused_text, save_file}
+use Rattle.gms_run.specs.Statuses.{CountsSo, EndsByNoFault, IsFileOf, IsUnread, IsUnwrittenFile, RanSo, SaysLine, with_read, with_save, with_source}
+
+-- ---- what is passed on
+
+-- a script, as it is passed on
+abbrev pub script_in : OwnScript → Script
+script_in script =
+    record { source = script.source.now; file = script.file.now; line = script.line; saved = option_map (λ saved. saved.now.store) script.saved }
+
+-- what there is to run, as it is passed on
+abbrev pub matter_in : OwnMatter → Matter
+matter_in (ToRun script) = scripted (script_in script)
+matter_in (Unrestored fault) = unrestored fault
+
+-- A saved state from which a run can go on: its settings choose one of so many solvers, and the members of a set are as long as it has positions.
+pub record CanGoOn (solvers : ℕ) (state : State) : Type 0 where
+  pub settings : AreKept solvers state.settings
+  pub arity : (name : ℕ) → All (λ t. length t ≡ length (symbol_at state name).domain) (members_in (symbol_at state name).content)
+
+-- a run can go on from the saved state of a script, where it has one
+abbrev pub IsSound : ℕ → Option State → Type 0
+IsSound solvers None = Unit {0}
+IsSound solvers (Some state) = CanGoOn solvers state
+
+-- the same of what there is to run
+abbrev pub IsSoundMatter : ℕ → Matter → Type 0
+IsSoundMatter solvers (scripted script) = IsSound solvers script.saved
+IsSoundMatter solvers (unrestored fault) = Unit {0}
 
 -- ---- transfers
 
--- of what the input gives the first bytes were taken, one more than a source may have, or all; where that fails nothing but the input changed
-abbrev pub TakesFirst : Result (Vec ℕ Global) Failed → Outside → Outside → Type 0
-TakesFirst (Ok source) old new =
-    (whole : List ℕ) × (IfSome old.input (λ bytes. whole ≡ bytes) × ((source.items ≡ take (most_bytes + 1) whole) × (new ≡ record old { input = option_map (λ _. drop (most_bytes + 1) whole) old.input })))
-TakesFirst (Err _) old new = new ≡ record old { input = new.input }
+-- of what the input gives the first bytes were taken, so many, or all; where that fails nothing but the input changed
+abbrev pub TakesFirst : ℕ → Result (Vec ℕ Global) Failed → Outside → Outside → Type 0
+TakesFirst most (Ok source) old new =
+    (whole : List ℕ) × (IfSome old.input (λ bytes. whole ≡ bytes) × ((source.items ≡ take most whole) × (new ≡ record old { input = option_map (λ _. drop most whole) old.input })))
+TakesFirst most (Err _) old new = new ≡ record old { input = new.input }
 
--- the source in a file was taken, or the first bytes of it; where that fails the file is not read
-abbrev pub ReadsFile : Result (Vec ℕ Global) Failed → Outside → Outside → List ℕ → Type 0
-ReadsFile (Ok source) old new file =
-    (whole : List ℕ) × (IsSource old (in_file file) whole × ((source.items ≡ take (most_bytes + 1) whole) × (new ≡ with_source old (in_file file) whole)))
-ReadsFile (Err _) old new file = IsUnread old new file
+-- the bytes in a file were taken, or the first of them; where that fails the file is not read
+abbrev pub ReadsFile : ℕ → Result (Vec ℕ Global) Failed → Outside → Outside → List ℕ → Type 0
+ReadsFile most (Ok source) old new file =
+    (whole : List ℕ) × (IsFileOf old file whole × ((source.items ≡ take most whole) × (new ≡ with_read most old file whole)))
+ReadsFile most (Err _) old new file = IsUnread old new file
 
 -- a line was said, or where that fails its front
 abbrev pub SaysAll : Result (Unit {0}) Failed → Outside → Outside → List ℕ → Type 0
 SaysAll (Ok _) old new line = new ≡ with_said old line
 SaysAll (Err _) old new line = SaysFront old new line
 
+-- the save of a run was written, where it is to be
+abbrev pub WritesSave : Status → Asked → Outside → Outside → List ℕ → Type 0
+WritesSave status request old new bytes = new ≡ with_save old (save_file status request) bytes
+
+-- the save of a run was to be written to a file, and was not
+pub record LosesSave (status : Status) (request : Asked) (old new : Outside) (bytes : List ℕ) : Type 0 where
+  pub name : List ℕ
+  pub named : save_file status request ≡ Some name
+  pub outside : IsUnwrittenFile old new name bytes
+
 -- ---- reports
 
--- The listing of a source but for its last line is on its way out; of one that is accepted no more is pending than a spool has.
-pub record Prepares (status : Status) (solving : Solving) (old new : Outside) (source pending : List ℕ) : Type 0 where
+-- The listing of what there is to run but for its last line is on its way out; of what is accepted no more is pending than a spool has.
+pub record Prepares (status : Status) (solving : Solving) (old new : Outside) (matter : Matter) (pending : List ℕ) : Type 0 where
   pub body : List ℕ
-  pub listing : IsListing status solving source (body ++ end_text (status_code status) (length solving.answers))
+  pub listing : IsListing status solving matter (body ++ end_text (status_code status) (length solving.answers))
   pub passes : Passes old new body pending
   pub room : (status ≡ Compile) ⊎ (length pending ≤ 4096)
 
--- The whole listing of a source was added to the output.
-pub record Lists (status : Status) (solving : Solving) (old new : Outside) (source : List ℕ) : Type 0 where
+-- The whole listing of what there is to run was added to the output.
+pub record Lists (status : Status) (solving : Solving) (old new : Outside) (matter : Matter) : Type 0 where
   pub text : List ℕ
-  pub listing : IsListing status solving source text
+  pub listing : IsListing status solving matter text
   pub written : new ≡ with_output old text
 
--- errors of a program are listed behind the echo of its source, or there are none and nothing is listed
-abbrev pub ListsErrors : Bool → List CompileError → List ℕ → List ℕ → List ℕ → Type 0
-ListsErrors true errors source before after = (errors ≢ []) × (after ≡ before ++ (echo_text 1 source ++ compile_errors_text errors))
-ListsErrors false errors source before after = (errors ≡ []) × (after ≡ before)
+-- errors of a program are listed behind the echo of its script, or there are none and nothing is listed
+abbrev pub ListsErrors : Bool → List CompileError → Script → List ℕ → List ℕ → Type 0
+ListsErrors true errors script before after = (errors ≢ []) × (after ≡ before ++ errors_text script errors)
+ListsErrors false errors script before after = (errors ≡ []) × (after ≡ before)
+
+-- a program is accepted, this is its first state, and nothing is listed; or it is not accepted, and why is listed
+abbrev pub Accepts : Option State → List (List ℕ) → Script → Program Frac → List ℕ → List ℕ → Type 0
+Accepts (Some state) solvers script program before after =
+    (state ≡ first_state script.saved program) × (IsAccepted solvers script program × (after ≡ before))
+Accepts None solvers script program before after =
+    (listed : List ℕ) × ((after ≡ before ++ listed) × (ShowsErrors solvers script (refused_text listed) ⊎ ShowsMisfit solvers script (refused_text listed)))
+
+-- What is to be done behind a listing: the remarks that are said, and the save of the last state.
+pub record Follows (status : Status) (solving : Solving) (request : Asked) (matter : Matter) (text bytes : List ℕ) : Type 0 where
+  pub remarks : AreRemarks status solving request matter text
+  pub saves : SavesSo status solving request matter bytes
 
 -- the end of a run, by what its report came to: a fault of the host is a write fault, and want of memory has no status
 abbrev pub EndsAs : Result Status Failed → Result Status AllocError → Type 0
@@ -71,12 +126,31 @@ EndsAs (Ok status) end = end ≡ Ok status
 EndsAs (Err FailedSo) end = end ≡ Ok WriteFault
 EndsAs (Err Memory) end = (e : AllocError) × (end ≡ Err e)
 
+-- What was taken was run: what there is to run of it.
+pub record RanOf (status : Status) (solving : Solving) (old new : Outside) (request : Asked) (taken : Taken) : Type 0 where
+  pub matter : Matter
+  pub is_matter : IsMatter solving.before.names taken matter
+  pub ran : RanSo status solving old new request matter
+
+-- A file could not be read, and the line that says so is said.
+pub record IsUnreadFile (old new : Meaning) (file : List ℕ) : Type 0 where
+  pub before : Outside
+  pub unread : IsUnread old.outside before file
+  pub said : SaysLine old new before (read_fault_line file)
+
+-- what a run did behind a save that was read: the file that goes on from it was taken and run, or it could not be read
+abbrev pub RanBehind : Status → Solving → Meaning → Meaning → Asked → List ℕ → List ℕ → Type 0
+RanBehind ReadFault solving old new request save file = IsUnreadFile old new file × SolvesNothing solving
+RanBehind status solving old new request save file =
+    (source : List ℕ) × (IsFileOf old.outside file source × RanOf status solving (with_source old.outside file source) new.outside request (from_save save source))
+
 -- ---- remarks
 
 -- what is told of a run, by where its source comes from, its program and its last state
 abbrev pub IsTold : Origin → Program Frac → State → List (Answer Frac) → List ℕ → Type 0
 IsTold (generated size) program last answers line = IsModelLine size program last answers line
 IsTold (in_file file) program last answers line = line ≡ []
+IsTold (restarted saved file) program last answers line = line ≡ []
 
 -- what is said of the ranges of a run that solved these linear programs, where they are asked for
 abbrev pub IsRanged : Bool → Program Frac → List (Lp Frac) → List (Answer Frac) → List ℕ → Type 0
@@ -88,6 +162,11 @@ IsRanged false program solved answers text = text ≡ []
 abbrev pub IsRemarked : Asked → Program Frac → State → List (Lp Frac) → List (Answer Frac) → List ℕ → Type 0
 IsRemarked request program last solved answers text =
     (ranges line : List ℕ) × IsRanged request.ranges program solved answers ranges × IsTold request.source program last answers line × (text ≡ ranges ++ line)
+
+-- the bytes are the save of a last state over a source, where the run is to be saved
+abbrev pub IsSave : Status → Asked → List (List ℕ) → List ℕ → Program Frac → State → List ℕ → Type 0
+IsSave status request solvers source program last bytes =
+    IfSome (save_file status request) (λ file. bytes ≡ saved_text source program.names last (solver_name solvers last))
 
 -- ---- counts
 

@@ -98,7 +98,7 @@ pub record IsListed (goes_on : Bool) (does : Course → Course) (program : Progr
 
 -- a job that is not echoed
 abbrev pub work : Program Frac → State → List (Stmt Frac) → Job
-work program state statements = record { program = program; state = state; statements = statements; source = []; line = 0 }
+work program state statements = record { program = program; state = state; statements = statements; source = []; file = []; line = 0 }
 
 -- A job came to its end, so that the run ends with this status, in this state, and the programs of its solves were kept.
 pub record Ends (status : Status) (job : Job) (solving : Solving) (last : State) (programs : List (Lp Frac)) : Type 0 where

@@ -1,10 +1,9 @@
 -- A job, and what running it comes to: how far it goes with the answers of its solvers, and the text of that.
-use Rattle.std.specs.Prelude.{◌≡◌, ℕ, ◌+◌, ◌≤◌, ◌⊎◌, List, [], ◌++◌, length, take, Option, Some, None}
+use Rattle.std.specs.Prelude.{◌≡◌, ℕ, ◌+◌, ◌≤◌, ◌⊎◌, List, [], ◌++◌, length, take, codes, slice_get, unwrap_or, Option, Some, None}
 use Rattle.gq_frac.specs.declared.frac.Frac.{Frac}
 use Rattle.gq_frac.specs.Frac.{frac_value}
 use Rattle.gms_ast.specs.declared.program.Program.{Program}
 use Rattle.gms_ast.specs.declared.program.Stmt.{Stmt}
-use Rattle.gms_check.specs.Loaded.{loaded}
 use Rattle.gms_store.specs.State.{State}
 use Rattle.gms_eval.specs.Faults.{Fault}
 use Rattle.gms_exec.specs.Answering.{AreAnswered}
@@ -13,20 +12,24 @@ use Rattle.gms_list.specs.ListingText.{echo_text, events_text, end_text}
 use Rattle.gms_run.specs.declared.status.Status.{Status}
 use Rattle.gms_run.specs.declared.status.Status.TheVariants.{Done, Usage, Compile, Execution, ReadFault, WriteFault}
 use Rattle.gms_run.specs.Searches.{SearchesEnd}
+use Rattle.gms_saved.specs.SavedState.{saved_text}
+use Rattle.gms_run.specs.Scripts.{Script, first_state, statements_of}
 use Rattle.gms_run.specs.Solving.{Solving, HaveGrown, SolvesNothing, number_limit, numbers_of}
 
--- What is run: statements of a program from a state on, and the source that is echoed for it, whose first line has this number.
+-- What is run: statements of a program from a state on, and the source of the program, of which the lines of a file are echoed, the first with this
+-- number.
 pub record Job : Type 0 where
   pub program : Program Frac
   pub state : State
   pub statements : List (Stmt Frac)
   pub source : List ℕ
+  pub file : List ℕ
   pub line : ℕ
 
--- the job that a source means whose program this is: all statements, from the loaded state on
-abbrev pub job_of : List ℕ → Program Frac → Job
-job_of source program =
-    record { program = program; state = loaded frac_value program; statements = program.statements.items; source = source; line = 1 }
+-- the job of a script whose program this is
+abbrev pub job_of : Script → Program Frac → Job
+job_of script program =
+    record { program = program; state = first_state script.saved program; statements = statements_of script.saved script.line program; source = script.source; file = script.file; line = script.line }
 
 -- the job of the first statements alone
 abbrev pub first_of : ℕ → Job → Job
@@ -76,13 +79,24 @@ abbrev pub shown_by : Job → Solving → List ℕ
 shown_by job solving =
     events_text job.program.names job.program.labels number_limit (numbers_of solving.answers) (all_events (course_of job solving))
 
--- the echo of the source, and what the statements show
+-- the echo of the file, and what the statements show
 abbrev pub body_of : Job → Solving → List ℕ
-body_of job solving = echo_text job.line job.source ++ shown_by job solving
+body_of job solving = echo_text job.line job.file ++ shown_by job solving
 
 -- the listing of a job as far as the answers go: the echo, what the statements show, and the last line
 abbrev pub job_text : Job → Solving → List ℕ
 job_text job solving = body_of job solving ++ last_line (course_of job solving).halted (length solving.answers)
+
+-- ---- its save
+
+-- the name that a save has for the solver of a state: that of the solver, or `none` where there are no solvers
+abbrev pub solver_name : List (List ℕ) → State → List ℕ
+solver_name solvers state = unwrap_or (slice_get solvers state.settings.solver) (codes "none")
+
+-- the save of the last state of a job, over its source
+abbrev pub save_text : Job → Solving → List ℕ
+save_text job solving =
+    saved_text job.source job.program.names (course_of job solving).state (solver_name solving.before.names (course_of job solving).state)
 
 -- ---- where it is cut off
 

@@ -1,5 +1,6 @@
 pub mod Solving
 pub mod Searches
+pub mod Scripts
 pub mod Jobs
 pub mod Listings
 pub mod Statuses

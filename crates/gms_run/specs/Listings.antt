@@ -1,68 +1,139 @@
--- What a source is to solvers of some names: refused, or a job; and its listing.
-use Rattle.std.specs.Prelude.{◌≡◌, ◌≢◌, ℕ, pos, ◌⊎◌, Bool, true, false, ◌++◌, length, List, [], map, sum, codes, option_map, unwrap_or}
+-- What there is to run is to solvers of some names: refused, or a job; its listing, and its save.
+use Rattle.std.specs.Prelude.{◌≡◌, ◌≢◌, ℕ, pos, ◌⊎◌, Bool, true, false, ◌++◌, length, List, [], map, sum, codes, option_map, unwrap_or, Option, None, IfSome}
 use Rattle.std.specs.List.{range_with_len}
 use Rattle.gq_number.specs.Number.{Number, whole}
 use Rattle.gq_frac.specs.declared.frac.Frac.{Frac}
 use Rattle.gq_frac.specs.Frac.{frac_value}
 use Rattle.gms_ast.specs.declared.program.Program.{Program}
 use Rattle.gms_labels.specs.Labels.{place_of}
+use Rattle.gms_parse.specs.declared.fault.SourceError.{SourceError}
+use Rattle.gms_parse.specs.declared.fault.SourceError.TheVariants.{TooLong}
 use Rattle.gms_parse.specs.declared.fault.SourceFault.{SourceFault}
 use Rattle.gms_parse.specs.Outcomes.{IsProgram, IsFault}
-use Rattle.gms_check.specs.CompileErrors.{compile_errors}
+use Rattle.gms_check.specs.declared.error.CompileError.{CompileError}
 use Rattle.gms_store.specs.State.{State, symbol_of, statuses_in, attributes_of}
 use Rattle.gms_event.specs.Events.{Solved}
 use Rattle.lp_core.specs.declared.answer.Answer.{Answer}
 use Rattle.gq_text.specs.Shown.{IsRoundedText}
-use Rattle.gms_list.specs.ListingText.{refused_listing, errors_listing}
-use Rattle.gms_words.specs.CommandLine.{Asked, Origin, in_file, generated, generated_line, closing_line}
+use Rattle.gms_list.specs.ListingText.{compile_errors_text, echo_text, end_text, save_error_text, source_error_text}
+use Rattle.gms_save.specs.declared.fault.SaveFault.{SaveFault}
+use Rattle.gms_save.specs.declared.fault.SaveFault.TheVariants.{SaveShape}
+use Rattle.gms_save.specs.Faults.{fault_code, fault_name}
+use Rattle.gms_words.specs.CommandLine.{Asked, Origin, in_file, restarted, generated, generated_line, closing_line}
 use Rattle.gms_ranges.specs.RangeTexts.{SaysRanges}
 use Rattle.gms_run.specs.declared.status.Status.{Status}
 use Rattle.gms_run.specs.declared.status.Status.TheVariants.{Done, Compile, Execution}
 use Rattle.gms_run.specs.Solving.{Solving, SolvesNothing, number_limit, numbers_of, places_of, programs_of, solves_in}
-use Rattle.gms_run.specs.Jobs.{job_of, course_of, job_text, IsSolved, IsCutOff, HaltsSo, status_code}
+use Rattle.gms_run.specs.Scripts.{Script, Matter, scripted, unrestored, Fits, errors_of}
+use Rattle.gms_run.specs.Jobs.{Job, job_of, course_of, job_text, save_text, IsSolved, IsCutOff, HaltsSo, status_code}
 
--- The source is a program that has no error.
-pub record IsAccepted (solvers : List (List ℕ)) (source : List ℕ) (program : Program Frac) : Type 0 where
-  pub is_program : IsProgram number_limit source frac_value program
-  pub no_error : compile_errors frac_value program solvers ≡ []
+-- ---- what is accepted
+
+-- The source of a script is a program that has no error, and a saved state fits it.
+pub record IsAccepted (solvers : List (List ℕ)) (script : Script) (program : Program Frac) : Type 0 where
+  pub is_program : IsProgram number_limit script.source frac_value program
+  pub no_error : errors_of script.saved script.line program solvers ≡ []
+  pub fits : Fits script.saved program
+
+-- The job of what there is to run, where that is accepted.
+pub record IsJob (solvers : List (List ℕ)) (matter : Matter) (job : Job) : Type 0 where
+  pub script : Script
+  pub to_run : matter ≡ scripted script
+  pub accepted : IsAccepted solvers script job.program
+  pub is_job : job ≡ job_of script job.program
+
+-- ---- what is refused
+
+-- the echo of a script that is refused for an error: one whose source is too long has none
+abbrev pub echo_with : SourceError → Script → List ℕ
+echo_with TooLong script = []
+echo_with error script = echo_text script.line script.file
+
+-- what is listed of a script whose source is no program
+abbrev pub refusal_text : Script → SourceFault → List ℕ
+refusal_text script fault = echo_with fault.error script ++ source_error_text fault
+
+-- what is listed of a script whose program has errors
+abbrev pub errors_text : Script → List CompileError → List ℕ
+errors_text script errors = echo_text script.line script.file ++ compile_errors_text errors
+
+-- what is listed of a save that cannot be restored
+abbrev pub unrestored_text : SaveFault → List ℕ
+unrestored_text fault = save_error_text (fault_code fault) (fault_name fault) (record { line = 1; column = 1 })
+
+-- the listing of what is refused, for which this is listed
+abbrev pub refused_text : List ℕ → List ℕ
+refused_text listed = listed ++ end_text 2 0
 
 -- The source is no program, and the text is the listing that says why, and where.
-pub record ShowsRefusal (source text : List ℕ) : Type 0 where
+pub record ShowsRefusal (script : Script) (text : List ℕ) : Type 0 where
   pub fault : SourceFault
-  pub refused : IsFault number_limit source fault
-  pub listing : text ≡ refused_listing source fault
+  pub refused : IsFault number_limit script.source fault
+  pub listing : text ≡ refused_text (refusal_text script fault)
 
 -- The source is a program with errors, and the text is the listing that has them.
-pub record ShowsErrors (solvers : List (List ℕ)) (source text : List ℕ) : Type 0 where
+pub record ShowsErrors (solvers : List (List ℕ)) (script : Script) (text : List ℕ) : Type 0 where
   pub program : Program Frac
-  pub is_program : IsProgram number_limit source frac_value program
-  pub some : compile_errors frac_value program solvers ≢ []
-  pub listing : text ≡ errors_listing source (compile_errors frac_value program solvers)
+  pub is_program : IsProgram number_limit script.source frac_value program
+  pub some : errors_of script.saved script.line program solvers ≢ []
+  pub listing : text ≡ refused_text (errors_text script (errors_of script.saved script.line program solvers))
 
--- The source is not accepted: the text is the listing that says why, and nothing is solved.
-abbrev pub IsRefused : Solving → List ℕ → List ℕ → Type 0
-IsRefused solving source text = (ShowsRefusal source text ⊎ ShowsErrors solving.before.names source text) × SolvesNothing solving
-
--- The source is accepted, its job was run with these answers, and the text is the listing of that.
-pub record IsExecuted (solving : Solving) (source text : List ℕ) : Type 0 where
+-- The source is a program without errors, and the saved state is none that it can go on from: the text is the listing that says so.
+pub record ShowsMisfit (solvers : List (List ℕ)) (script : Script) (text : List ℕ) : Type 0 where
   pub program : Program Frac
-  pub accepted : IsAccepted solving.before.names source program
-  pub solved : IsSolved (job_of source program) solving
-  pub listing : text ≡ job_text (job_of source program) solving
+  pub is_program : IsProgram number_limit script.source frac_value program
+  pub no_error : errors_of script.saved script.line program solvers ≡ []
+  pub misfit : Fits script.saved program → ⊥
+  pub listing : text ≡ refused_text (unrestored_text SaveShape)
+
+-- the text is the listing that says why there is nothing to run
+abbrev pub ShowsWhy : List (List ℕ) → Matter → List ℕ → Type 0
+ShowsWhy solvers (scripted script) text = ShowsRefusal script text ⊎ (ShowsErrors solvers script text ⊎ ShowsMisfit solvers script text)
+ShowsWhy solvers (unrestored fault) text = text ≡ refused_text (unrestored_text fault)
+
+-- What there is to run is not accepted: the text is the listing that says why, and nothing is solved.
+abbrev pub IsRefused : Solving → Matter → List ℕ → Type 0
+IsRefused solving matter text = ShowsWhy solving.before.names matter text × SolvesNothing solving
+
+-- ---- listings
+
+-- What there is to run is accepted, its job was run with these answers, and the text is the listing of that.
+pub record IsExecuted (solving : Solving) (matter : Matter) (text : List ℕ) : Type 0 where
+  pub job : Job
+  pub is_job : IsJob solving.before.names matter job
+  pub solved : IsSolved job solving
+  pub listing : text ≡ job_text job solving
 
 -- the job halted so that the run ends with this status
-abbrev pub EndsSo : (status : Status) (solving : Solving) (source text : List ℕ) → IsExecuted solving source text → Type 0
-EndsSo status solving source text run = HaltsSo status (course_of (job_of source run.program) solving).halted
+abbrev pub EndsSo : (status : Status) (solving : Solving) (matter : Matter) (text : List ℕ) → IsExecuted solving matter text → Type 0
+EndsSo status solving matter text run = HaltsSo status (course_of run.job solving).halted
 
--- the text is the listing of the source, where a run ends with this status
-abbrev pub IsListing : Status → Solving → List ℕ → List ℕ → Type 0
-IsListing Compile solving source text = IsRefused solving source text
-IsListing status solving source text = (run : IsExecuted solving source text) × EndsSo status solving source text run
+-- the text is the listing of what there is to run, where a run ends with this status
+abbrev pub IsListing : Status → Solving → Matter → List ℕ → Type 0
+IsListing Compile solving matter text = IsRefused solving matter text
+IsListing status solving matter text = (run : IsExecuted solving matter text) × EndsSo status solving matter text run
 
--- The text is due for the source, and so many bytes of it were written and no more.
-abbrev pub IsFront : Solving → List ℕ → List ℕ → ℕ → Type 0
-IsFront solving source text written =
-    IsRefused solving source text ⊎ ((run : IsExecuted solving source text) × IsCutOff (job_of source run.program) solving written)
+-- The text is due for what there is to run, and so many bytes of it were written and no more.
+abbrev pub IsFront : Solving → Matter → List ℕ → ℕ → Type 0
+IsFront solving matter text written =
+    IsRefused solving matter text ⊎ ((run : IsExecuted solving matter text) × IsCutOff run.job solving written)
+
+-- ---- saves
+
+-- The bytes are the save of the last state of the run.
+pub record SavesLast (solving : Solving) (matter : Matter) (bytes : List ℕ) : Type 0 where
+  pub job : Job
+  pub is_job : IsJob solving.before.names matter job
+  pub text : bytes ≡ save_text job solving
+
+-- the file for the last state of a run that ends so, where it is to be saved: every statement was executed, and the words name a file for it
+abbrev pub save_file : Status → Asked → Option (List ℕ)
+save_file Done request = request.save
+save_file status request = None
+
+-- where there is such a file the bytes are the save of the last state
+abbrev pub SavesSo : Status → Solving → Asked → Matter → List ℕ → Type 0
+SavesSo status solving request matter bytes = IfSome (save_file status request) (λ file. SavesLast solving matter bytes)
 
 -- ---- the closing lines
 
@@ -85,52 +156,53 @@ pub record IsModelLine (size : ℕ) (program : Program Frac) (last : State) (ans
   pub rounded : IsRoundedText 3 (objective_level program last) objective
   pub text : line ≡ generated_line size (model_status program last) objective (pivots_of answers)
 
--- The source is the program that was run, and the line tells of that run.
-pub record TellsModel (solving : Solving) (size : ℕ) (source line : List ℕ) : Type 0 where
-  pub program : Program Frac
-  pub is_program : IsProgram number_limit source frac_value program
-  pub told : IsModelLine size program (course_of (job_of source program) solving).state solving.answers line
+-- The line tells of the run of the job.
+pub record TellsModel (solving : Solving) (size : ℕ) (matter : Matter) (line : List ℕ) : Type 0 where
+  pub job : Job
+  pub is_job : IsJob solving.before.names matter job
+  pub told : IsModelLine size job.program (course_of job solving).state solving.answers line
 
 -- what is told of a source that is a generated model: how it came out, where it was run
-abbrev pub TellsSize : Status → Solving → ℕ → List ℕ → List ℕ → Type 0
-TellsSize Done solving size source line = TellsModel solving size source line
-TellsSize Execution solving size source line = TellsModel solving size source line
-TellsSize _ solving size source line = line ≡ []
+abbrev pub TellsSize : Status → Solving → ℕ → Matter → List ℕ → Type 0
+TellsSize Done solving size matter line = TellsModel solving size matter line
+TellsSize Execution solving size matter line = TellsModel solving size matter line
+TellsSize _ solving size matter line = line ≡ []
 
 -- what is said of a run before the closing line: nothing, but of a generated model
-abbrev pub TellsRun : Status → Solving → Origin → List ℕ → List ℕ → Type 0
-TellsRun status solving (in_file file) source line = line ≡ []
-TellsRun status solving (generated size) source line = TellsSize status solving size source line
+abbrev pub TellsRun : Status → Solving → Origin → Matter → List ℕ → Type 0
+TellsRun status solving (in_file file) matter line = line ≡ []
+TellsRun status solving (restarted saved file) matter line = line ≡ []
+TellsRun status solving (generated size) matter line = TellsSize status solving size matter line
 
 -- the solves that a job shows with these answers, in order
-abbrev pub solves_of : Program Frac → Solving → List ℕ → List Solved
-solves_of program solving source = solves_in (course_of (job_of source program) solving).events
+abbrev pub solves_of : Job → Solving → List Solved
+solves_of job solving = solves_in (course_of job solving).events
 
--- The source is the program that was run. Its solves have the answers in order, one each; and the text says, by their linear programs and these
--- answers, how far each right side and each cost of each optimum may move.
-pub record TellsSpans (solving : Solving) (source text : List ℕ) : Type 0 where
-  pub program : Program Frac
-  pub is_program : IsProgram number_limit source frac_value program
-  pub in_order : places_of (solves_of program solving source) ≡ range_with_len 0 (length solving.answers)
-  pub said : SaysRanges program.names program.labels number_limit 1 (programs_of (solves_of program solving source)) (numbers_of solving.answers) text
+-- The solves of the job have the answers in order, one each; and the text says, by their linear programs and these answers, how far each right side
+-- and each cost of each optimum may move.
+pub record TellsSpans (solving : Solving) (matter : Matter) (text : List ℕ) : Type 0 where
+  pub job : Job
+  pub is_job : IsJob solving.before.names matter job
+  pub in_order : places_of (solves_of job solving) ≡ range_with_len 0 (length solving.answers)
+  pub said : SaysRanges job.program.names job.program.labels number_limit 1 (programs_of (solves_of job solving)) (numbers_of solving.answers) text
 
--- what is said of the ranges of a source that was run; of one that was not, nothing
-abbrev pub TellsRangesOf : Status → Solving → List ℕ → List ℕ → Type 0
-TellsRangesOf Done solving source text = TellsSpans solving source text
-TellsRangesOf Execution solving source text = TellsSpans solving source text
-TellsRangesOf _ solving source text = text ≡ []
+-- what is said of the ranges of what was run; of what was not, nothing
+abbrev pub TellsRangesOf : Status → Solving → Matter → List ℕ → Type 0
+TellsRangesOf Done solving matter text = TellsSpans solving matter text
+TellsRangesOf Execution solving matter text = TellsSpans solving matter text
+TellsRangesOf _ solving matter text = text ≡ []
 
 -- what is said of ranges, where they are asked for
-abbrev pub TellsRanges : Bool → Status → Solving → List ℕ → List ℕ → Type 0
-TellsRanges true status solving source text = TellsRangesOf status solving source text
-TellsRanges false status solving source text = text ≡ []
+abbrev pub TellsRanges : Bool → Status → Solving → Matter → List ℕ → Type 0
+TellsRanges true status solving matter text = TellsRangesOf status solving matter text
+TellsRanges false status solving matter text = text ≡ []
 
 -- the remarks on a run, which are said before the closing line: its ranges, and what is told of a generated model
-abbrev pub AreRemarks : Status → Solving → Asked → List ℕ → List ℕ → Type 0
-AreRemarks status solving request source remarks =
-    (ranges line : List ℕ) × TellsRanges request.ranges status solving source ranges × TellsRun status solving request.source source line × (remarks ≡ ranges ++ line)
+abbrev pub AreRemarks : Status → Solving → Asked → Matter → List ℕ → Type 0
+AreRemarks status solving request matter remarks =
+    (ranges line : List ℕ) × TellsRanges request.ranges status solving matter ranges × TellsRun status solving request.source matter line × (remarks ≡ ranges ++ line)
 
--- what is said at the end of a run of a source whose listing was written: the remarks on the run, and the closing line
-abbrev pub AreClosing : Status → Solving → Asked → List ℕ → List ℕ → Type 0
-AreClosing status solving request source lines =
-    (remarks : List ℕ) × AreRemarks status solving request source remarks × (lines ≡ remarks ++ closing_line (status_code status) (length solving.answers) request.output)
+-- what is said at the end of a run whose listing was written: the remarks on the run, and the closing line
+abbrev pub AreClosing : Status → Solving → Asked → Matter → List ℕ → Type 0
+AreClosing status solving request matter lines =
+    (remarks : List ℕ) × AreRemarks status solving request matter remarks × (lines ≡ remarks ++ closing_line (status_code status) (length solving.answers) request.output)

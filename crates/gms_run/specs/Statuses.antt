@@ -1,5 +1,5 @@
--- What a run did, by the status with which it ends: its source, its answers, and what stands outside.
-use Rattle.std.specs.Prelude.{◌≡◌, ℕ, ◌+◌, ◌⊎◌, true, false, List, [], ◌∷◌, drop, length, Some, None, option_map, IfSome}
+-- What a run did, by the status with which it ends: what it ran, its answers, and what stands outside.
+use Rattle.std.specs.Prelude.{◌≡◌, ℕ, ◌+◌, ◌≤◌, ◌⊎◌, true, false, List, [], ◌∷◌, drop, length, Option, Some, None, option_map, IfSome}
 use Rattle.std.specs.FinMap as files_map
 use Rattle.gq_frac.specs.declared.frac.Frac.{Frac}
 use Rattle.gq_frac.specs.Frac.{frac_value}
@@ -9,27 +9,49 @@ use Rattle.gms_host.specs.Spooling.{SaysFront, WritesFront}
 use Rattle.gms_ast.specs.declared.program.Program.{Program}
 use Rattle.gms_lex.specs.Tokens.{most_bytes}
 use Rattle.gms_parse.specs.Outcomes.{IsProgram}
-use Rattle.gms_check.specs.CompileErrors.{compile_errors}
 use Rattle.gms_gen.specs.Generator.{model_text}
-use Rattle.gms_words.specs.CommandLine.{Asked, Origin, in_file, generated, request_of, usage_line, read_fault_line}
+use Rattle.gms_store.specs.State.{State}
+use Rattle.gms_saved.specs.SavedState.{saved_text}
+use Rattle.gms_save.specs.declared.saved.Saved.{Saved}
+use Rattle.gms_save.specs.Saves.{most_bytes as most_save_bytes, IsRestored, IsUnfit, LacksSolver}
+use Rattle.gms_words.specs.CommandLine.{Asked, Origin, in_file, restarted, generated, request_of, usage_line, read_fault_line}
 use Rattle.gms_run.specs.declared.status.Status.{Status}
 use Rattle.gms_run.specs.declared.status.Status.TheVariants.{Done, Usage, Compile, Execution, ReadFault, WriteFault}
 use Rattle.gms_run.specs.Solving.{Solving, SolvesNothing, number_limit}
-use Rattle.gms_run.specs.Listings.{IsListing, IsFront, AreClosing}
+use Rattle.gms_run.specs.Scripts.{Script, Matter, Taken, from_start, from_save, script_of, joint_script, errors_of, Fits, IsMatter}
+use Rattle.gms_run.specs.Listings.{IsListing, IsFront, AreClosing, SavesLast, SavesSo, save_file}
 
--- ---- the source
+-- ---- what is taken
 
--- the source of an origin: that of a file is what the host has at its name, where it tells its files
-abbrev pub IsSource : Outside → Origin → List ℕ → Type 0
-IsSource o (in_file file) source = IfSome o.files (λ files. files_map.get files file ≡ Some source)
-IsSource o (generated size) source = source ≡ model_text size size size
+-- the bytes of the file of a name, where the host tells its files
+abbrev pub IsFileOf : Outside → List ℕ → List ℕ → Type 0
+IsFileOf o file bytes = IfSome o.files (λ files. files_map.get files file ≡ Some bytes)
 
--- what stands outside behind a source that was taken: its file was asked for, and no more was taken off the input than one byte more than a source
--- may have; for a generated model nothing is done
-abbrev pub with_source : Outside → Origin → List ℕ → Outside
-with_source o (in_file file) source =
-    record (with_asked o (file ∷ [])) { input = option_map (λ _. drop (most_bytes + 1) source) o.input; reading = true }
-with_source o (generated size) source = o
+-- what is taken of an origin: the bytes of a file, or of a save and a file, or the text of a generated model
+abbrev pub IsTaken : Outside → Origin → Taken → Type 0
+IsTaken o (in_file file) (from_start source) = IsFileOf o file source
+IsTaken o (restarted saved file) (from_save save source) = IsFileOf o saved save × IsFileOf o file source
+IsTaken o (generated size) (from_start source) = source ≡ model_text size size size
+IsTaken o origin taken = ⊥
+
+-- what stands outside behind a file that was read: its name was asked for, and no more than so many of its bytes were taken off the input
+abbrev pub with_read : ℕ → Outside → List ℕ → List ℕ → Outside
+with_read most o file bytes =
+    record (with_asked o (file ∷ [])) { input = option_map (λ _. drop most bytes) o.input; reading = true }
+
+-- the same behind a source: one byte more is taken than it may have
+abbrev pub with_source : Outside → List ℕ → List ℕ → Outside
+with_source o file source = with_read (most_bytes + 1) o file source
+
+-- and behind a save: one byte more is taken than it may have
+abbrev pub with_saved : Outside → List ℕ → List ℕ → Outside
+with_saved o file save = with_read (most_save_bytes + 1) o file save
+
+-- what stands outside behind what was taken: a save is read before the file that goes on from it, and for a generated model nothing is done
+abbrev pub with_taken : Outside → Origin → Taken → Outside
+with_taken o (in_file file) (from_start source) = with_source o file source
+with_taken o (restarted saved file) (from_save save source) = with_source (with_saved o saved save) file source
+with_taken o origin taken = o
 
 -- ---- what is said of no run
 
@@ -43,79 +65,126 @@ abbrev pub IsUnread : Outside → Outside → List ℕ → Type 0
 IsUnread old new file =
     (new ≡ record old { input = new.input; reading = new.reading }) ⊎ (new ≡ record (with_asked old (file ∷ [])) { input = new.input; reading = new.reading })
 
--- The source is in a file that could not be read, and the line that says so is said.
+-- the file of a name is one of an origin that could not be read, where those before it were read
+abbrev pub IsUnreadOf : Outside → Outside → Origin → List ℕ → Type 0
+IsUnreadOf old new (in_file file) name = (name ≡ file) × IsUnread old new file
+IsUnreadOf old new (restarted saved file) name =
+    ((name ≡ saved) × IsUnread old new saved) ⊎ ((name ≡ file) × ((save : List ℕ) × (IsFileOf old saved save × IsUnread (with_saved old saved save) new file)))
+IsUnreadOf old new (generated size) name = ⊥
+
+-- A file could not be read, and the line that says so is said.
 pub record IsReadFault (old new : Meaning) (request : Asked) : Type 0 where
   pub file : List ℕ
-  pub in_it : request.source ≡ in_file file
   pub before : Outside
-  pub unread : IsUnread old.outside before file
+  pub unread : IsUnreadOf old.outside before request.source file
   pub said : SaysLine old new before (read_fault_line file)
 
--- ---- reports
+-- ---- files that are written
 
 -- the output of a name has been opened, and this is in it
 abbrev pub with_listing : Outside → List ℕ → List ℕ → Outside
 with_listing o output text = with_output (with_opened o output) text
 
--- the output has been opened, this was written to it, it has been closed, and these lines were said
-abbrev pub with_report : Outside → List ℕ → List ℕ → List ℕ → Outside
-with_report o output text lines = with_said (with_kept (with_listing o output text)) lines
+-- this was written to the output of a name, which is closed and kept
+abbrev pub with_file : Outside → List ℕ → List ℕ → Outside
+with_file o output text = with_kept (with_listing o output text)
 
--- The listing of the source was written to the output that is asked for, which is closed and kept, and behind that the closing lines were said.
-pub record IsReported (status : Status) (solving : Solving) (old new : Outside) (request : Asked) (source : List ℕ) : Type 0 where
+-- the output of a name could not be opened: it is empty, and its name was asked for or not
+abbrev pub IsUnopenedFile : Outside → Outside → List ℕ → Type 0
+IsUnopenedFile old new name = (new ≡ with_emptied old false) ⊎ (new ≡ with_asked (with_emptied old false) (name ∷ []))
+
+-- these bytes were not written to the output of a name, or it was not closed well: how far that came
+abbrev pub IsUnwrittenFile : Outside → Outside → List ℕ → List ℕ → Type 0
+IsUnwrittenFile old new name bytes =
+    IsUnopenedFile old new name ⊎ (WritesFront (with_opened old name) new bytes ⊎ (new ≡ record (with_listing old name bytes) { writing = false }))
+
+-- these bytes were written to the file of a name, where there is one
+abbrev pub with_save : Outside → Option (List ℕ) → List ℕ → Outside
+with_save o None bytes = o
+with_save o (Some name) bytes = with_file o name bytes
+
+-- ---- reports
+
+-- the listing has been written to the output, which is closed and kept, then the save to its file, where there is one, and these lines were said
+abbrev pub with_report : Outside → List ℕ → List ℕ → Option (List ℕ) → List ℕ → List ℕ → Outside
+with_report o output text name bytes lines = with_said (with_save (with_file o output text) name bytes) lines
+
+-- The listing of what there is to run was written to the output that is asked for, which is closed and kept, behind that the last state was saved,
+-- where it is to be, and behind that the closing lines were said.
+pub record IsReported (status : Status) (solving : Solving) (old new : Outside) (request : Asked) (matter : Matter) : Type 0 where
   pub text : List ℕ
-  pub listing : IsListing status solving source text
+  pub listing : IsListing status solving matter text
+  pub save : List ℕ
+  pub saves : SavesSo status solving request matter save
   pub lines : List ℕ
-  pub closing : AreClosing status solving request source lines
-  pub outside : new ≡ with_report old request.output text lines
+  pub closing : AreClosing status solving request matter lines
+  pub outside : new ≡ with_report old request.output text (save_file status request) save lines
 
 -- The output could not be opened: it is empty, its name was asked for or not, and nothing was solved.
 pub record IsUnopened (solving : Solving) (old new : Outside) (request : Asked) : Type 0 where
   pub none : SolvesNothing solving
-  pub outside : (new ≡ with_emptied old false) ⊎ (new ≡ with_asked (with_emptied old false) (request.output ∷ []))
+  pub outside : IsUnopenedFile old new request.output
 
--- The front of the text that is due for a source was written to the opened output.
-pub record IsUnwritten (solving : Solving) (opened new : Outside) (source : List ℕ) : Type 0 where
+-- The front of the text that is due was written to the opened output.
+pub record IsUnwritten (solving : Solving) (opened new : Outside) (matter : Matter) : Type 0 where
   pub text : List ℕ
   pub front : WritesFront opened new text
-  pub due : IsFront solving source text (length front.1.bytes)
+  pub due : IsFront solving matter text (length front.1.bytes)
 
 -- The whole listing was written, but the output was not closed well.
-pub record IsUnclosed (solving : Solving) (old new : Outside) (request : Asked) (source : List ℕ) : Type 0 where
+pub record IsUnclosed (solving : Solving) (old new : Outside) (request : Asked) (matter : Matter) : Type 0 where
   pub status : Status
   pub text : List ℕ
-  pub listing : IsListing status solving source text
+  pub listing : IsListing status solving matter text
   pub outside : new ≡ record (with_listing old request.output text) { writing = false }
 
--- The whole listing was written, its output is closed and kept, and the front of the closing lines was said.
-pub record IsUnsaid (solving : Solving) (old new : Outside) (request : Asked) (source : List ℕ) : Type 0 where
+-- The whole listing was written, its output is closed and kept, and the save of the last state was not written to its file, or that was not closed
+-- well.
+pub record IsUnsaved (solving : Solving) (old new : Outside) (request : Asked) (matter : Matter) : Type 0 where
   pub status : Status
   pub text : List ℕ
-  pub listing : IsListing status solving source text
+  pub listing : IsListing status solving matter text
+  pub name : List ℕ
+  pub named : save_file status request ≡ Some name
+  pub save : List ℕ
+  pub saves : SavesLast solving matter save
+  pub outside : IsUnwrittenFile (with_file old request.output text) new name save
+
+-- The whole listing was written, its output is closed and kept, the last state was saved, where it is to be, and the front of the closing lines was
+-- said.
+pub record IsUnsaid (solving : Solving) (old new : Outside) (request : Asked) (matter : Matter) : Type 0 where
+  pub status : Status
+  pub text : List ℕ
+  pub listing : IsListing status solving matter text
+  pub save : List ℕ
+  pub saves : SavesSo status solving request matter save
   pub lines : List ℕ
-  pub closing : AreClosing status solving request source lines
-  pub front : SaysFront (with_kept (with_listing old request.output text)) new lines
+  pub closing : AreClosing status solving request matter lines
+  pub front : SaysFront (with_save (with_file old request.output text) (save_file status request) save) new lines
 
--- what a run of a source did that could not write: how far it came
-abbrev pub IsWriteFault : Solving → Outside → Outside → Asked → List ℕ → Type 0
-IsWriteFault solving old new request source =
-    IsUnopened solving old new request ⊎ (IsUnwritten solving (with_opened old request.output) new source ⊎ (IsUnclosed solving old new request source ⊎ IsUnsaid solving old new request source))
+-- what a run did that could not write: how far it came
+abbrev pub IsWriteFault : Solving → Outside → Outside → Asked → Matter → Type 0
+IsWriteFault solving old new request matter =
+    IsUnopened solving old new request
+    ⊎ (IsUnwritten solving (with_opened old request.output) new matter ⊎ (IsUnclosed solving old new request matter ⊎ (IsUnsaved solving old new request matter ⊎ IsUnsaid solving old new request matter)))
 
--- what a run of a source that was taken did
-abbrev pub RanSo : Status → Solving → Outside → Outside → Asked → List ℕ → Type 0
-RanSo Done solving old new request source = IsReported Done solving old new request source
-RanSo Compile solving old new request source = IsReported Compile solving old new request source
-RanSo Execution solving old new request source = IsReported Execution solving old new request source
-RanSo WriteFault solving old new request source = IsWriteFault solving old new request source
-RanSo _ solving old new request source = ⊥
+-- what a run did of what there was to run
+abbrev pub RanSo : Status → Solving → Outside → Outside → Asked → Matter → Type 0
+RanSo Done solving old new request matter = IsReported Done solving old new request matter
+RanSo Compile solving old new request matter = IsReported Compile solving old new request matter
+RanSo Execution solving old new request matter = IsReported Execution solving old new request matter
+RanSo WriteFault solving old new request matter = IsWriteFault solving old new request matter
+RanSo _ solving old new request matter = ⊥
 
 -- ---- the statuses
 
--- The source was taken, and run: there is one, whatever the host tells.
+-- What is asked for was taken, and run: there is some, whatever the host tells.
 pub record IsRunOf (status : Status) (solving : Solving) (old new : Outside) (request : Asked) : Type 0 where
-  pub source : List ℕ
-  pub is_source : IsSource old request.source source
-  pub ran : RanSo status solving (with_source old request.source source) new request source
+  pub taken : Taken
+  pub is_taken : IsTaken old request.source taken
+  pub matter : Matter
+  pub is_matter : IsMatter solving.before.names taken matter
+  pub ran : RanSo status solving (with_taken old request.source taken) new request matter
 
 -- what a run did that ends so, for what the words ask for
 abbrev pub OfRequest : Status → Solving → Meaning → Meaning → Asked → Type 0
@@ -142,32 +211,61 @@ EndsByNoFault ReadFault = ⊥
 EndsByNoFault WriteFault = ⊥
 EndsByNoFault status = Unit {0}
 
--- the file of a source is there, where the host tells its files
+-- the files of an origin are there, where the host tells its files
 abbrev pub HasOrigin : Outside → Origin → Type 0
 HasOrigin o (in_file file) = IsThere o file
+HasOrigin o (restarted saved file) = IsThere o saved × IsThere o file
 HasOrigin o (generated size) = Unit {0}
 
--- The host is reliable, and the file that the words name, where they name one, is there where the host tells its files.
+-- The host is reliable, and the files that the words name to be read are there where the host tells its files.
 pub record IsReadyFor (old : Meaning) (words : List (List ℕ)) : Type 0 where
   pub reliable : old.counts.reliable ≡ true
   pub there : IfSome (request_of words) (λ request. HasOrigin old.outside request.source)
 
 -- ---- completeness
 
--- a text is the source of an origin: the text of a generated model, or the bytes of a file of a host that tells its files
-abbrev pub IsSourceOf : Outside → Origin → List ℕ → Type 0
-IsSourceOf o (in_file file) source = (files : Files) × (o.files ≡ Some files) × (files_map.get files file ≡ Some source)
-IsSourceOf o (generated size) source = source ≡ model_text size size size
+-- the bytes of the file of a name, of a host that tells its files
+abbrev pub HasFile : Outside → List ℕ → List ℕ → Type 0
+HasFile o file bytes = (files : Files) × (o.files ≡ Some files) × (files_map.get files file ≡ Some bytes)
 
--- The words name a source whose text is a program that has no error.
+-- this is what an origin gives: the bytes of files of a host that tells them, or the text of a generated model
+abbrev pub Gives : Outside → Origin → Taken → Type 0
+Gives o (in_file file) (from_start source) = HasFile o file source
+Gives o (restarted saved file) (from_save save source) = HasFile o saved save × HasFile o file source
+Gives o (generated size) (from_start source) = source ≡ model_text size size size
+Gives o origin taken = ⊥
+
+-- The source of a script is a program, and none that it is has an error, or is one that a saved state does not fit.
+pub record IsGood (solvers : List (List ℕ)) (script : Script) : Type 0 where
+  pub program : Program Frac
+  pub is_program : IsProgram number_limit script.source frac_value program
+  pub no_error : (program : Program Frac) → IsProgram number_limit script.source frac_value program → errors_of script.saved script.line program solvers ≡ []
+  pub fits : (program : Program Frac) → IsProgram number_limit script.source frac_value program → Fits script.saved program
+
+-- A save can be restored: it is not too long, it is the text of a saved state that no source is unfit for, and the solver that it names is there.
+pub record IsGoodSave (solvers : List (List ℕ)) (save : List ℕ) : Type 0 where
+  pub short : length save ≤ most_save_bytes
+  pub source : List ℕ
+  pub names : List (List ℕ)
+  pub state : State
+  pub solver : List ℕ
+  pub text : save ≡ saved_text source names state solver
+  pub fit : IsUnfit source names state solver → ⊥
+  pub placed : LacksSolver solvers save → ⊥
+
+-- what is taken can be run: it is a program without errors, and where it goes on from a save, that can be restored
+abbrev pub CanRun : List (List ℕ) → Taken → Type 0
+CanRun solvers (from_start source) = IsGood solvers (script_of source)
+CanRun solvers (from_save save file) =
+    IsGoodSave solvers save × ((saved : Saved) → IsRestored solvers save saved → IsGood solvers (joint_script saved.source.items saved.store file))
+
+-- The words name what can be run.
 pub record NamesProgram (solvers : List (List ℕ)) (old : Outside) (words : List (List ℕ)) : Type 0 where
   pub request : Asked
   pub named : request_of words ≡ Some request
-  pub source : List ℕ
-  pub found : IsSourceOf old request.source source
-  pub program : Program Frac
-  pub is_program : IsProgram number_limit source frac_value program
-  pub no_error : (program : Program Frac) → IsProgram number_limit source frac_value program → compile_errors frac_value program solvers ≡ []
+  pub taken : Taken
+  pub found : Gives old request.source taken
+  pub can_run : CanRun solvers taken
 
 -- no fault was met: the host is reliable, or neither count of faults rose
 abbrev pub MeetsNoFault : Counts → Counts → Type 0

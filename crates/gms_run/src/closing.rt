@@ -1,27 +1,84 @@
-//! What is said at the end of a run: the remarks on it, and the closing line.
-ghost use Rattle.std.specs.Prelude.{◌≡◌, ◌++◌, IfOk, OnOk, string_bytes};
+//! What is done at the end of a run: the remarks on it are said, its last state is saved, and the closing line is said.
+ghost use Rattle.std.specs.Prelude.{◌≡◌, ◌++◌, [], codes, map, option_map, slice_get, unwrap_or, IfOk, OnOk, string_bytes};
 ghost use Rattle.gq_frac.specs.Frac.{frac_value};
 ghost use Rattle.gms_ranges.specs.Answered.{AreAnswered};
 ghost use Rattle.gms_words.specs.CommandLine.{asked_by, closing_line, origin};
-ghost use Rattle.gms_run.specs.InnerReports.{IsRanged, IsRemarked, IsTold};
-ghost use Rattle.gms_run.specs.Jobs.{status_code};
-ghost use Rattle.gms_run.specs.Listings.{IsModelLine, model_status, objective_level, pivots_of};
+ghost use Rattle.gms_host.specs.Rules.{CountsWriting};
+ghost use Rattle.gms_run.specs.InnerReports.{IsRanged, IsRemarked, IsSave, IsTold, LosesSave, WritesSave};
+ghost use Rattle.gms_run.specs.InnerSteps.{ComesTo};
+ghost use Rattle.gms_run.specs.Jobs.{solver_name, status_code};
+ghost use Rattle.gms_run.specs.Listings.{IsModelLine, model_status, objective_level, pivots_of, save_file};
 ghost use Rattle.gms_run.specs.Solving.{number_limit};
 
 use crate::execution::Run;
 use crate::status::Status;
+use crate::transfer::write_file;
 use gms_ast::Program;
+use gms_host::{Failed, Host};
 use gms_ranges::ranges_text;
+use gms_save::save;
 use gms_tuple::Tuple;
 use gms_words::{Request, Source, closing_line, generated_line};
 use gq_field::ExactField;
 use gq_frac::Frac;
 use gq_text::{Digits, put_rounded};
 use lp_core::Answer;
+use lp_slot::LpSolver;
 use std::alloc::{AllocError, Global};
 
 /// With how many decimals the level of an objective is said.
 const DECIMALS: u8 = 3;
+
+/// What a save names where there are no solvers.
+const NO_SOLVER: &str = "none";
+
+/// What is to be done behind a listing.
+#[derive(Drop)]
+pub(crate) struct Sequel {
+    /// The remarks on the run, which are said.
+    pub(crate) remarks: String,
+    /// The save of its last state, where that is to be saved.
+    pub(crate) save: Vec<u8>,
+}
+
+impl Sequel {
+    /// Nothing to be done yet.
+    pub(crate) fn new(alloc: Global) -> Sequel
+        ensures { string_bytes result.remarks ≡ [] }
+    {
+        Sequel {
+            remarks: String::new(alloc),
+            save: Vec::new(alloc),
+        }
+    }
+}
+
+/// The file for the last state of a run that ends so, where a request asks for one.
+fn save_file<'a>(status: Status, request: Request<'a>) -> Option<&'a str>
+    ensures { option_map (λ file. file.now) result ≡ save_file status (asked_by request.entry) }
+{
+    match status {
+        Status::Done => request.save,
+        _ => None,
+    }
+}
+
+/// The name that a solver gives itself.
+fn own_name(solver: &Box<dyn LpSolver>) -> &str
+    ensures { result.now ≡ name solver.now }
+{
+    solver.name()
+}
+
+/// The name that a save has for the solver of a place.
+fn solver_name(solvers: &[Box<dyn LpSolver>], place: u32) -> &str
+    ensures { result.now ≡ unwrap_or (slice_get (map name solvers.now) place) (codes "none") }
+{
+    match solvers.get(place as usize) {
+        Some(solver) => own_name(solver),
+        None => NO_SOLVER,
+    }
+}
 
 /// How many pivots the answers have in all.
 fn pivots_of(answers: &[Answer<Frac>]) -> u128
@@ -88,7 +145,7 @@ impl Run {
     {
         match source {
             Source::Generate(size) => self.model_line(alloc, size, program, answers),
-            Source::File(_) => Ok(String::new(alloc)),
+            Source::File(_) | Source::Restart { .. } => Ok(String::new(alloc)),
         }
     }
 
@@ -125,6 +182,41 @@ impl Run {
         let line = self.told(alloc, request.source, program, answers)?;
         text.push_str(line.as_str())?;
         Ok(text)
+    }
+
+    /// The save of the state over a source, where a run that ends so is to be saved; else nothing.
+    pub(crate) fn saved(
+        &self,
+        alloc: Global,
+        status: Status,
+        request: Request,
+        source: &[u8],
+        program: &Program<Frac>,
+        solvers: &[Box<dyn LpSolver>],
+    ) -> Result<Vec<u8>, AllocError>
+        ensures { IfOk result (λ bytes. IsSave status (asked_by request.entry) (map name solvers.now) source.now program.now self.now.store bytes.items) }
+    {
+        if save_file(status, request).is_none() {
+            return Ok(Vec::new(alloc));
+        }
+        let solver = solver_name(solvers, self.store.settings().solver);
+        save(alloc, source, program, &self.store, solver)
+    }
+}
+
+/// Writes the save of a run that ends so to its file, where it has one.
+pub(crate) fn write_save<H: Host>(
+    host: &mut H,
+    status: Status,
+    request: Request,
+    bytes: &[u8],
+) -> Result<(), Failed>
+    ensures outside { ComesTo result (λ done. WritesSave status (asked_by request.entry) (H.meaning host.old).outside (H.meaning host.new).outside bytes.now) (LosesSave status (asked_by request.entry) (H.meaning host.old).outside (H.meaning host.new).outside bytes.now) }
+    ensures counts { CountsWriting result (H.meaning host.old).counts (H.meaning host.new).counts }
+{
+    match save_file(status, request) {
+        Some(file) => write_file(host, file, bytes),
+        None => Ok(()),
     }
 }
 

@@ -7,21 +7,23 @@ ghost use Rattle.gms_exec.specs.Dimensions.{AreOneDimensional};
 ghost use Rattle.gms_exec.specs.Run.{of_statement};
 ghost use Rattle.gms_exec.specs.Stepping.{AreKept};
 ghost use Rattle.gms_list.specs.Conditions.{IsListable};
-ghost use Rattle.gms_list.specs.ListingText.{events_text};
-ghost use Rattle.gms_check.specs.CompileErrors.{compile_errors};
+ghost use Rattle.gms_list.specs.ListingText.{echo_text, events_text};
 ghost use Rattle.gms_host.specs.Rules.{CountsWriting};
-ghost use Rattle.gms_parse.specs.Outcomes.{IsProgram};
+ghost use Rattle.gms_host.specs.Spooling.{Passes, WritesFront};
 ghost use Rattle.gms_words.specs.CommandLine.{asked_by};
-ghost use Rattle.gms_run.specs.InnerReports.{IsRemarked, Prepares};
+ghost use Rattle.gms_run.specs.InnerReports.{Follows, IsRemarked, IsSave, IsSound, Prepares, script_in};
 ghost use Rattle.gms_run.specs.InnerSteps.{BreaksBehind, ComesTo, EndsBehind, IsListed, between, programs_in, work};
-ghost use Rattle.gms_run.specs.Listings.{AreRemarks};
+ghost use Rattle.gms_run.specs.Listings.{IsAccepted};
+ghost use Rattle.gms_run.specs.Scripts.{first_state, scripted, statements_of};
 ghost use Rattle.gms_run.specs.Solving.{number_limit, numbers_of, solving};
 ghost use Rattle.gms_run.specs.Statuses.{IsUnwritten};
 
+use crate::closing::Sequel;
 use crate::outlet::Outlet;
+use crate::restart::statements_of;
+use crate::script::Script;
 use crate::status::Status;
 use gms_ast::{Program, Stmt};
-use gms_check::load;
 use gms_eval::{Binding, StopOrMemory};
 use gms_event::Event;
 use gms_exec::step;
@@ -143,13 +145,13 @@ fn statement(
     }
 }
 
-/// Executes the statements of a program from its first state on. What a statement shows goes out before the next one is executed; after a
-/// failed write none is.
+/// Executes statements of a program from a state on. What a statement shows goes out before the next one is executed; after a failed write none is.
 fn statements<H: Host>(
     alloc: Global,
     host: &mut H,
     store: &mut Store<Frac>,
     program: &Program<Frac>,
+    list: &[Stmt<Frac>],
     solvers: &mut Vec<Box<dyn LpSolver>>,
     answers: &mut Vec<Answer<Frac>>,
     solved: &mut Vec<Lp<Frac>>,
@@ -162,11 +164,11 @@ fn statements<H: Host>(
     requires none { answers.old.items ≡ [] }
     requires unsolved { solved.old.items ≡ [] }
     requires room { length (outlet.old.spool ++ outlet.old.listing) ≤ 4096 }
-    ensures outside { ComesTo result (λ status. EndsBehind status (work program.now store.old program.now.statements.items) (solving name rule paths solvers.old.items solvers.new.items answers.new.items) store.new solved.new.items (H.meaning host.old).outside (H.meaning host.new).outside (outlet.old.spool ++ outlet.old.listing) (outlet.new.spool ++ outlet.new.listing))
-        (BreaksBehind (work program.now store.old program.now.statements.items) (solving name rule paths solvers.old.items solvers.new.items answers.new.items) (H.meaning host.old).outside (H.meaning host.new).outside (outlet.old.spool ++ outlet.old.listing)) }
+    ensures outside { ComesTo result (λ status. EndsBehind status (work program.now store.old list.now) (solving name rule paths solvers.old.items solvers.new.items answers.new.items) store.new solved.new.items (H.meaning host.old).outside (H.meaning host.new).outside (outlet.old.spool ++ outlet.old.listing) (outlet.new.spool ++ outlet.new.listing))
+        (BreaksBehind (work program.now store.old list.now) (solving name rule paths solvers.old.items solvers.new.items answers.new.items) (H.meaning host.old).outside (H.meaning host.new).outside (outlet.old.spool ++ outlet.old.listing)) }
     ensures counts { CountsWriting result (H.meaning host.old).counts (H.meaning host.new).counts }
 {
-    for s in &program.statements {
+    for s in list {
         let listing = &mut outlet.listing;
         let goes_on = statement(alloc, store, program, s, solvers, answers, solved, listing)?;
         outlet.pass(host)?;
@@ -178,17 +180,18 @@ fn statements<H: Host>(
 }
 
 impl Run {
-    /// Executes the statements of a program from its first state on, and makes the remarks on the run.
+    /// Executes the statements of a script's program that are run, and makes ready what is to be done behind their listing.
     fn to_end<H: Host>(
         &mut self,
         alloc: Global,
         host: &mut H,
         request: Request,
+        script: Script,
         program: &Program<Frac>,
         solvers: &mut Vec<Box<dyn LpSolver>>,
         answers: &mut Vec<Answer<Frac>>,
         outlet: &mut Outlet,
-        remarks: &mut String,
+        sequel: &mut Sequel,
     ) -> Result<Status, Failed>
         requires open { (H.meaning host.old).outside.writing ≡ true }
         requires few { length solvers.old.items < 2 ^ 32 }
@@ -197,9 +200,10 @@ impl Run {
         requires none { answers.old.items ≡ [] }
         requires unsolved { self.old.solved.items ≡ [] }
         requires room { length (outlet.old.spool ++ outlet.old.listing) ≤ 4096 }
-        ensures outside { ComesTo result (λ status. EndsBehind status (work program.now self.old.store program.now.statements.items) (solving name rule paths solvers.old.items solvers.new.items answers.new.items) self.new.store self.new.solved.items (H.meaning host.old).outside (H.meaning host.new).outside (outlet.old.spool ++ outlet.old.listing) (outlet.new.spool ++ outlet.new.listing))
-            (BreaksBehind (work program.now self.old.store program.now.statements.items) (solving name rule paths solvers.old.items solvers.new.items answers.new.items) (H.meaning host.old).outside (H.meaning host.new).outside (outlet.old.spool ++ outlet.old.listing)) }
-        ensures told { IfOk result (λ status. IsRemarked (asked_by request.entry) program.now self.new.store self.new.solved.items answers.new.items (string_bytes remarks.new)) }
+        ensures outside { ComesTo result (λ status. EndsBehind status (work program.now self.old.store (statements_of (script_in script.entry).saved script.entry.line program.now)) (solving name rule paths solvers.old.items solvers.new.items answers.new.items) self.new.store self.new.solved.items (H.meaning host.old).outside (H.meaning host.new).outside (outlet.old.spool ++ outlet.old.listing) (outlet.new.spool ++ outlet.new.listing))
+            (BreaksBehind (work program.now self.old.store (statements_of (script_in script.entry).saved script.entry.line program.now)) (solving name rule paths solvers.old.items solvers.new.items answers.new.items) (H.meaning host.old).outside (H.meaning host.new).outside (outlet.old.spool ++ outlet.old.listing)) }
+        ensures told { IfOk result (λ status. IsRemarked (asked_by request.entry) program.now self.new.store self.new.solved.items answers.new.items (string_bytes sequel.new.remarks)) }
+        ensures saved { IfOk result (λ status. IsSave status (asked_by request.entry) (map name solvers.new.items) script.entry.source.now program.now self.new.store sequel.new.save.items) }
         ensures counts { CountsWriting result (H.meaning host.old).counts (H.meaning host.new).counts }
     {
         let status = statements(
@@ -207,6 +211,7 @@ impl Run {
             host,
             &mut self.store,
             program,
+            statements_of(script, program),
             solvers,
             answers,
             &mut self.solved,
@@ -214,40 +219,61 @@ impl Run {
         )?;
         let given = answers.as_slice();
         let text = self.remark(alloc, request, program, given)?;
-        *remarks = text;
+        let source = script.source;
+        let save = self.saved(alloc, status, request, source, program, solvers.as_slice())?;
+        sequel.remarks = text;
+        sequel.save = save;
         Ok(status)
     }
 }
 
-/// Executes an accepted program from its first state on, behind the echo of its source. What a statement shows goes out before the next one is
-/// executed; after a failed write none is. At its end the remarks on the run are made.
+/// Lists the echo of a script, which goes out.
+fn pass_echo<H: Host>(
+    alloc: Global,
+    host: &mut H,
+    script: Script,
+    outlet: &mut Outlet,
+) -> Result<(), Failed>
+    requires open { (H.meaning host.old).outside.writing ≡ true }
+    requires empty { outlet.old.spool ++ outlet.old.listing ≡ [] }
+    ensures outside { ComesTo result (λ _. Passes (H.meaning host.old).outside (H.meaning host.new).outside (echo_text script.entry.line script.entry.file.now) outlet.new.spool) (WritesFront (H.meaning host.old).outside (H.meaning host.new).outside (echo_text script.entry.line script.entry.file.now)) }
+    ensures none { OnOk result (outlet.new.listing ≡ []) }
+    ensures room { OnOk result (length outlet.new.spool ≤ 4096) }
+    ensures counts { CountsWriting result (H.meaning host.old).counts (H.meaning host.new).counts }
+{
+    outlet.listing.echo_from(alloc, script.file, script.line)?;
+    outlet.pass(host)
+}
+
+/// Executes an accepted script from its first state on, behind its echo. What a statement shows goes out before the next one is executed; after a
+/// failed write none is. At its end what is to be done behind the listing is made ready.
 pub(crate) fn execute<H: Host>(
     alloc: Global,
     host: &mut H,
     request: Request,
-    source: &[u8],
+    script: Script,
     program: &Program<Frac>,
+    store: Store<Frac>,
     solvers: &mut Vec<Box<dyn LpSolver>>,
     answers: &mut Vec<Answer<Frac>>,
     outlet: &mut Outlet,
-    remarks: &mut String,
+    sequel: &mut Sequel,
 ) -> Result<Status, Failed>
     requires open { (H.meaning host.old).outside.writing ≡ true }
     requires few { length solvers.old.items < 2 ^ 32 }
-    requires is_program { IsProgram number_limit source.now frac_value program.now }
-    requires accepted { compile_errors frac_value program.now (map name solvers.old.items) ≡ [] }
+    requires accepted { IsAccepted (map name solvers.old.items) (script_in script) program.now }
+    requires sound { IsSound (length solvers.old.items) (script_in script).saved }
+    requires first { store ≡ first_state (script_in script).saved program.now }
     requires none { answers.old.items ≡ [] }
     requires empty { outlet.old.spool ++ outlet.old.listing ≡ [] }
-    ensures outside { ComesTo result (λ status. Prepares status (solving name rule paths solvers.old.items solvers.new.items answers.new.items) (H.meaning host.old).outside (H.meaning host.new).outside source.now (outlet.new.spool ++ outlet.new.listing)) (IsUnwritten (solving name rule paths solvers.old.items solvers.new.items answers.new.items) (H.meaning host.old).outside (H.meaning host.new).outside source.now) }
-    ensures told { IfOk result (λ status. AreRemarks status (solving name rule paths solvers.old.items solvers.new.items answers.new.items) (asked_by request.entry) source.now (string_bytes remarks.new)) }
+    ensures outside { ComesTo result (λ status. Prepares status (solving name rule paths solvers.old.items solvers.new.items answers.new.items) (H.meaning host.old).outside (H.meaning host.new).outside (scripted (script_in script.entry)) (outlet.new.spool ++ outlet.new.listing)) (IsUnwritten (solving name rule paths solvers.old.items solvers.new.items answers.new.items) (H.meaning host.old).outside (H.meaning host.new).outside (scripted (script_in script.entry))) }
+    ensures follows { IfOk result (λ status. Follows status (solving name rule paths solvers.old.items solvers.new.items answers.new.items) (asked_by request.entry) (scripted (script_in script.entry)) (string_bytes sequel.new.remarks) sequel.new.save.items) }
     ensures counts { CountsWriting result (H.meaning host.old).counts (H.meaning host.new).counts }
 {
-    outlet.listing.echo(alloc, source)?;
-    outlet.pass(host)?;
-    let store = load(alloc, program)?;
     let solved = Vec::new(alloc);
     let mut run = Run { store, solved };
+    pass_echo(alloc, host, script, outlet)?;
     run.to_end(
-        alloc, host, request, program, solvers, answers, outlet, remarks,
+        alloc, host, request, script, program, solvers, answers, outlet, sequel,
     )
 }

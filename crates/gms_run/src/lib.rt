@@ -6,6 +6,8 @@ mod execution;
 mod laws;
 mod outlet;
 mod report;
+mod restart;
+mod script;
 mod status;
 mod top_call;
 mod transfer;

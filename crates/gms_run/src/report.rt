@@ -1,25 +1,30 @@
-//! The listing of a source, from its bytes, as it goes out.
+//! The listing of what there is to run, as it goes out.
 ghost use Rattle.std.specs.Prelude.{◌≡◌, ◌<◌, ◌^◌, ◌++◌, [], true, length, map, IfOk, OnOk, string_bytes};
 ghost use Rattle.gq_frac.specs.Frac.{frac_value};
-ghost use Rattle.gms_check.specs.CompileErrors.{compile_errors};
 ghost use Rattle.gms_host.specs.Rules.{CountsWriting};
-ghost use Rattle.gms_list.specs.ListingText.{refused_echo, source_error_text};
 ghost use Rattle.gms_parse.specs.Outcomes.{IsProgram};
 ghost use Rattle.gms_words.specs.CommandLine.{asked_by};
-ghost use Rattle.gms_run.specs.InnerReports.{Lists, ListsErrors, Prepares};
+ghost use Rattle.gms_run.specs.InnerReports.{Accepts, Follows, IsSound, IsSoundMatter, Lists, ListsErrors, Prepares, matter_in, script_in};
 ghost use Rattle.gms_run.specs.InnerSteps.{ComesTo};
-ghost use Rattle.gms_run.specs.Listings.{AreRemarks};
+ghost use Rattle.gms_run.specs.Listings.{refusal_text, unrestored_text};
+ghost use Rattle.gms_run.specs.Scripts.{errors_of, scripted};
 ghost use Rattle.gms_run.specs.Solving.{number_limit, solving};
 ghost use Rattle.gms_run.specs.Statuses.{IsUnwritten};
 
+use crate::closing::Sequel;
 use crate::execution::execute;
 use crate::outlet::Outlet;
+use crate::restart::{errors_of, first_state, fits};
+use crate::script::{Matter, Script};
 use crate::status::Status;
 use gms_ast::Program;
-use gms_check::{CompileError, check};
+use gms_check::CompileError;
 use gms_host::{Failed, Host};
+use gms_labels::Place;
 use gms_list::Listing;
 use gms_parse::{SourceError, SourceFault, SourceFaultOrMemory, parse};
+use gms_save::SaveFault;
+use gms_store::Store;
 use gms_words::Request;
 use gq_frac::Frac;
 use lp_core::Answer;
@@ -34,7 +39,10 @@ fn name_of(alloc: Global, solver: &Box<dyn LpSolver>) -> Result<String, AllocErr
 }
 
 /// The names of solvers.
-fn names_of(alloc: Global, solvers: &[Box<dyn LpSolver>]) -> Result<Vec<String>, AllocError>
+pub(crate) fn names_of(
+    alloc: Global,
+    solvers: &[Box<dyn LpSolver>],
+) -> Result<Vec<String>, AllocError>
     ensures { IfOk result (λ names. map string_bytes names.items ≡ map name solvers.now) }
 {
     let mut names = Vec::new(alloc);
@@ -45,149 +53,216 @@ fn names_of(alloc: Global, solvers: &[Box<dyn LpSolver>]) -> Result<Vec<String>,
     Ok(names)
 }
 
-/// Lists why a source is no program. A source that is too long has no echo.
+/// Lists why a script is no program. One that is too long has no echo.
 fn refused(
     alloc: Global,
-    source: &[u8],
+    script: Script,
     fault: SourceFault,
     outlet: &mut Outlet,
 ) -> Result<Status, AllocError>
     ensures status { IfOk result (λ status. status ≡ Status.Compile) }
-    ensures text { OnOk result (outlet.new.listing ≡ outlet.old.listing ++ (refused_echo fault.error source.now ++ source_error_text fault)) }
+    ensures text { OnOk result (outlet.new.listing ≡ outlet.old.listing ++ refusal_text (script_in script.entry) fault) }
     ensures spool { outlet.new.spool ≡ outlet.old.spool }
 {
     if fault.error != SourceError::TooLong {
-        outlet.listing.echo(alloc, source)?;
+        outlet.listing.echo_from(alloc, script.file, script.line)?;
     }
     outlet.listing.source_fault(alloc, &fault)?;
     Ok(Status::Compile)
 }
 
-/// The errors of a program for these solvers.
-fn errors_of(
-    alloc: Global,
-    program: &Program<Frac>,
-    solvers: &[Box<dyn LpSolver>],
-) -> Result<Vec<CompileError>, AllocError>
-    ensures { IfOk result (λ errors. errors.items ≡ compile_errors frac_value program.now (map name solvers.now)) }
+/// Lists why a save cannot be restored.
+fn list_unrestored(alloc: Global, fault: SaveFault, listing: &mut Listing) -> Result<(), AllocError>
+    ensures { OnOk result (listing.new ≡ listing.old ++ unrestored_text fault) }
 {
-    let names = names_of(alloc, solvers)?;
-    check(alloc, program, &names)
+    let at = Place { line: 1, column: 1 };
+    listing.save_fault(alloc, fault.code(), fault.name(), at)
 }
 
-/// Lists errors of a program behind the echo of its source, where there are any. Answers whether there are.
+/// Lists errors of a program behind the echo of its script, where there are any. Answers whether there are.
 fn list_errors(
     alloc: Global,
-    source: &[u8],
+    script: Script,
     errors: &[CompileError],
     listing: &mut Listing,
 ) -> Result<bool, AllocError>
-    ensures { IfOk result (λ some. ListsErrors some errors.now source.now listing.old listing.new) }
+    ensures { IfOk result (λ some. ListsErrors some errors.now (script_in script.entry) listing.old listing.new) }
 {
     if errors.is_empty() {
         return Ok(false);
     }
-    listing.echo(alloc, source)?;
+    listing.echo_from(alloc, script.file, script.line)?;
     listing.errors(alloc, errors)?;
     Ok(true)
 }
 
-/// Finds the errors of a program, and lists them behind the echo of its source. Answers whether there are any; where there are none nothing is
-/// listed.
+/// The errors of a program for these solvers.
+fn errors_for(
+    alloc: Global,
+    script: Script,
+    program: &Program<Frac>,
+    solvers: &[Box<dyn LpSolver>],
+) -> Result<Vec<CompileError>, AllocError>
+    ensures { IfOk result (λ errors. errors.items ≡ errors_of (script_in script.entry).saved script.entry.line program.now (map name solvers.now)) }
+{
+    let names = names_of(alloc, solvers)?;
+    errors_of(alloc, script, program, &names)
+}
+
+/// Finds the errors of a script's program, and lists them behind the echo. Answers whether there are any; where there are none nothing is listed.
 fn has_errors(
     alloc: Global,
-    source: &[u8],
+    script: Script,
     program: &Program<Frac>,
     solvers: &[Box<dyn LpSolver>],
     listing: &mut Listing,
 ) -> Result<bool, AllocError>
-    ensures { IfOk result (λ some. ListsErrors some (compile_errors frac_value program.now (map name solvers.now)) source.now listing.old listing.new) }
+    ensures { IfOk result (λ some. ListsErrors some (errors_of (script_in script.entry).saved script.entry.line program.now (map name solvers.now)) (script_in script.entry) listing.old listing.new) }
 {
-    let errors = errors_of(alloc, program, solvers)?;
-    list_errors(alloc, source, errors.as_slice(), listing)
+    let errors = errors_for(alloc, script, program, solvers)?;
+    list_errors(alloc, script, errors.as_slice(), listing)
 }
 
-/// Checks and executes the program of a source, whose listing goes out as far as its last line, which is still to come; the remarks on the run are
-/// made.
+/// The first state of a script's program, where it is accepted. Where it is not, there is none, and why is listed.
+fn accepted(
+    alloc: Global,
+    script: Script,
+    program: &Program<Frac>,
+    solvers: &[Box<dyn LpSolver>],
+    listing: &mut Listing,
+) -> Result<Option<Store<Frac>>, AllocError>
+    requires { IsProgram number_limit script.source.now frac_value program.now }
+    ensures { IfOk result (λ first. Accepts first (map name solvers.now) (script_in script.entry) program.now listing.old listing.new) }
+{
+    if has_errors(alloc, script, program, solvers, listing)? {
+        return Ok(None);
+    }
+    let store = first_state(alloc, script, program)?;
+    if fits(alloc, script, program, &store)? {
+        return Ok(Some(store));
+    }
+    list_unrestored(alloc, SaveFault::SaveShape, listing)?;
+    Ok(None)
+}
+
+/// Checks and executes the program of a script, whose listing goes out as far as its last line, which is still to come; what is to be done behind it
+/// is made ready.
 fn checked<H: Host>(
     alloc: Global,
     host: &mut H,
     request: Request,
-    source: &[u8],
+    script: Script,
     program: &Program<Frac>,
     solvers: &mut Vec<Box<dyn LpSolver>>,
     answers: &mut Vec<Answer<Frac>>,
     outlet: &mut Outlet,
-    remarks: &mut String,
+    sequel: &mut Sequel,
 ) -> Result<Status, Failed>
     requires open { (H.meaning host.old).outside.writing ≡ true }
     requires few { length solvers.old.items < 2 ^ 32 }
-    requires is_program { IsProgram number_limit source.now frac_value program.now }
+    requires is_program { IsProgram number_limit script.source.now frac_value program.now }
+    requires sound { IsSound (length solvers.old.items) (script_in script).saved }
     requires none { answers.old.items ≡ [] }
     requires empty { outlet.old.spool ++ outlet.old.listing ≡ [] }
-    requires silent { string_bytes remarks.old ≡ [] }
-    ensures outside { ComesTo result (λ status. Prepares status (solving name rule paths solvers.old.items solvers.new.items answers.new.items) (H.meaning host.old).outside (H.meaning host.new).outside source.now (outlet.new.spool ++ outlet.new.listing)) (IsUnwritten (solving name rule paths solvers.old.items solvers.new.items answers.new.items) (H.meaning host.old).outside (H.meaning host.new).outside source.now) }
-    ensures told { IfOk result (λ status. AreRemarks status (solving name rule paths solvers.old.items solvers.new.items answers.new.items) (asked_by request.entry) source.now (string_bytes remarks.new)) }
+    requires silent { string_bytes sequel.old.remarks ≡ [] }
+    ensures outside { ComesTo result (λ status. Prepares status (solving name rule paths solvers.old.items solvers.new.items answers.new.items) (H.meaning host.old).outside (H.meaning host.new).outside (scripted (script_in script.entry)) (outlet.new.spool ++ outlet.new.listing)) (IsUnwritten (solving name rule paths solvers.old.items solvers.new.items answers.new.items) (H.meaning host.old).outside (H.meaning host.new).outside (scripted (script_in script.entry))) }
+    ensures follows { IfOk result (λ status. Follows status (solving name rule paths solvers.old.items solvers.new.items answers.new.items) (asked_by request.entry) (scripted (script_in script.entry)) (string_bytes sequel.new.remarks) sequel.new.save.items) }
     ensures counts { CountsWriting result (H.meaning host.old).counts (H.meaning host.new).counts }
 {
     let listing = &mut outlet.listing;
-    let some = has_errors(alloc, source, program, solvers.as_slice(), listing)?;
-    if some {
-        return Ok(Status::Compile);
+    let first = accepted(alloc, script, program, solvers.as_slice(), listing)?;
+    match first {
+        Some(store) => execute(
+            alloc, host, request, script, program, store, solvers, answers, outlet, sequel,
+        ),
+        None => Ok(Status::Compile),
     }
-    execute(
-        alloc, host, request, source, program, solvers, answers, outlet, remarks,
-    )
 }
 
-/// Parses, checks and executes a source, whose listing goes out as far as its last line, which is still to come; the remarks on the run are made.
-fn listed<H: Host>(
+/// Parses, checks and executes a script, whose listing goes out as far as its last line, which is still to come; what is to be done behind it is made
+/// ready.
+fn parsed<H: Host>(
     alloc: Global,
     host: &mut H,
     request: Request,
-    source: &[u8],
+    script: Script,
     solvers: &mut Vec<Box<dyn LpSolver>>,
     answers: &mut Vec<Answer<Frac>>,
     outlet: &mut Outlet,
-    remarks: &mut String,
+    sequel: &mut Sequel,
 ) -> Result<Status, Failed>
     requires open { (H.meaning host.old).outside.writing ≡ true }
     requires few { length solvers.old.items < 2 ^ 32 }
+    requires sound { IsSound (length solvers.old.items) (script_in script).saved }
     requires none { answers.old.items ≡ [] }
     requires empty { outlet.old.spool ++ outlet.old.listing ≡ [] }
-    requires silent { string_bytes remarks.old ≡ [] }
-    ensures outside { ComesTo result (λ status. Prepares status (solving name rule paths solvers.old.items solvers.new.items answers.new.items) (H.meaning host.old).outside (H.meaning host.new).outside source.now (outlet.new.spool ++ outlet.new.listing)) (IsUnwritten (solving name rule paths solvers.old.items solvers.new.items answers.new.items) (H.meaning host.old).outside (H.meaning host.new).outside source.now) }
-    ensures told { IfOk result (λ status. AreRemarks status (solving name rule paths solvers.old.items solvers.new.items answers.new.items) (asked_by request.entry) source.now (string_bytes remarks.new)) }
+    requires silent { string_bytes sequel.old.remarks ≡ [] }
+    ensures outside { ComesTo result (λ status. Prepares status (solving name rule paths solvers.old.items solvers.new.items answers.new.items) (H.meaning host.old).outside (H.meaning host.new).outside (scripted (script_in script.entry)) (outlet.new.spool ++ outlet.new.listing)) (IsUnwritten (solving name rule paths solvers.old.items solvers.new.items answers.new.items) (H.meaning host.old).outside (H.meaning host.new).outside (scripted (script_in script.entry))) }
+    ensures follows { IfOk result (λ status. Follows status (solving name rule paths solvers.old.items solvers.new.items answers.new.items) (asked_by request.entry) (scripted (script_in script.entry)) (string_bytes sequel.new.remarks) sequel.new.save.items) }
     ensures counts { CountsWriting result (H.meaning host.old).counts (H.meaning host.new).counts }
 {
-    match parse::<Frac>(alloc, source) {
+    match parse::<Frac>(alloc, script.source) {
         Ok(program) => checked(
-            alloc, host, request, source, &program, solvers, answers, outlet, remarks,
+            alloc, host, request, script, &program, solvers, answers, outlet, sequel,
         ),
         Err(SourceFaultOrMemory::Memory) => Err(Failed::Memory),
         Err(SourceFaultOrMemory::Fault(fault)) => {
-            let status = refused(alloc, source, fault, outlet)?;
+            let status = refused(alloc, script, fault, outlet)?;
             Ok(status)
         }
     }
 }
 
-/// Writes the whole listing of a source to the opened output, and makes the remarks on its run. Answers how it ends.
+/// Lists what there is to run, as far as its last line, which is still to come: a script is executed, and of a save that cannot be restored it is
+/// listed why.
+fn listed<H: Host>(
+    alloc: Global,
+    host: &mut H,
+    request: Request,
+    matter: Matter,
+    solvers: &mut Vec<Box<dyn LpSolver>>,
+    answers: &mut Vec<Answer<Frac>>,
+    outlet: &mut Outlet,
+    sequel: &mut Sequel,
+) -> Result<Status, Failed>
+    requires open { (H.meaning host.old).outside.writing ≡ true }
+    requires few { length solvers.old.items < 2 ^ 32 }
+    requires sound { IsSoundMatter (length solvers.old.items) (matter_in matter) }
+    requires none { answers.old.items ≡ [] }
+    requires empty { outlet.old.spool ++ outlet.old.listing ≡ [] }
+    requires silent { string_bytes sequel.old.remarks ≡ [] }
+    ensures outside { ComesTo result (λ status. Prepares status (solving name rule paths solvers.old.items solvers.new.items answers.new.items) (H.meaning host.old).outside (H.meaning host.new).outside (matter_in matter.entry) (outlet.new.spool ++ outlet.new.listing)) (IsUnwritten (solving name rule paths solvers.old.items solvers.new.items answers.new.items) (H.meaning host.old).outside (H.meaning host.new).outside (matter_in matter.entry)) }
+    ensures follows { IfOk result (λ status. Follows status (solving name rule paths solvers.old.items solvers.new.items answers.new.items) (asked_by request.entry) (matter_in matter.entry) (string_bytes sequel.new.remarks) sequel.new.save.items) }
+    ensures counts { CountsWriting result (H.meaning host.old).counts (H.meaning host.new).counts }
+{
+    match matter {
+        Matter::ToRun(script) => parsed(
+            alloc, host, request, script, solvers, answers, outlet, sequel,
+        ),
+        Matter::Unrestored(fault) => {
+            list_unrestored(alloc, fault, &mut outlet.listing)?;
+            Ok(Status::Compile)
+        }
+    }
+}
+
+/// Writes the whole listing of what there is to run to the opened output, and makes ready what is to be done behind it. Answers how it ends.
 pub(crate) fn report<H: Host>(
     alloc: Global,
     host: &mut H,
     request: Request,
-    source: &[u8],
+    matter: Matter,
     solvers: &mut Vec<Box<dyn LpSolver>>,
     answers: &mut Vec<Answer<Frac>>,
-    remarks: &mut String,
+    sequel: &mut Sequel,
 ) -> Result<Status, Failed>
     requires open { (H.meaning host.old).outside.writing ≡ true }
     requires few { length solvers.old.items < 2 ^ 32 }
+    requires sound { IsSoundMatter (length solvers.old.items) (matter_in matter) }
     requires none { answers.old.items ≡ [] }
-    requires silent { string_bytes remarks.old ≡ [] }
-    ensures outside { ComesTo result (λ status. Lists status (solving name rule paths solvers.old.items solvers.new.items answers.new.items) (H.meaning host.old).outside (H.meaning host.new).outside source.now) (IsUnwritten (solving name rule paths solvers.old.items solvers.new.items answers.new.items) (H.meaning host.old).outside (H.meaning host.new).outside source.now) }
-    ensures told { IfOk result (λ status. AreRemarks status (solving name rule paths solvers.old.items solvers.new.items answers.new.items) (asked_by request.entry) source.now (string_bytes remarks.new)) }
+    requires silent { string_bytes sequel.old.remarks ≡ [] }
+    ensures outside { ComesTo result (λ status. Lists status (solving name rule paths solvers.old.items solvers.new.items answers.new.items) (H.meaning host.old).outside (H.meaning host.new).outside (matter_in matter.entry)) (IsUnwritten (solving name rule paths solvers.old.items solvers.new.items answers.new.items) (H.meaning host.old).outside (H.meaning host.new).outside (matter_in matter.entry)) }
+    ensures follows { IfOk result (λ status. Follows status (solving name rule paths solvers.old.items solvers.new.items answers.new.items) (asked_by request.entry) (matter_in matter.entry) (string_bytes sequel.new.remarks) sequel.new.save.items) }
     ensures counts { CountsWriting result (H.meaning host.old).counts (H.meaning host.new).counts }
 {
     let mut outlet = Outlet::new(alloc)?;
@@ -195,11 +270,11 @@ pub(crate) fn report<H: Host>(
         alloc,
         host,
         request,
-        source,
+        matter,
         solvers,
         answers,
         &mut outlet,
-        remarks,
+        sequel,
     )?;
     outlet.end(alloc, host, status, answers.len())?;
     Ok(status)

@@ -1,18 +1,24 @@
-//! The top call: from the words of the command line to the bytes of the listing.
+//! The top call: from the words of the command line to the bytes of the listing and of the save.
 ghost use Rattle.std.specs.Prelude.{◌≡◌, ◌<◌, ◌≤◌, ◌^◌, ◌↔◌, ◌⊎◌, [], true, length, map, IfOk, OnOk, string_bytes};
-ghost use Rattle.gms_host.specs.Rules.{CountsReading, CountsWriting, IsThere};
-ghost use Rattle.gms_words.specs.CommandLine.{texts, request_of, asked_by, in_file, generated, read_fault_line};
-ghost use Rattle.gms_run.specs.InnerReports.{CountsMention, CountsRun, EndsAs, ReadsFile};
+ghost use Rattle.gms_host.specs.Rules.{CountsWriting, IsThere};
+ghost use Rattle.gms_lex.specs.Tokens.{most_bytes};
+ghost use Rattle.gms_words.specs.CommandLine.{texts, request_of, asked_by, in_file, restarted, generated, read_fault_line};
+ghost use Rattle.gms_run.specs.InnerReports.{CanGoOn, CountsMention, CountsRun, EndsAs, IsSoundMatter, RanBehind, RanOf, matter_in};
 ghost use Rattle.gms_run.specs.InnerSteps.{ComesTo};
+ghost use Rattle.gms_run.specs.Scripts.{from_save, joint_script, script_of, scripted};
 ghost use Rattle.gms_run.specs.Solving.{solving};
 ghost use Rattle.gms_run.specs.Statuses.{CountsSo, EndsByNoFault, HasOrigin, IsReadyFor, IsReported, IsRun, IsWriteFault, MeetsNoFault, NamesProgram, OfRequest, RanSo, SaysLine};
 
-use crate::closing::push_closing;
+use crate::closing::{Sequel, push_closing, write_save};
 use crate::report::report;
+use crate::restart::restored;
+use crate::script::{Matter, Script, first_line, joint_source};
 use crate::status::Status;
-use crate::transfer::{read_source, say_line};
+use crate::transfer::{read_file, say_line};
 use gms_gen::generate;
 use gms_host::{Failed, Host};
+use gms_lex::MOST_BYTES;
+use gms_save::{MOST_BYTES as MOST_SAVE_BYTES, SaveFaultOrMemory, Saved};
 use gms_words::{Request, Source, output_of, read_fault_line, request_of, usage_line};
 use gq_frac::Frac;
 use lp_core::Answer;
@@ -28,38 +34,32 @@ pub struct Ended {
     pub answers: Vec<Answer<Frac>>,
 }
 
-/// Reads the file of a name, or one byte more of it than a source may have.
-fn read_file<H: Host>(alloc: Global, host: &mut H, file: &str) -> Result<Vec<u8>, Failed>
-    ensures outside { ReadsFile result (H.meaning host.old).outside (H.meaning host.new).outside file.now }
-    ensures counts { CountsReading result (IsThere (H.meaning host.old).outside file.now) (H.meaning host.old).counts (H.meaning host.new).counts }
-{
-    host.open_in(file)?;
-    read_source(alloc, host)
-}
-
-/// Writes the listing of a source to the output that a request names, closes it, and says the closing lines: the remarks on the run, and a last line.
+/// Writes the listing of what there is to run to the output that a request names, closes it, saves the last state, where that is asked for, and says
+/// the closing lines: the remarks on the run, and a last line.
 fn write_report<H: Host>(
     alloc: Global,
     host: &mut H,
     request: Request,
-    source: &[u8],
+    matter: Matter,
     output: &str,
     solvers: &mut Vec<Box<dyn LpSolver>>,
     answers: &mut Vec<Answer<Frac>>,
-    remarks: &mut String,
+    sequel: &mut Sequel,
 ) -> Result<Status, Failed>
     requires few { length solvers.old.items < 2 ^ 32 }
+    requires sound { IsSoundMatter (length solvers.old.items) (matter_in matter) }
     requires none { answers.old.items ≡ [] }
     requires named { output.now ≡ (asked_by request).output }
-    requires silent { string_bytes remarks.old ≡ [] }
-    ensures outside { ComesTo result (λ status. IsReported status (solving name rule paths solvers.old.items solvers.new.items answers.new.items) (H.meaning host.old).outside (H.meaning host.new).outside (asked_by request.entry) source.now) (IsWriteFault (solving name rule paths solvers.old.items solvers.new.items answers.new.items) (H.meaning host.old).outside (H.meaning host.new).outside (asked_by request.entry) source.now) }
+    requires silent { string_bytes sequel.old.remarks ≡ [] }
+    ensures outside { ComesTo result (λ status. IsReported status (solving name rule paths solvers.old.items solvers.new.items answers.new.items) (H.meaning host.old).outside (H.meaning host.new).outside (asked_by request.entry) (matter_in matter.entry)) (IsWriteFault (solving name rule paths solvers.old.items solvers.new.items answers.new.items) (H.meaning host.old).outside (H.meaning host.new).outside (asked_by request.entry) (matter_in matter.entry)) }
     ensures counts { CountsWriting result (H.meaning host.old).counts (H.meaning host.new).counts }
 {
     host.open_out(output)?;
-    let status = report(alloc, host, request, source, solvers, answers, remarks)?;
+    let status = report(alloc, host, request, matter, solvers, answers, sequel)?;
     host.close_out()?;
-    push_closing(alloc, status, answers.len(), output, remarks)?;
-    say_line(host, remarks.as_str().as_bytes())?;
+    write_save(host, status, request, sequel.save.as_slice())?;
+    push_closing(alloc, status, answers.len(), output, &mut sequel.remarks)?;
+    say_line(host, sequel.remarks.as_str().as_bytes())?;
     Ok(status)
 }
 
@@ -97,7 +97,36 @@ fn report_read_fault<H: Host>(alloc: Global, host: &mut H, file: &str) -> Result
     Ok(Status::ReadFault)
 }
 
-/// Runs a source that was taken for a request.
+/// Runs what there is to run for a request.
+fn run_matter<H: Host>(
+    alloc: Global,
+    host: &mut H,
+    request: Request,
+    matter: Matter,
+    solvers: &mut Vec<Box<dyn LpSolver>>,
+    answers: &mut Vec<Answer<Frac>>,
+) -> Result<Status, AllocError>
+    requires few { length solvers.old.items < 2 ^ 32 }
+    requires sound { IsSoundMatter (length solvers.old.items) (matter_in matter) }
+    requires none { answers.old.items ≡ [] }
+    ensures ran { IfOk result (λ status. RanSo status (solving name rule paths solvers.old.items solvers.new.items answers.new.items) (H.meaning host.old).outside (H.meaning host.new).outside (asked_by request.entry) (matter_in matter.entry)) }
+    ensures counts { CountsRun result ((H.meaning host.old).counts.reliable ≡ true) (H.meaning host.old).counts (H.meaning host.new).counts }
+{
+    let output = output_of(alloc, request)?;
+    let mut sequel = Sequel::new(alloc);
+    status_of(write_report(
+        alloc,
+        host,
+        request,
+        matter,
+        output.as_str(),
+        solvers,
+        answers,
+        &mut sequel,
+    ))
+}
+
+/// Runs a source from its start for a request.
 fn run_source<H: Host>(
     alloc: Global,
     host: &mut H,
@@ -108,21 +137,71 @@ fn run_source<H: Host>(
 ) -> Result<Status, AllocError>
     requires few { length solvers.old.items < 2 ^ 32 }
     requires none { answers.old.items ≡ [] }
-    ensures ran { IfOk result (λ status. RanSo status (solving name rule paths solvers.old.items solvers.new.items answers.new.items) (H.meaning host.old).outside (H.meaning host.new).outside (asked_by request.entry) source.now) }
+    ensures ran { IfOk result (λ status. RanSo status (solving name rule paths solvers.old.items solvers.new.items answers.new.items) (H.meaning host.old).outside (H.meaning host.new).outside (asked_by request.entry) (scripted (script_of source.now))) }
     ensures counts { CountsRun result ((H.meaning host.old).counts.reliable ≡ true) (H.meaning host.old).counts (H.meaning host.new).counts }
 {
-    let output = output_of(alloc, request)?;
-    let mut remarks = String::new(alloc);
-    status_of(write_report(
-        alloc,
-        host,
-        request,
+    let script = Script {
         source,
-        output.as_str(),
-        solvers,
-        answers,
-        &mut remarks,
-    ))
+        file: source,
+        line: 1,
+        saved: None,
+    };
+    let matter = Matter::ToRun(script);
+    run_matter(alloc, host, request, matter, solvers, answers)
+}
+
+/// Runs a file that goes on from what was saved, for a request.
+fn run_joint<H: Host>(
+    alloc: Global,
+    host: &mut H,
+    request: Request,
+    saved: &Saved,
+    file: &[u8],
+    solvers: &mut Vec<Box<dyn LpSolver>>,
+    answers: &mut Vec<Answer<Frac>>,
+) -> Result<Status, AllocError>
+    requires few { length solvers.old.items < 2 ^ 32 }
+    requires short { length saved.now.source.items ≤ most_bytes }
+    requires sound { CanGoOn (length solvers.old.items) saved.now.store }
+    requires none { answers.old.items ≡ [] }
+    ensures ran { IfOk result (λ status. RanSo status (solving name rule paths solvers.old.items solvers.new.items answers.new.items) (H.meaning host.old).outside (H.meaning host.new).outside (asked_by request.entry) (scripted (joint_script saved.now.source.items saved.now.store file.now))) }
+    ensures counts { CountsRun result ((H.meaning host.old).counts.reliable ≡ true) (H.meaning host.old).counts (H.meaning host.new).counts }
+{
+    let source = saved.source.as_slice();
+    let joint = joint_source(alloc, source, file)?;
+    let script = Script {
+        source: joint.as_slice(),
+        file,
+        line: first_line(source),
+        saved: Some(saved),
+    };
+    let matter = Matter::ToRun(script);
+    run_matter(alloc, host, request, matter, solvers, answers)
+}
+
+/// Runs a file that goes on from a save, for a request.
+fn run_save<H: Host>(
+    alloc: Global,
+    host: &mut H,
+    request: Request,
+    save: &[u8],
+    file: &[u8],
+    solvers: &mut Vec<Box<dyn LpSolver>>,
+    answers: &mut Vec<Answer<Frac>>,
+) -> Result<Status, AllocError>
+    requires few { length solvers.old.items < 2 ^ 32 }
+    requires none { answers.old.items ≡ [] }
+    ensures ran { IfOk result (λ status. RanOf status (solving name rule paths solvers.old.items solvers.new.items answers.new.items) (H.meaning host.old).outside (H.meaning host.new).outside (asked_by request.entry) (from_save save.now file.now)) }
+    ensures counts { CountsRun result ((H.meaning host.old).counts.reliable ≡ true) (H.meaning host.old).counts (H.meaning host.new).counts }
+{
+    match restored(alloc, save, solvers.as_slice()) {
+        Ok(saved) => run_joint(alloc, host, request, &saved, file, solvers, answers),
+        Err(SaveFaultOrMemory::Memory) => Err(AllocError),
+        Err(SaveFaultOrMemory::Fault(fault)) => {
+            let matter = Matter::Unrestored(fault);
+            run_matter(alloc, host, request, matter, solvers, answers)
+        }
+    }
 }
 
 /// Runs the source in the file of a name, which a request asks for.
@@ -140,12 +219,68 @@ fn run_file<H: Host>(
     ensures ran { IfOk result (λ status. OfRequest status (solving name rule paths solvers.old.items solvers.new.items answers.new.items) (H.meaning host.old) (H.meaning host.new) (asked_by request.entry)) }
     ensures counts { CountsRun result (((H.meaning host.old).counts.reliable ≡ true) × IsThere (H.meaning host.old).outside file.now) (H.meaning host.old).counts (H.meaning host.new).counts }
 {
-    let source = match read_file(alloc, host, file) {
+    let source = match read_file(alloc, host, file, MOST_BYTES) {
         Ok(source) => source,
         Err(Failed::Fault) => return report_read_fault(alloc, host, file),
         Err(Failed::Memory) => return Err(AllocError),
     };
     run_source(alloc, host, request, source.as_slice(), solvers, answers)
+}
+
+/// Runs the file of a name behind a save that was read, which a request asks for.
+fn run_behind<H: Host>(
+    alloc: Global,
+    host: &mut H,
+    request: Request,
+    save: &[u8],
+    file: &str,
+    solvers: &mut Vec<Box<dyn LpSolver>>,
+    answers: &mut Vec<Answer<Frac>>,
+) -> Result<Status, AllocError>
+    requires few { length solvers.old.items < 2 ^ 32 }
+    requires none { answers.old.items ≡ [] }
+    ensures ran { IfOk result (λ status. RanBehind status (solving name rule paths solvers.old.items solvers.new.items answers.new.items) (H.meaning host.old) (H.meaning host.new) (asked_by request.entry) save.now file.now) }
+    ensures counts { CountsRun result (((H.meaning host.old).counts.reliable ≡ true) × IsThere (H.meaning host.old).outside file.now) (H.meaning host.old).counts (H.meaning host.new).counts }
+{
+    let source = match read_file(alloc, host, file, MOST_BYTES) {
+        Ok(source) => source,
+        Err(Failed::Fault) => return report_read_fault(alloc, host, file),
+        Err(Failed::Memory) => return Err(AllocError),
+    };
+    run_save(
+        alloc,
+        host,
+        request,
+        save,
+        source.as_slice(),
+        solvers,
+        answers,
+    )
+}
+
+/// Runs the file of a name that goes on from the save in another, which a request asks for.
+fn run_restart<H: Host>(
+    alloc: Global,
+    host: &mut H,
+    request: Request,
+    saved: &str,
+    file: &str,
+    solvers: &mut Vec<Box<dyn LpSolver>>,
+    answers: &mut Vec<Answer<Frac>>,
+) -> Result<Status, AllocError>
+    requires few { length solvers.old.items < 2 ^ 32 }
+    requires none { answers.old.items ≡ [] }
+    requires named { (asked_by request).source ≡ restarted saved.now file.now }
+    ensures ran { IfOk result (λ status. OfRequest status (solving name rule paths solvers.old.items solvers.new.items answers.new.items) (H.meaning host.old) (H.meaning host.new) (asked_by request.entry)) }
+    ensures counts { CountsRun result (((H.meaning host.old).counts.reliable ≡ true) × (IsThere (H.meaning host.old).outside saved.now × IsThere (H.meaning host.old).outside file.now)) (H.meaning host.old).counts (H.meaning host.new).counts }
+{
+    let save = match read_file(alloc, host, saved, MOST_SAVE_BYTES) {
+        Ok(save) => save,
+        Err(Failed::Fault) => return report_read_fault(alloc, host, saved),
+        Err(Failed::Memory) => return Err(AllocError),
+    };
+    let bytes = save.as_slice();
+    run_behind(alloc, host, request, bytes, file, solvers, answers)
 }
 
 /// Runs the generated model of a size, which a request asks for.
@@ -183,6 +318,9 @@ fn run_request<H: Host>(
 {
     match request.source {
         Source::File(file) => run_file(alloc, host, request, file, solvers, answers),
+        Source::Restart { saved, file } => {
+            run_restart(alloc, host, request, saved, file, solvers, answers)
+        }
         Source::Generate(size) => run_generated(alloc, host, request, size, solvers, answers),
     }
 }
@@ -212,16 +350,21 @@ fn run_words<H: Host>(
 /// Runs `gams25` on the words of its command line, without the program's name, over a host.
 ///
 /// The words are those of a command of `clap` with an optional FILE, `--out` with the name of the output, `--generate` with a number from 1
-/// to 30, and the flag `--ranges`; exactly one of FILE and `--generate` is there. The source is read whole, or generated, before the output is
+/// to 30, `--save` and `--restart` with the name of a file each, and the flag `--ranges`; exactly one of FILE and `--generate` is there, and
+/// `--restart` goes with FILE alone. The source is read whole, or generated, before the output is
 /// opened; its listing is written there, statement by statement, and behind the closed output the closing lines are said
 /// (docs/LISTING.md), first, with `--ranges`, how far each right side and each cost of each optimum may move. `AllocError` comes where memory was
 /// wanting, here or in the host; the output may then hold the front of a listing.
 ///
+/// With `--restart` that file is read before FILE, and FILE goes on from the state that was saved in it: the source is the saved source with FILE
+/// behind it, of which FILE is echoed and its statements are executed. With `--save`, where every statement was executed, the last state is
+/// written to that file, behind the closed output and before the closing lines (docs/SAVES.md; GAMS User's Guide, "Save and Restart").
+///
 /// What a run did is one statement, by its status, and holds over every host, whatever it tells: there is a source, which is what the
 /// host has at the name where it tells its files, and what the answers are to it, and what stands outside. Done and Execution: the source is
 /// accepted, its run takes all answers, each of which is one of its linear program, and the listing is the text of that run. Compile: it is
-/// refused, and the listing says why. Usage: the words ask for no source. ReadFault: the file was not read. WriteFault: how far the run came, and
-/// that no more was executed than was written, but for 4,096 bytes. The solvers stay, with their names and rules, and the pivots of each answer
+/// refused, or the save cannot be restored, and the listing says why. Usage: the words ask for no source. ReadFault: a file was not read.
+/// WriteFault: how far the run came, and that no more was executed than was written, but for 4,096 bytes. The solvers stay, with their names and rules, and the pivots of each answer
 /// stand behind the paths of the one that gave it; with Usage, Compile and ReadFault nothing is solved.
 pub fn run<H: Host>(
     alloc: Global,

@@ -1,25 +1,28 @@
-//! Whole transfers over a host: a source read to its end, a line said.
-ghost use Rattle.std.specs.Prelude.{◌≡◌, true};
-ghost use Rattle.gms_host.specs.Rules.{CountsReading, CountsWriting};
-ghost use Rattle.gms_run.specs.InnerReports.{TakesFirst, SaysAll};
+//! Whole transfers over a host: a file read to its end, a file written, a line said.
+ghost use Rattle.std.specs.Prelude.{◌≡◌, ◌<◌, ◌^◌, ◌+◌, true};
+ghost use Rattle.gms_host.specs.Rules.{CountsReading, CountsWriting, IsThere};
+ghost use Rattle.gms_host.specs.Spooling.{WritesAll};
+ghost use Rattle.gms_run.specs.InnerReports.{ReadsFile, SaysAll, TakesFirst};
+ghost use Rattle.gms_run.specs.InnerSteps.{ComesTo};
+ghost use Rattle.gms_run.specs.Statuses.{IsUnwrittenFile, with_file};
 
 use gms_host::{Failed, Host};
-use gms_lex::MOST_BYTES;
 use std::alloc::Global;
 
 /// How many bytes are read at a time.
 const BUFFER_BYTES: usize = 4096;
 
-/// Reads the opened input to its end, or until one byte more than a source may have was taken.
-pub(crate) fn read_source<H: Host>(alloc: Global, host: &mut H) -> Result<Vec<u8>, Failed>
-    requires { (H.meaning host.old).outside.reading ≡ true }
-    ensures outside { TakesFirst result (H.meaning host.old).outside (H.meaning host.new).outside }
+/// Reads the opened input to its end, or until one byte more than so many was taken.
+fn read_most<H: Host>(alloc: Global, host: &mut H, most: usize) -> Result<Vec<u8>, Failed>
+    requires open { (H.meaning host.old).outside.reading ≡ true }
+    requires few { most < 2 ^ 32 }
+    ensures outside { TakesFirst (most + 1) result (H.meaning host.old).outside (H.meaning host.new).outside }
     ensures counts { CountsReading result (Unit {0}) (H.meaning host.old).counts (H.meaning host.new).counts }
 {
     let mut source = Vec::new(alloc);
     let mut buffer = [0u8; BUFFER_BYTES];
-    while source.len() <= MOST_BYTES {
-        let room = (MOST_BYTES + 1 - source.len()).min(BUFFER_BYTES);
+    while source.len() <= most {
+        let room = (most + 1 - source.len()).min(BUFFER_BYTES);
         let count = host.read(&mut buffer[..room])?;
         if count == 0 {
             return Ok(source);
@@ -27,6 +30,45 @@ pub(crate) fn read_source<H: Host>(alloc: Global, host: &mut H) -> Result<Vec<u8
         source.extend_from_slice(&buffer[..count])?;
     }
     Ok(source)
+}
+
+/// Reads the file of a name, or one byte more of it than so many.
+pub(crate) fn read_file<H: Host>(
+    alloc: Global,
+    host: &mut H,
+    file: &str,
+    most: usize,
+) -> Result<Vec<u8>, Failed>
+    requires { most < 2 ^ 32 }
+    ensures outside { ReadsFile (most + 1) result (H.meaning host.old).outside (H.meaning host.new).outside file.now }
+    ensures counts { CountsReading result (IsThere (H.meaning host.old).outside file.now) (H.meaning host.old).counts (H.meaning host.new).counts }
+{
+    host.open_in(file)?;
+    read_most(alloc, host, most)
+}
+
+/// Writes all of these bytes.
+fn write_all<H: Host>(host: &mut H, bytes: &[u8]) -> Result<(), Failed>
+    requires { (H.meaning host.old).outside.writing ≡ true }
+    ensures outside { WritesAll result (H.meaning host.old).outside (H.meaning host.new).outside bytes.now }
+    ensures counts { CountsWriting result (H.meaning host.old).counts (H.meaning host.new).counts }
+{
+    let mut rest = bytes;
+    while !rest.is_empty() {
+        let count = host.write(rest)?;
+        rest = &rest[count..];
+    }
+    Ok(())
+}
+
+/// Writes a file of a name, and closes it.
+pub(crate) fn write_file<H: Host>(host: &mut H, file: &str, bytes: &[u8]) -> Result<(), Failed>
+    ensures outside { ComesTo result (λ done. (H.meaning host.new).outside ≡ with_file (H.meaning host.old).outside file.now bytes.now) (IsUnwrittenFile (H.meaning host.old).outside (H.meaning host.new).outside file.now bytes.now) }
+    ensures counts { CountsWriting result (H.meaning host.old).counts (H.meaning host.new).counts }
+{
+    host.open_out(file)?;
+    write_all(host, bytes)?;
+    host.close_out()
 }
 
 /// Says the whole line.

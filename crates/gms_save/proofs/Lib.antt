@@ -1,7 +1,10 @@
 mod Choosing
-mod Joints
-mod LoadedNames
+mod FromNumbers
+pub mod Joints
+pub mod LoadedNames
 mod LoopDepths
 mod Restarts
 mod Restored
 mod SavedNames
+mod SeenActs
+pub mod SeenPrograms

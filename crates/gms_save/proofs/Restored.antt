@@ -5,11 +5,13 @@ use Rattle.std.specs.Result.{IsErrAnd, MatchResult}
 use Rattle.std.proofs.lemmas.Bool.{eqb-true}
 use Rattle.std.proofs.lemmas.Result.{err_from_is_err_and}
 use Rattle.gq_frac.specs.declared.frac.Frac.{Frac}
+use Rattle.gq_frac.specs.Frac.{frac_value}
 use Rattle.gms_ast.specs.declared.program.Program.{Program}
 use Rattle.gms_store.specs.State.{State}
 use Rattle.gms_parse.specs.declared.fault.SourceFaultOrMemory.{SourceFaultOrMemory}
 use Rattle.gms_parse.specs.declared.fault.SourceFaultOrMemory.TheVariants as parsed
-use Rattle.gms_parse.specs.Outcomes.{IsRefusal}
+use Rattle.gms_parse.specs.Outcomes.{IsProgram, IsRefusal, program_view}
+use Rattle.gms_parse.proofs.OneReading.{one_program, program_or_fault}
 use Rattle.gms_saved.specs.declared.fault.ReadFault.{ReadFault}
 use Rattle.gms_saved.specs.declared.fault.ReadFault.TheVariants as read
 use Rattle.gms_saved.specs.Reading.{Finds}
@@ -20,12 +22,49 @@ use Rattle.gms_save.specs.declared.fault.SaveFaultOrMemory.TheVariants.{Memory, 
 use Rattle.gms_save.specs.declared.saved.Saved.{Saved}
 use Rattle.gms_save.specs.Faults.{fault_of_reading, fault_of_source}
 use Rattle.gms_save.specs.RestoreSteps.{IsFaulty, IsFaultyBy, IsFree, IsNoStateBy, IsSavedIn, IsStateOf, IsUnplacedBy}
-use Rattle.gms_save.specs.Saves.{IsOnly, IsSaveOf, IsUnfit, Restores, most_bytes, number_limit, place_of_solver, with_solver}
+use Rattle.gms_save.specs.Saves.{GivesBack, IsNoSave, IsSaveOf, IsUnfit, Restores, most_bytes, number_limit, place_of_solver, with_solver}
 use Rattle.gms_save.proofs.SavedNames.{saved-placed, text-placed}
+use Rattle.gms_save.proofs.SeenPrograms.{same-names, same-saved}
 
 -- what stands in front of the source
 abbrev pub front : List ℕ
 front = line_of (codes "gams25 save 1")
+
+-- ---- answers
+
+-- what restoring bytes answers, also of bytes that are a save
+abbrev pub Both : List (List ℕ) → List ℕ → Result Saved SaveFaultOrMemory → Type 0
+Both solvers bytes r = Restores solvers bytes r × GivesBack solvers bytes r
+
+-- an answer that is an error
+err-is : (r : Result Saved SaveFaultOrMemory) (e : SaveFaultOrMemory) → IsErrAnd r (λ f. f ≡ e) → r ≡ Err e
+err-is r e h = let p = err_from_is_err_and r h in p.1 ∙ ap (λ (f : SaveFaultOrMemory). Err f) p.2
+
+answered : (r : Result Saved SaveFaultOrMemory) (e : SaveFaultOrMemory) (solvers : List (List ℕ)) (bytes : List ℕ) → IsErrAnd r (λ f. f ≡ e) → Both solvers bytes (Err e) → Both solvers bytes r
+answered r e solvers bytes h both = subst (Both solvers bytes) (sym (err-is r e h)) both
+
+-- bytes that are no save are the save of no state of any program
+no-save : (bytes : List ℕ) → IsNoSave bytes → (source : List ℕ) (program : Program Frac) (state : State) (solver : List ℕ) → IsSaveOf bytes source program state solver → ⊥
+no-save bytes none source program state solver save = by (none source program.names state solver save.text)
+  where
+    by : IsUnfit source program.names state solver → ⊥
+    by (inl (fault, is_fault)) = program_or_fault number_limit source (program_view frac_value program) fault save.is_program is_fault
+    by (inr (found, is_program, unfit)) =
+        let alike = one_program number_limit source (program_view frac_value program) (program_view frac_value found) save.is_program is_program in
+        unfit (same-names program found alike) (same-saved program found alike state solver save.is_saved)
+
+shapeless : (solvers : List (List ℕ)) (bytes : List ℕ) → length bytes ≤ most_bytes → IsNoSave bytes → Both solvers bytes (Err (Fault SaveShape))
+shapeless solvers bytes short none = ((short, none), no-save bytes none)
+
+memoryless : (solvers : List (List ℕ)) (bytes : List ℕ) → Both solvers bytes (Err Memory)
+memoryless solvers bytes = (tt, λ source program state solver save. tt)
+
+-- A save of a program over its source is one of a program that was found, over the source that was found: the programs are seen alike, and the text is that of the state.
+record IsHere (source text : List ℕ) (program : Program Frac) (other : List ℕ) (found : Program Frac) (state : State) (name : List ℕ) : Type 0 where
+  source_is : source ≡ other
+  alike : program_view frac_value program ≡ program_view frac_value found
+  saved_in : IsSavedIn program state name
+  behind : text ≡ state_text program.names state name
 
 -- ---- what a reader of the source finds
 
@@ -34,16 +73,17 @@ abbrev pub Splits : List ℕ → List ℕ → List ℕ → Type 0
 Splits bytes source text = (other rest : List ℕ) → bytes ≡ front ++ (source_text other ++ rest) → (source ≡ other) × (text ≡ rest)
 
 -- no source was read: the bytes are no save
-pub unread : {A : Type 0} (Q : List ℕ → List ℕ → A → Type 0) (r : Result Saved SaveFaultOrMemory) (f : ReadFault) (solvers : List (List ℕ)) (bytes : List ℕ) → length bytes ≤ most_bytes → IsErrAnd r (λ e. e ≡ fault_of_reading f) → ((source rest : List ℕ) → bytes ≡ front ++ (source_text source ++ rest) → Finds (Err f) (Q source rest)) → Restores solvers bytes r
-unread {A} Q r f solvers bytes short h found = let p = err_from_is_err_and r h in rw (p.1, p.2) (by f found)
+pub unread : {A : Type 0} (Q : List ℕ → List ℕ → A → Type 0) (r : Result Saved SaveFaultOrMemory) (f : ReadFault) (solvers : List (List ℕ)) (bytes : List ℕ) → length bytes ≤ most_bytes → IsErrAnd r (λ e. e ≡ fault_of_reading f) → ((source rest : List ℕ) → bytes ≡ front ++ (source_text source ++ rest) → Finds (Err f) (Q source rest)) → Both solvers bytes r
+unread {A} Q r f solvers bytes short h found = answered r (fault_of_reading f) solvers bytes h (by f found)
   where
-    by : (f : ReadFault) → ((source rest : List ℕ) → bytes ≡ front ++ (source_text source ++ rest) → Finds (Err f) (Q source rest)) → Restores solvers bytes (Err (fault_of_reading f))
-    by read.Memory found = tt
-    by read.Shape found = (short, λ source names state solver is. absurd (found source (state_text names state solver) is))
+    by : (f : ReadFault) → ((source rest : List ℕ) → bytes ≡ front ++ (source_text source ++ rest) → Finds (Err f) (Q source rest)) → Both solvers bytes (Err (fault_of_reading f))
+    by read.Memory found = memoryless solvers bytes
+    by read.Shape found =
+        shapeless solvers bytes short (λ source names state solver is. absurd (found source (state_text names state solver) is))
 
 -- memory was wanting
-pub wanting : (r : Result Saved SaveFaultOrMemory) (solvers : List (List ℕ)) (bytes : List ℕ) → IsErrAnd r (λ e. e ≡ Memory) → Restores solvers bytes r
-wanting r solvers bytes h = let p = err_from_is_err_and r h in rw (p.1, p.2) tt
+pub wanting : (r : Result Saved SaveFaultOrMemory) (solvers : List (List ℕ)) (bytes : List ℕ) → IsErrAnd r (λ e. e ≡ Memory) → Both solvers bytes r
+wanting r solvers bytes h = answered r Memory solvers bytes h (memoryless solvers bytes)
 
 -- ---- the program
 
@@ -83,13 +123,14 @@ module _ (solvers : List (List ℕ)) (bytes source text : List ℕ) (short : len
       subst (λ (s : List ℕ). IsUnfit s names state solver) same (inr (program, is_program, λ _ saved. errors saved.no_error))
 
   -- has no save
-  pub no-program : (r : Result Saved SaveFaultOrMemory) (e : SaveFaultOrMemory) → IsErrAnd r (λ f. f ≡ e) → IsFaultyBy source e → Restores solvers bytes r
-  no-program r e h faulty = let p = err_from_is_err_and r h in rw (p.1, p.2) (by e faulty)
+  pub no-program : (r : Result Saved SaveFaultOrMemory) (e : SaveFaultOrMemory) → IsErrAnd r (λ f. f ≡ e) → IsFaultyBy source e → Both solvers bytes r
+  no-program r e h faulty = answered r e solvers bytes h (by e faulty)
     where
-      by : (e : SaveFaultOrMemory) → IsFaultyBy source e → Restores solvers bytes (Err e)
-      by Memory faulty = tt
+      by : (e : SaveFaultOrMemory) → IsFaultyBy source e → Both solvers bytes (Err e)
+      by Memory faulty = memoryless solvers bytes
       by (Fault SaveTooLong) faulty = absurd faulty
-      by (Fault SaveShape) faulty = (short, λ other names state solver is. unfit-source other names state solver (splits other (state_text names state solver) is).0 faulty)
+      by (Fault SaveShape) faulty =
+          shapeless solvers bytes short (λ other names state solver is. unfit-source other names state solver (splits other (state_text names state solver) is).0 faulty)
       by (Fault SaveSolver) faulty = absurd faulty
 
   module _ (program : Program Frac) (free : IsFree source program) where
@@ -99,17 +140,27 @@ module _ (solvers : List (List ℕ)) (bytes source text : List ℕ) (short : len
         subst (λ (s : List ℕ). IsUnfit s names state solver) same (inr (program, free.is_program, λ named saved. none named saved.is_saved))
 
     -- is behind no save
-    pub no-state : (r : Result Saved SaveFaultOrMemory) (e : SaveFaultOrMemory) → IsErrAnd r (λ f. f ≡ e) → IsNoStateBy program text e → Restores solvers bytes r
-    no-state r e h none = let p = err_from_is_err_and r h in rw (p.1, p.2) (by e none)
+    pub no-state : (r : Result Saved SaveFaultOrMemory) (e : SaveFaultOrMemory) → IsErrAnd r (λ f. f ≡ e) → IsNoStateBy program text e → Both solvers bytes r
+    no-state r e h none = answered r e solvers bytes h (by e none)
       where
-        by : (e : SaveFaultOrMemory) → IsNoStateBy program text e → Restores solvers bytes (Err e)
-        by Memory none = tt
+        by : (e : SaveFaultOrMemory) → IsNoStateBy program text e → Both solvers bytes (Err e)
+        by Memory none = memoryless solvers bytes
         by (Fault SaveTooLong) none = absurd none
-        by (Fault SaveShape) none = (
-          short,
-          λ other names state solver is. let parts = splits other (state_text names state solver) is in unfit-text other names state solver parts.0 (λ named saved. none state solver saved (parts.1 ∙ ap (λ (ns : List (List ℕ)). state_text ns state solver) named)),
-        )
+        by (Fault SaveShape) none =
+            shapeless solvers bytes short (λ other names state solver is. let parts = splits other (state_text names state solver) is in unfit-text other names state solver parts.0 (λ named saved. none state solver saved (parts.1 ∙ ap (λ (ns : List (List ℕ)). state_text ns state solver) named)))
         by (Fault SaveSolver) none = absurd none
+
+    -- a save is one of this program over this source
+    here : (other : List ℕ) (found : Program Frac) (state : State) (name : List ℕ) → IsSaveOf bytes other found state name → IsHere source text program other found state name
+    here other found state name save =
+        let parts = splits other (state_text found.names state name) save.text in
+        let alike = one_program number_limit source (program_view frac_value program) (program_view frac_value found) free.is_program (subst (λ (s : List ℕ). IsProgram number_limit s frac_value found) (sym parts.0) save.is_program) in
+        record {
+          source_is = parts.0;
+          alike = alike;
+          saved_in = (same-saved found program (sym alike) state name save.is_saved).is_saved;
+          behind = parts.1 ∙ ap (λ (ns : List (List ℕ)). state_text ns state name) (sym (same-names program found alike));
+        }
 
     module _ (store : State) (solver : List ℕ) (found : IsStateOf program text store solver) where
       -- the text of the state that was found, over the source, is that of each state that has this text
@@ -123,11 +174,9 @@ module _ (solvers : List (List ℕ)) (bytes source text : List ℕ) (short : len
           is ∙ ap₂ (λ (s rest : List ℕ). front ++ (source_text s ++ rest)) (sym parts.0) (ap (λ (ns : List (List ℕ)). state_text ns state name) named ∙ sym one)
 
       -- bytes that are not this text are no save
-      pub other-text : (bytes ≡ saved_text source program.names store solver → ⊥) → Restores solvers bytes (Err (Fault SaveShape))
-      other-text differ = (
-        short,
-        λ other names state name is. let parts = splits other (state_text names state name) is in unfit-text other names state name parts.0 (λ named saved. differ (same-text other names state name is named saved)),
-      )
+      pub other-text : (bytes ≡ saved_text source program.names store solver → ⊥) → Both solvers bytes (Err (Fault SaveShape))
+      other-text differ =
+          shapeless solvers bytes short (λ other names state name is. let parts = splits other (state_text names state name) is in unfit-text other names state name parts.0 (λ named saved. differ (same-text other names state name is named saved)))
 
       module _ (is : bytes ≡ saved_text source program.names store solver) where
         -- they are its save
@@ -136,9 +185,11 @@ module _ (solvers : List (List ℕ)) (bytes source text : List ℕ) (short : len
             record { is_program = free.is_program; is_saved = record { no_error = free.no_error; is_saved = found.is_saved }; text = is }
 
         -- of a solver that is none of these
-        pub no-solver : place_of_solver solvers solver ≡ None → Restores solvers bytes (Err (Fault SaveSolver))
-        no-solver lacks =
-            (short, record { source = source; program = program; state = store; solver = solver; is_save = save-of; lacks = lacks })
+        pub no-solver : place_of_solver solvers solver ≡ None → Both solvers bytes (Err (Fault SaveSolver))
+        no-solver lacks = (
+          (short, record { source = source; program = program; state = store; solver = solver; is_save = save-of; lacks = lacks }),
+          λ other one state name save. let h = here other one state name save in ap (place_of_solver solvers) (sym (found.same_solver state name h.saved_in h.behind)) ∙ lacks,
+        )
 
         -- or of one that is, and then they are restored
         save-placed : (place : ℕ) → IsSaveOf bytes source program (with_solver store place) solver
@@ -148,34 +199,37 @@ module _ (solvers : List (List ℕ)) (bytes source text : List ℕ) (short : len
           text = is ∙ ap (λ (rest : List ℕ). front ++ (source_text source ++ rest)) (sym (text-placed program.names store place solver));
         }
 
-        pub restored : (saved : Saved) (place : ℕ) → saved.program ≡ program → saved.source.items ≡ source → saved.store ≡ with_solver store place → place_of_solver solvers solver ≡ Some place → Restores solvers bytes (Ok saved)
-        restored saved place program_is source_is store_is placed = (
-          short,
-          record {
-            solver = solver;
-            is_save = subst (λ (s : List ℕ). IsSaveOf bytes s saved.program saved.store solver) (sym source_is) (subst (λ (p : Program Frac). IsSaveOf bytes source p saved.store solver) (sym program_is) (subst (λ (s : State). IsSaveOf bytes source program s solver) (sym store_is) (save-placed place)));
-            placed = placed ∙ ap (λ (s : State). Some s.settings.solver) (sym store_is);
-          },
-        )
+        module _ (saved : Saved) (place : ℕ) (program_is : saved.program ≡ program) (source_is : saved.source.items ≡ source) (store_is : saved.store ≡ with_solver store place) (placed : place_of_solver solvers solver ≡ Some place) where
+          is-restored : Restores solvers bytes (Ok saved)
+          is-restored = (
+            short,
+            record {
+              solver = solver;
+              is_save = subst (λ (s : List ℕ). IsSaveOf bytes s saved.program saved.store solver) (sym source_is) (subst (λ (p : Program Frac). IsSaveOf bytes source p saved.store solver) (sym program_is) (subst (λ (s : State). IsSaveOf bytes source program s solver) (sym store_is) (save-placed place)));
+              placed = placed ∙ ap (λ (s : State). Some s.settings.solver) (sym store_is);
+            },
+          )
+
+          -- and whatever they are the save of is that
+          is-back : GivesBack solvers bytes (Ok saved)
+          is-back other one state name save =
+              let h = here other one state name save in
+              record {
+                source_is = source_is ∙ h.source_is;
+                program_is = ap (program_view frac_value) program_is ∙ h.alike;
+                state_is = store_is ∙ ap (λ (s : State). with_solver s place) (found.same_state state name h.saved_in h.behind) ∙ sym (ap (λ (s : State). with_solver state s.settings.solver) store_is);
+                placed = ap (place_of_solver solvers) (sym (found.same_solver state name h.saved_in h.behind)) ∙ placed ∙ ap (λ (s : State). Some s.settings.solver) (sym store_is);
+              }
+
+          pub restored : Both solvers bytes (Ok saved)
+          restored = (is-restored, is-back)
 
       -- no place was found for the solver
-      pub unplaced : (r : Result Saved SaveFaultOrMemory) (e : SaveFaultOrMemory) → IsErrAnd r (λ f. f ≡ e) → IsUnplacedBy bytes (saved_text source program.names store solver) solvers solver e → Restores solvers bytes r
-      unplaced r e h why = let p = err_from_is_err_and r h in rw (p.1, p.2) (by e why)
+      pub unplaced : (r : Result Saved SaveFaultOrMemory) (e : SaveFaultOrMemory) → IsErrAnd r (λ f. f ≡ e) → IsUnplacedBy bytes (saved_text source program.names store solver) solvers solver e → Both solvers bytes r
+      unplaced r e h why = answered r e solvers bytes h (by e why)
         where
-          by : (e : SaveFaultOrMemory) → IsUnplacedBy bytes (saved_text source program.names store solver) solvers solver e → Restores solvers bytes (Err e)
-          by Memory why = tt
+          by : (e : SaveFaultOrMemory) → IsUnplacedBy bytes (saved_text source program.names store solver) solvers solver e → Both solvers bytes (Err e)
+          by Memory why = memoryless solvers bytes
           by (Fault SaveTooLong) why = absurd why
           by (Fault SaveShape) why = other-text why
           by (Fault SaveSolver) why = no-solver why.0 why.1
-
-      -- and are the save of nothing else
-      pub only-one : (saved : Saved) (place : ℕ) → saved.program ≡ program → saved.source.items ≡ source → saved.store ≡ with_solver store place → place_of_solver solvers solver ≡ Some place → IsOnly solvers bytes saved
-      only-one saved place program_is source_is store_is placed other state name save =
-          let saved_in : IsSavedIn program state name = subst (λ (p : Program Frac). IsSavedIn p state name) program_is save.is_saved.is_saved in
-          let parts = splits other (state_text saved.program.names state name) save.text in
-          let behind : text ≡ state_text program.names state name = parts.1 ∙ ap (λ (p : Program Frac). state_text p.names state name) program_is in
-          record {
-            source_is = source_is ∙ parts.0;
-            state_is = store_is ∙ ap (λ (s : State). with_solver s place) (found.same_state state name saved_in behind) ∙ sym (ap (λ (s : State). with_solver state s.settings.solver) store_is);
-            placed = ap (place_of_solver solvers) (sym (found.same_solver state name saved_in behind)) ∙ placed ∙ ap (λ (s : State). Some s.settings.solver) (sym store_is);
-          }

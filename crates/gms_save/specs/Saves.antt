@@ -14,7 +14,7 @@ use Rattle.gms_ast.specs.declared.program.Act.TheFolds.{fold-Stmt}
 use Rattle.gms_store.specs.State.{State}
 use Rattle.gms_store.specs.Declarations.{declared_state}
 use Rattle.gms_parse.specs.declared.fault.SourceFault.{SourceFault}
-use Rattle.gms_parse.specs.Outcomes.{IsProgram, IsFault}
+use Rattle.gms_parse.specs.Outcomes.{IsProgram, IsFault, program_view}
 use Rattle.gms_known.specs.DynamicSets.{dynamic_sets}
 use Rattle.gms_check.specs.Past.{is_among}
 use Rattle.gms_check.specs.CompileErrors.{compile_errors}
@@ -109,13 +109,22 @@ Restores solvers bytes (Err (Fault SaveSolver)) = (length bytes ≤ most_bytes) 
 abbrev pub with_solver : State → ℕ → State
 with_solver state place = record { symbols = state.symbols; settings = record state.settings { solver = place } }
 
--- What was restored is this state over this source, and the place of this solver stands in its settings.
-pub record IsBack (solvers : List (List ℕ)) (saved : Saved) (source : List ℕ) (state : State) (solver : List ℕ) : Type 0 where
+-- What was restored is this state over this source, its program is seen as this one, and the place of this solver stands in its settings.
+pub record IsBack (solvers : List (List ℕ)) (saved : Saved) (source : List ℕ) (program : Program Frac) (state : State) (solver : List ℕ) : Type 0 where
   pub source_is : saved.source.items ≡ source
+  pub program_is : program_view frac_value saved.program ≡ program_view frac_value program
   pub state_is : saved.store ≡ with_solver state saved.store.settings.solver
   pub placed : place_of_solver solvers solver ≡ Some saved.store.settings.solver
 
--- Whatever state of the restored program the bytes are the save of, over whatever source and with whatever solver's name: it is what was restored.
-abbrev pub IsOnly : List (List ℕ) → List ℕ → Saved → Type 0
-IsOnly solvers bytes saved =
-    (source : List ℕ) (state : State) (solver : List ℕ) → IsSaveOf bytes source saved.program state solver → IsBack solvers saved source state solver
+-- what restoring bytes answers that are the save of this state: the state itself, unless they are too long or none of the solvers has the name; want of memory is free
+abbrev pub AnswersSave : List (List ℕ) → List ℕ → List ℕ → Program Frac → State → List ℕ → Result Saved SaveFaultOrMemory → Type 0
+AnswersSave solvers bytes source program state solver (Ok saved) = IsBack solvers saved source program state solver
+AnswersSave solvers bytes source program state solver (Err Memory) = Unit {0}
+AnswersSave solvers bytes source program state solver (Err (Fault SaveTooLong)) = most_bytes < length bytes
+AnswersSave solvers bytes source program state solver (Err (Fault SaveShape)) = ⊥
+AnswersSave solvers bytes source program state solver (Err (Fault SaveSolver)) = place_of_solver solvers solver ≡ None
+
+-- Whatever state of whatever program of whatever source the bytes are the save of, with whatever solver's name: that is what is answered.
+abbrev pub GivesBack : List (List ℕ) → List ℕ → Result Saved SaveFaultOrMemory → Type 0
+GivesBack solvers bytes result =
+    (source : List ℕ) (program : Program Frac) (state : State) (solver : List ℕ) → IsSaveOf bytes source program state solver → AnswersSave solvers bytes source program state solver result

@@ -3,6 +3,7 @@
 
 mod fault;
 mod joint;
+mod laws;
 mod restart;
 mod restoring;
 mod saved;
@@ -10,5 +11,6 @@ mod solvers;
 
 pub use fault::{SaveFault, SaveFaultOrMemory};
 pub use joint::{joint_errors, resume};
+pub use laws::view_laws;
 pub use restoring::{MOST_BYTES, restore, save};
 pub use saved::Saved;

@@ -8,7 +8,7 @@ ghost use Rattle.gms_check.specs.CompileErrors.{compile_errors};
 ghost use Rattle.gms_check.specs.Loaded.{IsAccepted};
 ghost use Rattle.gms_saved.specs.SavedState.{saved_text};
 ghost use Rattle.gms_saved.specs.Validity.{declared_in};
-ghost use Rattle.gms_save.specs.Saves.{IsOnly, Restores, solvers_chosen, with_solver};
+ghost use Rattle.gms_save.specs.Saves.{GivesBack, Restores, solvers_chosen, with_solver};
 ghost use Rattle.gms_save.specs.RestoreSteps.{IsFree, IsFaultyBy, IsNoStateBy, IsPlaced, IsSavedAt, IsSavedIn, IsStateOf, IsUnplacedBy};
 
 use crate::fault::{SaveFault, SaveFaultOrMemory};
@@ -53,12 +53,13 @@ pub fn save(
 /// list is not empty, or where the list lacks its solver. `Memory` comes where memory was wanting. Else the bytes are the
 /// save of what is restored.
 ///
-/// Whatever state of the restored program the bytes are the save of is the one that was restored, over the same source: no
-/// text is the save of two.
+/// Whatever state of whatever program of whatever source the bytes are the save of: it is restored, over that source and with
+/// that program as it is seen, unless memory was wanting, the bytes are too long or no solver has the name. So no text is the
+/// save of two states, what `save` wrote is restored as it was, and `SaveShape` comes only where no state has these bytes.
 pub fn restore(alloc: Global, bytes: &[u8], solvers: &[String]) -> Result<Saved, SaveFaultOrMemory>
     requires { length solvers.now < 2 ^ 32 }
     ensures answer { Restores (map string_bytes solvers.now) bytes.now result }
-    ensures only { IfOk result (IsOnly (map string_bytes solvers.now) bytes.now) }
+    ensures back { GivesBack (map string_bytes solvers.now) bytes.now result }
 {
     if bytes.len() > MOST_BYTES {
         return Err(SaveFaultOrMemory::Fault(SaveFault::SaveTooLong));

@@ -1,3 +1,4 @@
+mod Frames
 pub mod Maps
 pub mod Overlays
 pub mod Refilling

@@ -56,7 +56,7 @@ module _ (state : State) (name : ℕ) (new : Symbol) where
 
   module _ (alike : (n : ℕ) → behind n new.content ≡ behind n (symbol_of state name).content) where
     -- what a name stands for stays
-    base-after : (other : ℕ) → base_of (with_symbol state name new) other ≡ base_of state other
+    pub base-after : (other : ℕ) → base_of (with_symbol state name new) other ≡ base_of state other
     base-after other = elim (at-after other) [
       | inl same ↦ ap (λ (s : Symbol). behind other s.content) same
       | inr changed ↦ ap (λ (s : Symbol). behind other s.content) changed.1 ∙ alike other ∙ ap (λ n. behind other (symbol_at state n).content) (sym changed.0)
@@ -81,7 +81,7 @@ module _ (state : State) (name : ℕ) (new : Symbol) where
     ]
 
 -- what holds of a content and of a new one holds where the new one stands if it fits
-fits-either : (P : Content → Type 0) (s : Symbol) (t : List ℕ) (new : Content) → P s.content → P new → P (if_fits s t new).content
+pub fits-either : (P : Content → Type 0) (s : Symbol) (t : List ℕ) (new : Content) → P s.content → P new → P (if_fits s t new).content
 fits-either P s t new old changed = by (length t == length s.domain)
   where
     by : (b : Bool) → P (cond b (with_content s new) s).content
@@ -111,7 +111,7 @@ get-after_same false m t x absent kept =
 
 -- ---- parameters
 
-behind-value : (content : Content) (t : List ℕ) (x : extended.Extended) (n : ℕ) → behind n (with_value content t x) ≡ behind n content
+pub behind-value : (content : Content) (t : List ℕ) (x : extended.Extended) (n : ℕ) → behind n (with_value content t x) ≡ behind n content
 behind-value undeclared t x n = refl
 behind-value (alias_of base) t x n = refl
 behind-value (set_of members) t x n = refl
@@ -156,7 +156,7 @@ value_elsewhere state name t x other u apart =
 
 -- ---- sets
 
-behind-membership : (content : Content) (t : List ℕ) (on : Bool) (n : ℕ) → behind n (with_membership content t on) ≡ behind n content
+pub behind-membership : (content : Content) (t : List ℕ) (on : Bool) (n : ℕ) → behind n (with_membership content t on) ≡ behind n content
 behind-membership undeclared t on n = refl
 behind-membership (alias_of base) t on n = refl
 behind-membership (set_of members) t on n = refl
@@ -197,7 +197,7 @@ membership_elsewhere state name t on other u apart =
 
 -- ---- variables and equations
 
-behind-attributes : (content : Content) (t : List ℕ) (a : Attributes) (n : ℕ) → behind n (with_attributes content t a) ≡ behind n content
+pub behind-attributes : (content : Content) (t : List ℕ) (a : Attributes) (n : ℕ) → behind n (with_attributes content t a) ≡ behind n content
 behind-attributes undeclared t a n = refl
 behind-attributes (alias_of base) t a n = refl
 behind-attributes (set_of members) t a n = refl

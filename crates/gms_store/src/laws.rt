@@ -3,7 +3,8 @@ ghost use Rattle.std.specs.Prelude.{◌≡◌, ◌<◌, ℕ, Bool, true, false, 
 ghost use Rattle.gq_extended.specs.Extended.{Extended};
 ghost use Rattle.gms_tuple.specs.TupleOrder.{same_tuple};
 ghost use Rattle.gms_tuple.specs.TupleSet.{has};
-ghost use Rattle.gms_store.specs.State.{State, Entries, Attributes, set_of, parameter_of, base_of, symbol_of, value_of, attributes_of, members_of, after_value, after_attributes, after_membership, has_attributes};
+ghost use Rattle.gms_store.specs.State.{State, Entries, Attributes, set_of, parameter_of, base_of, symbol_of, value_of, attributes_of, members_of, statuses_in, after_value, after_attributes, after_membership, after_statuses, has_attributes};
+ghost use Rattle.gms_store.specs.Frames.{Keeps};
 
 /// What is read after a write: at the tuple what was written, and at every other tuple of the name, and of every other
 /// name, what was there. An alias is no other name than its set.
@@ -32,4 +33,25 @@ pub fn write_laws()
     ensures other_members { (state : State) (name : ℕ) (t : List ℕ) (on : Bool) (other : ℕ) (u : List ℕ) →
         (base_of state other ≡ base_of state name → same_tuple t u ≡ false) →
         has (members_of (after_membership state name t on) other) u ≡ has (members_of state other) u }
+{}
+
+/// What a write leaves: all other names, what each name stands for, its positions and the settings, and of the name itself
+/// what is read of every other kind: after a value all members, attributes and statuses, and so on.
+pub fn frame_laws()
+    ensures value { (state : State) (name : ℕ) (t : List ℕ) (x : Extended) → Keeps state (after_value state name t x) name }
+    ensures value_leaves_members { (state : State) (name : ℕ) (t : List ℕ) (x : Extended) (other : ℕ) → members_of (after_value state name t x) other ≡ members_of state other }
+    ensures value_leaves_attributes { (state : State) (name : ℕ) (t : List ℕ) (x : Extended) (other : ℕ) (u : List ℕ) → attributes_of (after_value state name t x) other u ≡ attributes_of state other u }
+    ensures value_leaves_statuses { (state : State) (name : ℕ) (t : List ℕ) (x : Extended) (other : ℕ) → statuses_in (symbol_of (after_value state name t x) other).content ≡ statuses_in (symbol_of state other).content }
+    ensures membership { (state : State) (name : ℕ) (t : List ℕ) (on : Bool) → Keeps state (after_membership state name t on) name }
+    ensures membership_leaves_values { (state : State) (name : ℕ) (t : List ℕ) (on : Bool) (other : ℕ) (u : List ℕ) → value_of (after_membership state name t on) other u ≡ value_of state other u }
+    ensures membership_leaves_attributes { (state : State) (name : ℕ) (t : List ℕ) (on : Bool) (other : ℕ) (u : List ℕ) → attributes_of (after_membership state name t on) other u ≡ attributes_of state other u }
+    ensures membership_leaves_statuses { (state : State) (name : ℕ) (t : List ℕ) (on : Bool) (other : ℕ) → statuses_in (symbol_of (after_membership state name t on) other).content ≡ statuses_in (symbol_of state other).content }
+    ensures attributes { (state : State) (name : ℕ) (t : List ℕ) (a : Attributes) → Keeps state (after_attributes state name t a) name }
+    ensures attributes_leave_values { (state : State) (name : ℕ) (t : List ℕ) (a : Attributes) (other : ℕ) (u : List ℕ) → value_of (after_attributes state name t a) other u ≡ value_of state other u }
+    ensures attributes_leave_members { (state : State) (name : ℕ) (t : List ℕ) (a : Attributes) (other : ℕ) → members_of (after_attributes state name t a) other ≡ members_of state other }
+    ensures attributes_leave_statuses { (state : State) (name : ℕ) (t : List ℕ) (a : Attributes) (other : ℕ) → statuses_in (symbol_of (after_attributes state name t a) other).content ≡ statuses_in (symbol_of state other).content }
+    ensures statuses { (state : State) (name model solver : ℕ) → Keeps state (after_statuses state name model solver) name }
+    ensures statuses_leave_values { (state : State) (name model solver : ℕ) (other : ℕ) (u : List ℕ) → value_of (after_statuses state name model solver) other u ≡ value_of state other u }
+    ensures statuses_leave_members { (state : State) (name model solver : ℕ) (other : ℕ) → members_of (after_statuses state name model solver) other ≡ members_of state other }
+    ensures statuses_leave_attributes { (state : State) (name model solver : ℕ) (other : ℕ) (u : List ℕ) → attributes_of (after_statuses state name model solver) other u ≡ attributes_of state other u }
 {}

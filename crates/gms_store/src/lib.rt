@@ -13,6 +13,6 @@ mod symbol;
 
 pub use attributes::Attributes;
 pub use kind::SymbolKind;
-pub use laws::write_laws;
+pub use laws::{frame_laws, write_laws};
 pub use settings::Settings;
 pub use store::Store;

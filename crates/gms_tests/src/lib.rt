@@ -12,4 +12,6 @@ mod prefixes;
 #[cfg(test)]
 mod runs;
 #[cfg(test)]
+mod saves;
+#[cfg(test)]
 mod solvers;

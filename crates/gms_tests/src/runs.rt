@@ -22,6 +22,8 @@ pub(crate) struct Left {
     pub(crate) said: String,
     /// How many calls of its host it made.
     pub(crate) calls: u64,
+    /// The names that it asked for, each with a blank behind it.
+    pub(crate) asked: String,
     /// The outputs that were closed, each by its name and how many bytes it has, a line.
     pub(crate) kept: String,
     /// What its solvers tell, and then the rays of its answers.
@@ -140,6 +142,37 @@ fn kept_by(rt: &impl Abort, alloc: Global, host: &MemHost) -> String {
     text
 }
 
+/// The names that a host was asked for, each with a blank behind it: `a.gms a.lst `.
+fn asked_of(rt: &impl Abort, alloc: Global, host: &MemHost) -> String {
+    let mut text = String::new(alloc);
+    for name in host.asked() {
+        text.push_str(name.as_str()).expect(rt, "memory");
+        text.push(' ').expect(rt, "memory");
+    }
+    text
+}
+
+/// Runs these words over a host with these files, and over the solvers of these names.
+pub(crate) fn run_files(
+    rt: &impl Abort,
+    alloc: Global,
+    (files, most, fail): (&[(&str, &str)], u32, &[u64]),
+    words: &[&str],
+    names: &[&str],
+) -> Left {
+    let mut host = host_of(rt, alloc, files, fail, most);
+    let (status, told) = ran(rt, alloc, words, &mut host, names);
+    Left {
+        status,
+        output: text_of(rt, alloc, host.output()),
+        said: text_of(rt, alloc, host.said()),
+        calls: host.calls(),
+        asked: asked_of(rt, alloc, &host),
+        kept: kept_by(rt, alloc, &host),
+        told,
+    }
+}
+
 /// Runs these words over a host with the source in `a.gms`, and over the solvers of these names.
 pub(crate) fn run_words(
     rt: &impl Abort,
@@ -148,14 +181,6 @@ pub(crate) fn run_words(
     words: &[&str],
     names: &[&str],
 ) -> Left {
-    let mut host = host_of(rt, alloc, &[("a.gms", source)], fail, most);
-    let (status, told) = ran(rt, alloc, words, &mut host, names);
-    Left {
-        status,
-        output: text_of(rt, alloc, host.output()),
-        said: text_of(rt, alloc, host.said()),
-        calls: host.calls(),
-        kept: kept_by(rt, alloc, &host),
-        told,
-    }
+    let files = [("a.gms", source)];
+    run_files(rt, alloc, (files.as_slice(), most, fail), words, names)
 }

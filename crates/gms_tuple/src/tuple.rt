@@ -42,7 +42,7 @@ impl Tuple {
 
     /// Adds a label at the end. After want of memory the tuple is as it was.
     pub fn push(&mut self, _alloc: Global, label: u32) -> Result<(), AllocError>
-        requires { length self.old < MOST_LABELS }
+        requires { length self.old < 10 }
         ensures ok { OnOk result (self.new ≡ self.old ++ label ∷ []) }
         ensures err { OnErr result (self.new ≡ self.old) }
     {
@@ -61,7 +61,7 @@ impl Tuple {
     /// The labels, in order.
     pub fn as_slice(&self) -> &[u32]
         ensures value { result.now ≡ self.now }
-        ensures most { length result.now ≤ MOST_LABELS }
+        ensures most { length result.now ≤ 10 }
     {
         self.labels.as_slice()
     }

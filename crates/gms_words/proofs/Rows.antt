@@ -2,51 +2,81 @@
 use Rattle.std.proofs.Common.{◌≡◌, true, false, [], ◌∷◌, Some, None, refl, codes}
 use Rattle.std.specs.Fmt.{digits}
 use Rattle.clap.proofs.OnLiterals.{clap_on_literals}
-use Rattle.gms_words.specs.CommandLine.{in_file, generated, request_of}
+use Rattle.gms_words.specs.CommandLine.{in_file, restarted, generated, request_of}
 
 -- a FILE alone, an empty one, one behind `--`, and `-`
-pub file : request_of (codes "a.gms" ∷ []) ≡ Some (record { source = in_file (codes "a.gms"); output = codes "a.lst"; ranges = false })
+pub file : request_of (codes "a.gms" ∷ []) ≡ Some (record { source = in_file (codes "a.gms"); output = codes "a.lst"; save = None; ranges = false })
 unfolding clap_on_literals
 file = refl
 
-pub empty_file : request_of ([] ∷ []) ≡ Some (record { source = in_file []; output = codes ".lst"; ranges = false })
+pub empty_file : request_of ([] ∷ []) ≡ Some (record { source = in_file []; output = codes ".lst"; save = None; ranges = false })
 unfolding clap_on_literals
 empty_file = refl
 
-pub behind_dashes : request_of (codes "--" ∷ codes "-x" ∷ []) ≡ Some (record { source = in_file (codes "-x"); output = codes "-x.lst"; ranges = false })
+pub behind_dashes : request_of (codes "--" ∷ codes "-x" ∷ []) ≡ Some (record { source = in_file (codes "-x"); output = codes "-x.lst"; save = None; ranges = false })
 unfolding clap_on_literals
 behind_dashes = refl
 
-pub hyphen : request_of (codes "-" ∷ []) ≡ Some (record { source = in_file (codes "-"); output = codes "-.lst"; ranges = false })
+pub hyphen : request_of (codes "-" ∷ []) ≡ Some (record { source = in_file (codes "-"); output = codes "-.lst"; save = None; ranges = false })
 unfolding clap_on_literals
 hyphen = refl
 
 -- the output named, also by an empty value
-pub named : request_of (codes "--out" ∷ codes "b" ∷ codes "a.gms" ∷ []) ≡ Some (record { source = in_file (codes "a.gms"); output = codes "b"; ranges = false })
+pub named : request_of (codes "--out" ∷ codes "b" ∷ codes "a.gms" ∷ []) ≡ Some (record { source = in_file (codes "a.gms"); output = codes "b"; save = None; ranges = false })
 unfolding clap_on_literals
 named = refl
 
-pub named_empty : request_of (codes "a.gms" ∷ codes "--out=" ∷ []) ≡ Some (record { source = in_file (codes "a.gms"); output = []; ranges = false })
+pub named_empty : request_of (codes "a.gms" ∷ codes "--out=" ∷ []) ≡ Some (record { source = in_file (codes "a.gms"); output = []; save = None; ranges = false })
 unfolding clap_on_literals
 named_empty = refl
 
 -- a number to generate
-pub one : request_of (codes "--generate" ∷ codes "1" ∷ []) ≡ Some (record { source = generated 1; output = codes "generate.lst"; ranges = false })
+pub one : request_of (codes "--generate" ∷ codes "1" ∷ []) ≡ Some (record { source = generated 1; output = codes "generate.lst"; save = None; ranges = false })
 unfolding clap_on_literals digits
 one = refl
 
-pub thirty : request_of (codes "--generate=30" ∷ codes "--out" ∷ codes "b" ∷ []) ≡ Some (record { source = generated 30; output = codes "b"; ranges = false })
+pub thirty : request_of (codes "--generate=30" ∷ codes "--out" ∷ codes "b" ∷ []) ≡ Some (record { source = generated 30; output = codes "b"; save = None; ranges = false })
 unfolding clap_on_literals digits
 thirty = refl
 
 -- ranges asked for, in any place
-pub with_ranges : request_of (codes "--ranges" ∷ codes "a.gms" ∷ []) ≡ Some (record { source = in_file (codes "a.gms"); output = codes "a.lst"; ranges = true })
+pub with_ranges : request_of (codes "--ranges" ∷ codes "a.gms" ∷ []) ≡ Some (record { source = in_file (codes "a.gms"); output = codes "a.lst"; save = None; ranges = true })
 unfolding clap_on_literals
 with_ranges = refl
 
-pub ranges_last : request_of (codes "--generate" ∷ codes "1" ∷ codes "--ranges" ∷ []) ≡ Some (record { source = generated 1; output = codes "generate.lst"; ranges = true })
+pub ranges_last : request_of (codes "--generate" ∷ codes "1" ∷ codes "--ranges" ∷ []) ≡ Some (record { source = generated 1; output = codes "generate.lst"; save = None; ranges = true })
 unfolding clap_on_literals digits
 ranges_last = refl
+
+-- a save of the last state, and a file that goes on from one
+pub saved : request_of (codes "--save" ∷ codes "s.sav" ∷ codes "a.gms" ∷ []) ≡ Some (record { source = in_file (codes "a.gms"); output = codes "a.lst"; save = Some (codes "s.sav"); ranges = false })
+unfolding clap_on_literals
+saved = refl
+
+pub saved_model : request_of (codes "--generate=2" ∷ codes "--save=s.sav" ∷ []) ≡ Some (record { source = generated 2; output = codes "generate.lst"; save = Some (codes "s.sav"); ranges = false })
+unfolding clap_on_literals digits
+saved_model = refl
+
+pub restart : request_of (codes "--restart" ∷ codes "s.sav" ∷ codes "b.gms" ∷ []) ≡ Some (record { source = restarted (codes "s.sav") (codes "b.gms"); output = codes "b.lst"; save = None; ranges = false })
+unfolding clap_on_literals
+restart = refl
+
+pub restart_and_save : request_of (codes "--restart=s.sav" ∷ codes "--save=t.sav" ∷ codes "b.gms" ∷ codes "--out=c" ∷ []) ≡ Some (record { source = restarted (codes "s.sav") (codes "b.gms"); output = codes "c"; save = Some (codes "t.sav"); ranges = false })
+unfolding clap_on_literals
+restart_and_save = refl
+
+-- refused: a generated model that goes on, a saved state alone, a save twice
+pub restart_of_model : request_of (codes "--restart" ∷ codes "s.sav" ∷ codes "--generate" ∷ codes "1" ∷ []) ≡ None
+unfolding clap_on_literals digits
+restart_of_model = refl
+
+pub restart_alone : request_of (codes "--restart" ∷ codes "s.sav" ∷ []) ≡ None
+unfolding clap_on_literals
+restart_alone = refl
+
+pub save_twice : request_of (codes "--save=s" ∷ codes "--save=t" ∷ codes "a.gms" ∷ []) ≡ None
+unfolding clap_on_literals
+save_twice = refl
 
 -- refused: no number, or none from 1 to 30 as it has to be written
 pub no_number : request_of (codes "--generate" ∷ []) ≡ None

@@ -8,7 +8,7 @@ use Rattle.clap.specs.Simple.{on_top}
 use Rattle.clap.specs.Words.{App, Row, Rule, first_of, matches_of, new_app, new_rule, takes, with_rule}
 use Rattle.clap.specs.declared.builder.action.ArgAction.TheVariants.{SetTrue}
 use Rattle.gms_words.specs.declared.command_line.Source.{Source}
-use Rattle.gms_words.specs.declared.command_line.Source.TheVariants.{File, Generate}
+use Rattle.gms_words.specs.declared.command_line.Source.TheVariants.{File, Restart, Generate}
 use Rattle.gms_words.specs.declared.command_line.Request.{Request}
 
 -- a line: a text and a line feed behind it
@@ -29,11 +29,15 @@ option name = record (new_rule name) { long = Some name }
 abbrev pub flag : List ℕ → Rule
 flag name = record (new_rule name) { long = Some name; action = Some SetTrue }
 
--- the command without its flag: a FILE, which may be left out, `--out` with one value, and `--generate` with one value; its words are
--- without the program's name
+-- the command with the words for its source: a FILE, which may be left out, and `--generate` and `--restart` with one value each; its
+-- words are without the program's name
+abbrev pub with_source : App
+with_source =
+    with_rule (with_rule (with_rule (on_top (λ s. record s { no_binary_name = true }) (new_app (codes "gams25"))) (new_rule (codes "file"))) (option (codes "generate"))) (option (codes "restart"))
+
+-- the command without its flag: with `--out` and `--save` besides, which have one value each
 abbrev pub with_values : App
-with_values =
-    with_rule (with_rule (with_rule (on_top (λ s. record s { no_binary_name = true }) (new_app (codes "gams25"))) (new_rule (codes "file"))) (option (codes "out"))) (option (codes "generate"))
+with_values = with_rule (with_rule with_source (option (codes "out"))) (option (codes "save"))
 
 -- the command, with the flag `--ranges`
 abbrev pub gams25 : App
@@ -49,16 +53,19 @@ rows_taken words = if takes gams25 words then Some (matches_of gams25 words) els
 abbrev pub size_of : List ℕ → Option ℕ
 size_of text = find (λ size. bytes_eq (decimal size) text) (range_with_len 1 30)
 
--- where a source comes from: the file of a name, or a generated model of a size
+-- where a source comes from: the file of a name, a file that goes on from the saved state in another one, or a generated model of a size
 pub data Origin : Type 0 where
   in_file : List ℕ → Origin
+  restarted : List ℕ → List ℕ → Origin
   generated : ℕ → Origin
 
--- the source that a FILE or a number to generate names, where exactly one of them is there
-abbrev pub origin_of : Option (List ℕ) → Option (List ℕ) → Option Origin
-origin_of (Some file) None = Some (in_file file)
-origin_of None (Some text) = option_map generated (size_of text)
-origin_of _ _ = None
+-- the source that a FILE or a number to generate names, where exactly one of them is there; a file may go on from a saved state, and a
+-- generated model may not
+abbrev pub origin_of : Option (List ℕ) → Option (List ℕ) → Option (List ℕ) → Option Origin
+origin_of (Some file) None None = Some (in_file file)
+origin_of (Some file) None (Some saved) = Some (restarted saved file)
+origin_of None (Some text) None = option_map generated (size_of text)
+origin_of _ _ _ = None
 
 -- the name of the output after a file: FILE with a last `.gms` replaced by `.lst`, or with `.lst` behind it where it does not end so
 abbrev pub output_name : List ℕ → List ℕ
@@ -68,17 +75,21 @@ output_name file =
 -- the name of the output that comes of the source
 abbrev pub own_output : Origin → List ℕ
 own_output (in_file file) = output_name file
+own_output (restarted saved file) = output_name file
 own_output (generated size) = codes "generate.lst"
 
--- What accepted words ask for: a source, the name of the output, and whether ranges are said.
+-- What accepted words ask for: a source, the name of the output, that of the file for the last state where it is to be saved, and whether
+-- ranges are said.
 pub record Asked : Type 0 where
   pub source : Origin
   pub output : List ℕ
+  pub save : Option (List ℕ)
   pub ranges : Bool
 
 -- the output has the name that `--out` gives it, or else that which comes of the source
-abbrev pub asked : Bool → Option (List ℕ) → Origin → Asked
-asked ranges out source = record { source = source; output = unwrap_or out (own_output source); ranges = ranges }
+abbrev pub asked : Bool → Option (List ℕ) → Option (List ℕ) → Origin → Asked
+asked ranges save out source =
+    record { source = source; output = unwrap_or out (own_output source); save = save; ranges = ranges }
 
 -- whether a flag is given, by its value
 abbrev pub is_given : Option (List ℕ) → Bool
@@ -87,9 +98,9 @@ is_given value = option_map_or (λ text. bytes_eq text (codes "true")) value fal
 -- what the command's matches ask for, where they name exactly one source
 abbrev pub request_in : List Row → Option Asked
 request_in rows =
-    option_map (asked (is_given (first_of (codes "ranges") rows)) (first_of (codes "out") rows)) (origin_of (first_of (codes "file") rows) (first_of (codes "generate") rows))
+    option_map (asked (is_given (first_of (codes "ranges") rows)) (first_of (codes "save") rows) (first_of (codes "out") rows)) (origin_of (first_of (codes "file") rows) (first_of (codes "generate") rows) (first_of (codes "restart") rows))
 
--- what the words ask for; they are accepted where the command takes them and they name exactly one source
+-- what the words ask for; they are accepted where the command takes them and they name exactly one source, and no generated model is to go on from a saved state
 abbrev pub request_of : List (List ℕ) → Option Asked
 request_of words = option_and_then request_in (rows_taken words)
 
@@ -98,17 +109,19 @@ request_of words = option_and_then request_in (rows_taken words)
 -- the source, as a name or a number
 abbrev pub origin : Source → Origin
 origin (File name) = in_file name.now
+origin (Restart saved file) = restarted saved.now file.now
 origin (Generate size) = generated size
 
 -- what a request asks for
 abbrev pub asked_by : Request → Asked
-asked_by request = asked request.ranges (option_map (λ name. name.now) request.out) (origin request.source)
+asked_by request =
+    asked request.ranges (option_map (λ name. name.now) request.save) (option_map (λ name. name.now) request.out) (origin request.source)
 
 -- ---- lines
 
 -- what is said where the words are refused
 abbrev pub usage_line : List ℕ
-usage_line = line_of (codes "usage: gams25 [--ranges] [--out FILE] FILE | gams25 [--ranges] [--out FILE] --generate N")
+usage_line = line_of (codes "usage: gams25 [--ranges] [--save FILE] [--restart FILE] [--out FILE] FILE | gams25 [--ranges] [--save FILE] [--out FILE] --generate N")
 
 -- what is said where the input cannot be read
 abbrev pub read_fault_line : List ℕ → List ℕ

@@ -1,7 +1,7 @@
 //! The words of the command line, what they ask for, and what is said on standard output.
 ghost use Rattle.std.specs.Prelude.{◌≡◌, false, IfOk, string_bytes, option_map, codes};
 ghost use Rattle.clap.specs.Words.{app_of, found_of, rows_of, rule_of};
-ghost use Rattle.gms_words.specs.CommandLine.{texts, flag, with_values, gams25, rows_taken, size_of, origin_of, is_given, request_in, request_of, origin, asked_by, output_name, usage_line, read_fault_line, generated_line, closing_line, ranges_line, range_line, not_shown_line};
+ghost use Rattle.gms_words.specs.CommandLine.{texts, flag, with_source, with_values, gams25, rows_taken, size_of, origin_of, is_given, request_in, request_of, origin, asked_by, output_name, usage_line, read_fault_line, generated_line, closing_line, ranges_line, range_line, not_shown_line};
 
 use clap::error::ErrorKind;
 use clap::{Arg, ArgAction, ArgMatches, Command};
@@ -9,7 +9,7 @@ use std::alloc::{AllocError, Global};
 
 /// What is said where the words are refused.
 const USAGE: &str =
-    "usage: gams25 [--ranges] [--out FILE] FILE | gams25 [--ranges] [--out FILE] --generate N\n";
+    "usage: gams25 [--ranges] [--save FILE] [--restart FILE] [--out FILE] FILE | gams25 [--ranges] [--save FILE] [--out FILE] --generate N\n";
 
 /// The sizes that a generated model can have, from the least on.
 const SIZES: [&str; 30] = [
@@ -22,6 +22,13 @@ const SIZES: [&str; 30] = [
 pub enum Source<'a> {
     /// The file of this name.
     File(&'a str),
+    /// A file that goes on from a saved state.
+    Restart {
+        /// The name of the file with the saved state.
+        saved: &'a str,
+        /// The name of the file that goes on from it.
+        file: &'a str,
+    },
     /// A generated model with so many plants and markets.
     Generate(u32),
 }
@@ -33,19 +40,31 @@ pub struct Request<'a> {
     pub source: Source<'a>,
     /// The name that `--out` gives the output.
     pub out: Option<&'a str>,
+    /// The name that `--save` gives the file for the last state.
+    pub save: Option<&'a str>,
     /// Whether `--ranges` asks for the ranges of each optimum.
     pub ranges: bool,
 }
 
-/// The command without its flag: an optional FILE, and `--out` and `--generate` with one value each.
+/// The command with the words for its source: an optional FILE, and `--generate` and `--restart` with one value each.
+fn with_source<'a>(alloc: Global) -> Result<Command<'a>, AllocError>
+    ensures { IfOk result (λ command. app_of command ≡ with_source) }
+{
+    let file = Arg::new(alloc, "file");
+    let generate = Arg::new(alloc, "generate").long("generate");
+    let restart = Arg::new(alloc, "restart").long("restart");
+    let bare = Command::new(alloc, "gams25").no_binary_name(true);
+    bare.arg(file)?.arg(generate)?.arg(restart)
+}
+
+/// The command without its flag: with `--out` and `--save` besides, which have one value each.
 fn with_values<'a>(alloc: Global) -> Result<Command<'a>, AllocError>
     ensures { IfOk result (λ command. app_of command ≡ with_values) }
 {
-    let file = Arg::new(alloc, "file");
     let out = Arg::new(alloc, "out").long("out");
-    let generate = Arg::new(alloc, "generate").long("generate");
-    let bare = Command::new(alloc, "gams25").no_binary_name(true);
-    bare.arg(file)?.arg(out)?.arg(generate)
+    let save = Arg::new(alloc, "save").long("save");
+    let bare = with_source(alloc)?;
+    bare.arg(out)?.arg(save)
 }
 
 /// The flag of the command.
@@ -88,13 +107,19 @@ fn size_of(text: &str) -> Option<u32>
     Some(place as u32 + 1)
 }
 
-/// The source that the values of FILE and of `--generate` name, where exactly one of them is there.
-fn source_of<'a>(file: Option<&'a str>, size: Option<&'a str>) -> Option<Source<'a>>
-    ensures { option_map origin result ≡ origin_of (option_map (λ name. name.now) file.entry) (option_map (λ text. text.now) size.entry) }
+/// The source that the values of FILE and of `--generate` name, where exactly one of them is there. It goes on from the saved
+/// state in the file that `--restart` names, where that is given: a generated model does not.
+fn source_of<'a>(
+    file: Option<&'a str>,
+    size: Option<&'a str>,
+    saved: Option<&'a str>,
+) -> Option<Source<'a>>
+    ensures { option_map origin result ≡ origin_of (option_map (λ name. name.now) file.entry) (option_map (λ text. text.now) size.entry) (option_map (λ name. name.now) saved.entry) }
 {
-    match (file, size) {
-        (Some(name), None) => Some(Source::File(name)),
-        (None, Some(text)) => Some(Source::Generate(size_of(text)?)),
+    match (file, size, saved) {
+        (Some(file), None, None) => Some(Source::File(file)),
+        (Some(file), None, Some(saved)) => Some(Source::Restart { saved, file }),
+        (None, Some(text), None) => Some(Source::Generate(size_of(text)?)),
         _ => None,
     }
 }
@@ -113,17 +138,23 @@ fn is_given(value: Option<&str>) -> bool
 fn request_in<'a>(matches: &ArgMatches<'a>) -> Option<Request<'a>>
     ensures { option_map asked_by result ≡ request_in (rows_of (found_of matches.now)) }
 {
-    let source = source_of(matches.get_str("file"), matches.get_str("generate"))?;
+    let file = matches.get_str("file");
+    let size = matches.get_str("generate");
+    let saved = matches.get_str("restart");
+    let source = source_of(file, size, saved)?;
     let out = matches.get_str("out");
+    let save = matches.get_str("save");
     let ranges = is_given(matches.get_str("ranges"));
     Some(Request {
         source,
         out,
+        save,
         ranges,
     })
 }
 
-/// What the words ask for. They are refused where there is `None`: where the command does not take them, or they name not exactly one source.
+/// What the words ask for. They are refused where there is `None`: where the command does not take them, they name not exactly
+/// one source, or a generated model is to go on from a saved state.
 pub fn request_of<'a>(alloc: Global, words: &'a [String]) -> Result<Option<Request<'a>>, AllocError>
     ensures { IfOk result (λ request. option_map asked_by request ≡ request_of (texts words.now)) }
 {
@@ -149,7 +180,7 @@ pub fn output_of(alloc: Global, request: Request) -> Result<String, AllocError>
 {
     match (request.out, request.source) {
         (Some(out), _) => String::from_str(alloc, out),
-        (None, Source::File(file)) => output_name(alloc, file),
+        (None, Source::File(file) | Source::Restart { file, .. }) => output_name(alloc, file),
         (None, Source::Generate(_)) => String::from_str(alloc, "generate.lst"),
     }
 }

@@ -1,11 +1,14 @@
-//! That Bland's rule leaves nothing open, and that wider numbers change no answer: laws on functions with empty bodies.
-ghost use Rattle.std.specs.Prelude.{◌≡◌, ◌-◌, ◌^◌, ℕ};
+//! That Bland's rule leaves nothing open and has an answer always, that wider numbers change no answer, and what is an answer as well: laws on functions with empty bodies.
+ghost use Rattle.std.specs.Prelude.{◌≡◌, ◌-◌, ◌^◌, ◌≤◌, ℕ, List, length};
+ghost use Rattle.gq_number.specs.Number.{Number};
 ghost use Rattle.gq_field.specs.declared.half.Half.{Half};
 ghost use Rattle.gq_field.specs.Values.{half_value};
 ghost use Rattle.gq_frac.specs.declared.frac.Frac.{Frac};
 ghost use Rattle.gq_frac.specs.Frac.{frac_value};
 ghost use Rattle.lp_core.specs.declared.answer.Answer.{Answer};
-ghost use Rattle.lp_core.specs.declared.answer.Rule.TheVariants.{Bland};
+ghost use Rattle.lp_core.specs.declared.answer.End.TheVariants.{Optimal};
+ghost use Rattle.lp_core.specs.declared.answer.Rule.{Rule};
+ghost use Rattle.lp_core.specs.declared.answer.Rule.TheVariants.{Bland, Legal};
 ghost use Rattle.lp_core.specs.declared.program.Lp.{Lp};
 ghost use Rattle.lp_core.specs.Answers.{IsAnswer};
 ghost use Rattle.lp_core.specs.Numbers.{lp_numbers, answer_numbers};
@@ -21,9 +24,29 @@ pub fn one_answer<F: ExactField>()
         IsAnswer F.value F.limit lp iterlim Bland a → IsAnswer F.value F.limit lp iterlim Bland b → a ≡ b }
 {}
 
+/// A program has an answer under Bland's rule and each limit of pivots. So there is exactly one: a call that is given the memory has
+/// something to answer.
+pub fn an_answer<F: ExactField>()
+    ensures { (lp : Lp F) (iterlim : ℕ) → IsWellFormed F.value lp →
+        (answer : Answer F) × IsAnswer F.value F.limit lp iterlim Bland answer }
+{}
+
 /// An answer over numbers of 63 bits is the answer over those of 127, made wide, unless a step of it did not fit.
 pub fn wide_answers()
     ensures { (narrow : Lp Half) (wide : Lp Frac) (iterlim : ℕ) (a : Answer Half) (b : Answer Frac) → lp_numbers half_value narrow ≡ lp_numbers frac_value wide →
         IsWellFormed frac_value wide → answer_numbers frac_value b ≡ answer_numbers half_value a → ¬ (IsRefused a.end) →
         IsAnswer half_value (2 ^ 63 - 1) narrow iterlim Bland a → IsAnswer frac_value (2 ^ 127 - 1) wide iterlim Bland b }
+{}
+
+/// What is an answer as well. One under Bland's rule is one under the rule Legal, by which every improving variable may enter. An optimum is
+/// one under each limit of pivots that it keeps to. And an answer over a field is one over the numbers that its values mean.
+pub fn answers_too<F: ExactField>()
+    ensures legal { (lp : Lp F) (iterlim : ℕ) (answer : Answer F) →
+        IsAnswer F.value F.limit lp iterlim Bland answer → IsAnswer F.value F.limit lp iterlim Legal answer }
+    ensures within { (lp : Lp F) (iterlim other : ℕ) (rule : Rule) (answer : Answer F) (levels row_levels duals reduced : List F) →
+        answer.end ≡ Optimal levels row_levels duals reduced → length answer.pivots ≤ other →
+        IsAnswer F.value F.limit lp iterlim rule answer → IsAnswer F.value F.limit lp other rule answer }
+    ensures numbers { (lp : Lp F) (iterlim : ℕ) (rule : Rule) (answer : Answer F) → IsWellFormed F.value lp →
+        IsAnswer F.value F.limit lp iterlim rule answer →
+        IsAnswer (λ (x : Number). x) F.limit (lp_numbers F.value lp) iterlim rule (answer_numbers F.value answer) }
 {}

@@ -1,4 +1,4 @@
-use Rattle.std.proofs.Common.{◌<◌, ◌++◌, ◌∙◌, ◌^◌, ap, subst, sym}
+use Rattle.std.proofs.Common.{◌<◌, ◌++◌, ◌∙◌, ◌^◌, ap, refl, subst, sym}
 use Rattle.std.proofs.lemmas.Result.{err_from_is_err_and}
 use Rattle.gms_exec.specs.Stepping.{AreKept}
 use Rattle.gms_host.specs.Meaning.{Outside}
@@ -12,7 +12,7 @@ use Rattle.gms_run.proofs.execution.statements.Goals as goal
 pub loop-s-init : goal.loop-s-init
 loop-s-init g c =
     record {
-      come = come_start (work c.args.program.now c.args.store.now c.args.program.now.statements.items) (seen (λ b. (goal.LpSolver-dyn g (b.vtable, b.value)).name b.value) (λ b. (goal.LpSolver-dyn g (b.vtable, b.value)).rule b.value) (λ b. (goal.LpSolver-dyn g (b.vtable, b.value)).paths b.value) c.args.solvers.now.items) _ _ c.args.answers.now.items c.args.solved.now.items c.requires.none c.requires.unsolved;
+      come = come_start (work c.args.program.now c.args.store.now c.args.list.now) (seen (λ b. (goal.LpSolver-dyn g (b.vtable, b.value)).name b.value) (λ b. (goal.LpSolver-dyn g (b.vtable, b.value)).rule b.value) (λ b. (goal.LpSolver-dyn g (b.vtable, b.value)).paths b.value) c.args.solvers.now.items) _ _ c.args.answers.now.items c.args.solved.now.items c.requires.none c.requires.unsolved;
       room = c.requires.room;
       settings = c.requires.settings;
       plain = c.requires.plain;
@@ -43,7 +43,7 @@ returns-in_err-goes_on-clause-counts g c =
 
 pub returns-in_err-pass-clause-outside : goal.returns-in_err-pass-clause-outside
 returns-in_err-pass-clause-outside g c =
-    let job = work c.args.program.now c.args.store.now c.args.program.now.statements.items in
+    let job = work c.args.program.now c.args.store.now c.args.list.now in
     let before = seen (λ b. (goal.LpSolver-dyn g (b.vtable, b.value)).name b.value) (λ b. (goal.LpSolver-dyn g (b.vtable, b.value)).rule b.value) (λ b. (goal.LpSolver-dyn g (b.vtable, b.value)).paths b.value) c.args.solvers.now.items in
     let old = (g.H.Host.meaning c.args.host.now).outside in
     let mid = (g.H.Host.meaning c.loop-s.host).outside in
@@ -52,8 +52,8 @@ returns-in_err-pass-clause-outside g c =
     let next = between (λ b. (goal.LpSolver-dyn g (b.vtable, b.value)).name b.value) (λ b. (goal.LpSolver-dyn g (b.vtable, b.value)).rule b.value) (λ b. (goal.LpSolver-dyn g (b.vtable, b.value)).paths b.value) c.statement.new.store c.statement.new.answers.items c.statement.new.solved.items c.statement.new.solvers.items in
     let at = c.loop-s.invariant in
     let executes =
-    executes_next job before old due mid c.in_ok-goes_on.goes_on c.loop-s.s-index c.s-item.result now next c.loop-s.outlet.spool c.loop-s.outlet.listing c.statement.new.listing c.deref-s-items.result.now
-    at.come at.room c.deref-s-items.ensures.value c.loop-s-test.true c.s-item.is c.in_ok-goes_on.ensures.listed in
+    executes_next job before old due mid c.in_ok-goes_on.goes_on c.loop-s.s-index c.s-item.result now next c.loop-s.outlet.spool c.loop-s.outlet.listing c.statement.new.listing c.args.list.now
+    at.come at.room refl c.loop-s-test.true c.s-item.is c.in_ok-goes_on.ensures.listed in
     let p = err_from_is_err_and c.from_residual-in_err-pass.result c.from_residual-in_err-pass.ensures.1 in
     rw (p.1, p.2) (comes_broken _ c.in_err-pass.field-0.0 (broke job before old due mid (g.H.Host.meaning c.pass.new.host).outside c.in_ok-goes_on.goes_on c.loop-s.s-index next (c.loop-s.outlet.spool ++ c.statement.new.listing) executes c.in_err-pass.ensures.outside.0))
 
@@ -64,7 +64,7 @@ returns-in_err-pass-clause-counts g c =
 
 pub returns-then-not-goes_on-clause-outside : goal.returns-then-not-goes_on-clause-outside
 returns-then-not-goes_on-clause-outside g c =
-    let job = work c.args.program.now c.args.store.now c.args.program.now.statements.items in
+    let job = work c.args.program.now c.args.store.now c.args.list.now in
     let before = seen (λ b. (goal.LpSolver-dyn g (b.vtable, b.value)).name b.value) (λ b. (goal.LpSolver-dyn g (b.vtable, b.value)).rule b.value) (λ b. (goal.LpSolver-dyn g (b.vtable, b.value)).paths b.value) c.args.solvers.now.items in
     let old = (g.H.Host.meaning c.args.host.now).outside in
     let mid = (g.H.Host.meaning c.loop-s.host).outside in
@@ -73,8 +73,8 @@ returns-then-not-goes_on-clause-outside g c =
     let next = between (λ b. (goal.LpSolver-dyn g (b.vtable, b.value)).name b.value) (λ b. (goal.LpSolver-dyn g (b.vtable, b.value)).rule b.value) (λ b. (goal.LpSolver-dyn g (b.vtable, b.value)).paths b.value) c.statement.new.store c.statement.new.answers.items c.statement.new.solved.items c.statement.new.solvers.items in
     let at = c.loop-s.invariant in
     let executes =
-    executes_next job before old due mid c.in_ok-goes_on.goes_on c.loop-s.s-index c.s-item.result now next c.loop-s.outlet.spool c.loop-s.outlet.listing c.statement.new.listing c.deref-s-items.result.now
-    at.come at.room c.deref-s-items.ensures.value c.loop-s-test.true c.s-item.is c.in_ok-goes_on.ensures.listed in
+    executes_next job before old due mid c.in_ok-goes_on.goes_on c.loop-s.s-index c.s-item.result now next c.loop-s.outlet.spool c.loop-s.outlet.listing c.statement.new.listing c.args.list.now
+    at.come at.room refl c.loop-s-test.true c.s-item.is c.in_ok-goes_on.ensures.listed in
     let stops = subst (λ b. Executes job before old due mid b c.loop-s.s-index next (c.loop-s.outlet.spool ++ c.statement.new.listing)) c.if-not-goes_on.true executes in
     came_stopped job before old due mid (g.H.Host.meaning c.pass.new.host).outside c.loop-s.s-index next (c.loop-s.outlet.spool ++ c.statement.new.listing) c.pass.new.self.spool c.pass.new.self.listing stops c.in_ok-pass.ensures.outside c.in_ok-pass.ensures.room c.in_ok-pass.ensures.none
 
@@ -84,7 +84,7 @@ returns-then-not-goes_on-clause-counts g c =
 
 pub loop-s-preserved : goal.loop-s-preserved
 loop-s-preserved g c =
-    let job = work c.args.program.now c.args.store.now c.args.program.now.statements.items in
+    let job = work c.args.program.now c.args.store.now c.args.list.now in
     let before = seen (λ b. (goal.LpSolver-dyn g (b.vtable, b.value)).name b.value) (λ b. (goal.LpSolver-dyn g (b.vtable, b.value)).rule b.value) (λ b. (goal.LpSolver-dyn g (b.vtable, b.value)).paths b.value) c.args.solvers.now.items in
     let old = (g.H.Host.meaning c.args.host.now).outside in
     let mid = (g.H.Host.meaning c.loop-s.host).outside in
@@ -93,8 +93,8 @@ loop-s-preserved g c =
     let next = between (λ b. (goal.LpSolver-dyn g (b.vtable, b.value)).name b.value) (λ b. (goal.LpSolver-dyn g (b.vtable, b.value)).rule b.value) (λ b. (goal.LpSolver-dyn g (b.vtable, b.value)).paths b.value) c.statement.new.store c.statement.new.answers.items c.statement.new.solved.items c.statement.new.solvers.items in
     let at = c.loop-s.invariant in
     let executes =
-    executes_next job before old due mid c.in_ok-goes_on.goes_on c.loop-s.s-index c.s-item.result now next c.loop-s.outlet.spool c.loop-s.outlet.listing c.statement.new.listing c.deref-s-items.result.now
-    at.come at.room c.deref-s-items.ensures.value c.loop-s-test.true c.s-item.is c.in_ok-goes_on.ensures.listed in
+    executes_next job before old due mid c.in_ok-goes_on.goes_on c.loop-s.s-index c.s-item.result now next c.loop-s.outlet.spool c.loop-s.outlet.listing c.statement.new.listing c.args.list.now
+    at.come at.room refl c.loop-s-test.true c.s-item.is c.in_ok-goes_on.ensures.listed in
     let goes = subst (λ b. Executes job before old due mid b c.loop-s.s-index next (c.loop-s.outlet.spool ++ c.statement.new.listing)) c.if-not-goes_on.false executes in
     let kept = c.in_ok-goes_on.ensures in
     record {
@@ -107,9 +107,9 @@ loop-s-preserved g c =
 
 pub returns-clause-outside : goal.returns-clause-outside
 returns-clause-outside g c =
-    came_done (work c.args.program.now c.args.store.now c.args.program.now.statements.items) (seen (λ b. (goal.LpSolver-dyn g (b.vtable, b.value)).name b.value) (λ b. (goal.LpSolver-dyn g (b.vtable, b.value)).rule b.value) (λ b. (goal.LpSolver-dyn g (b.vtable, b.value)).paths b.value) c.args.solvers.now.items) (g.H.Host.meaning c.args.host.now).outside (c.args.outlet.now.spool ++ c.args.outlet.now.listing) (g.H.Host.meaning c.loop-s.host).outside c.loop-s.s-index
-    (between (λ b. (goal.LpSolver-dyn g (b.vtable, b.value)).name b.value) (λ b. (goal.LpSolver-dyn g (b.vtable, b.value)).rule b.value) (λ b. (goal.LpSolver-dyn g (b.vtable, b.value)).paths b.value) c.loop-s.store c.loop-s.answers.items c.loop-s.solved.items c.loop-s.solvers.items) (c.loop-s.outlet.spool ++ c.loop-s.outlet.listing) c.deref-s-items.result.now
-    c.loop-s.invariant.come c.loop-s.invariant.room c.deref-s-items.ensures.value c.loop-s-test.false
+    came_done (work c.args.program.now c.args.store.now c.args.list.now) (seen (λ b. (goal.LpSolver-dyn g (b.vtable, b.value)).name b.value) (λ b. (goal.LpSolver-dyn g (b.vtable, b.value)).rule b.value) (λ b. (goal.LpSolver-dyn g (b.vtable, b.value)).paths b.value) c.args.solvers.now.items) (g.H.Host.meaning c.args.host.now).outside (c.args.outlet.now.spool ++ c.args.outlet.now.listing) (g.H.Host.meaning c.loop-s.host).outside c.loop-s.s-index
+    (between (λ b. (goal.LpSolver-dyn g (b.vtable, b.value)).name b.value) (λ b. (goal.LpSolver-dyn g (b.vtable, b.value)).rule b.value) (λ b. (goal.LpSolver-dyn g (b.vtable, b.value)).paths b.value) c.loop-s.store c.loop-s.answers.items c.loop-s.solved.items c.loop-s.solvers.items) (c.loop-s.outlet.spool ++ c.loop-s.outlet.listing) c.args.list.now
+    c.loop-s.invariant.come c.loop-s.invariant.room refl c.loop-s-test.false
 
 pub returns-clause-counts : goal.returns-clause-counts
 returns-clause-counts g c = writing_done tt _ c.loop-s.invariant.counts

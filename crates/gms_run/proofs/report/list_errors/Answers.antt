@@ -8,4 +8,4 @@ returns-then-is_empty c = (emptied c.args.errors.now (sym c.is_empty.ensures ∙
 
 pub returns : goal.returns
 returns c =
-    (filled c.args.errors.now (sym c.is_empty.ensures ∙ c.if-is_empty.false), two_behind c.args.listing.now (echo_text 1 c.args.source.now) c.echo.new.self (compile_errors_text c.args.errors.now) c.errors.new.self c.in_ok-echo.ensures c.in_ok-errors.ensures)
+    (filled c.args.errors.now (sym c.is_empty.ensures ∙ c.if-is_empty.false), two_behind c.args.listing.now (echo_text c.args.script.line c.args.script.file.now) c.echo_from.new.self (compile_errors_text c.args.errors.now) c.errors.new.self c.in_ok-echo_from.ensures c.in_ok-errors.ensures)

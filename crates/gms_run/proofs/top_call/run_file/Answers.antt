@@ -1,7 +1,8 @@
-use Rattle.std.proofs.Common.{refl, subst, Vec, ℕ}
+use Rattle.std.proofs.Common.{refl, subst, sym, Vec, ℕ}
 use Rattle.std.specs.declared.alloc.Global.{Global}
 use Rattle.gms_host.specs.Rules.{CountsReading, IsThere}
-use Rattle.gms_words.specs.CommandLine.{asked_by}
+use Rattle.gms_words.specs.CommandLine.{Origin, asked_by}
+use Rattle.gms_run.specs.Statuses.{IsUnreadOf}
 use Rattle.gms_run.specs.Solving.{solving}
 use Rattle.gms_run.proofs.Comings.{failed_with}
 use Rattle.gms_run.proofs.Runs.{counts_read, counts_read_memory, counts_unread, of_file, unread}
@@ -17,7 +18,7 @@ returns-clause-counts g c = counts_read c.in-Ok.source (IsThere (g.H.Host.meanin
 pub returns-in-Err-Fault-clause-ran : goal.returns-in-Err-Fault-clause-ran
 returns-in-Err-Fault-clause-ran g c =
     let counts = subst (λ e. CountsReading (failed_with (Vec ℕ Global) e) (IsThere (g.H.Host.meaning c.args.host.now).outside c.args.file.now) (g.H.Host.meaning c.args.host.now).counts (g.H.Host.meaning c.read_file.new.host).counts) c.in-Err-Fault.field-0-is c.in-Err-Fault.ensures.counts in
-    unread c.report_read_fault.result (solving (λ b. (goal.LpSolver-dyn g (b.vtable, b.value)).name b.value) (λ b. (goal.LpSolver-dyn g (b.vtable, b.value)).rule b.value) (λ b. (goal.LpSolver-dyn g (b.vtable, b.value)).paths b.value) c.args.solvers.now.items c.args.solvers.now.items c.args.answers.now.items) (g.H.Host.meaning c.args.host.now) (g.H.Host.meaning c.read_file.new.host) (g.H.Host.meaning c.report_read_fault.new.host) (asked_by c.args.request) c.args.file.now c.requires.named c.in-Err-Fault.ensures.outside counts c.report_read_fault.ensures.status c.report_read_fault.ensures.said (c.requires.none, refl)
+    unread c.report_read_fault.result (solving (λ b. (goal.LpSolver-dyn g (b.vtable, b.value)).name b.value) (λ b. (goal.LpSolver-dyn g (b.vtable, b.value)).rule b.value) (λ b. (goal.LpSolver-dyn g (b.vtable, b.value)).paths b.value) c.args.solvers.now.items c.args.solvers.now.items c.args.answers.now.items) (g.H.Host.meaning c.args.host.now) (g.H.Host.meaning c.read_file.new.host) (g.H.Host.meaning c.report_read_fault.new.host) (asked_by c.args.request) c.args.file.now (subst (λ (o : Origin). IsUnreadOf (g.H.Host.meaning c.args.host.now).outside (g.H.Host.meaning c.read_file.new.host).outside o c.args.file.now) (sym c.requires.named) (refl, c.in-Err-Fault.ensures.outside)) counts c.report_read_fault.ensures.status c.report_read_fault.ensures.said (c.requires.none, refl)
 
 pub returns-in-Err-Fault-clause-counts : goal.returns-in-Err-Fault-clause-counts
 returns-in-Err-Fault-clause-counts g c =

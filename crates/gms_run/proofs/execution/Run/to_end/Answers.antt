@@ -1,5 +1,5 @@
--- The statements, and the remarks on their run.
-use Rattle.std.proofs.Common.{List, subst, sym}
+-- The statements, and what is to be done behind their listing.
+use Rattle.std.proofs.Common.{◌≡◌, List, ap, subst, sym}
 use Rattle.std.specs.Prelude.{string_bytes}
 use Rattle.std.proofs.lemmas.Result.{err_from_is_err_and}
 use Rattle.gq_frac.specs.declared.frac.Frac.{Frac}
@@ -23,7 +23,7 @@ remark-requires g c =
 pub returns-in_err-status-clause-outside : goal.returns-in_err-status-clause-outside
 returns-in_err-status-clause-outside g c =
     let p = err_from_is_err_and c.from_residual.result c.from_residual.ensures.1 in
-    rw (p.1, p.2) (comes_err _ _ c.in_err-status.field-0.0 (λ u. u) c.in_err-status.ensures.outside)
+    rw (p.1, p.2, ← c.statements_of.ensures) (comes_err _ _ c.in_err-status.field-0.0 (λ u. u) c.in_err-status.ensures.outside)
 
 pub returns-in_err-status-clause-counts : goal.returns-in_err-status-clause-counts
 returns-in_err-status-clause-counts g c =
@@ -40,8 +40,18 @@ returns-in_err-text-clause-counts g c =
     let p = err_from_is_err_and c.from_residual-in_err-text.result c.from_residual-in_err-text.ensures.1 in
     rw (p.1, p.2) (writing_more _ c.in_ok-status.ensures.counts (writing_memory _ _))
 
+pub returns-in_err-save-clause-outside : goal.returns-in_err-save-clause-outside
+returns-in_err-save-clause-outside g c =
+    let p = err_from_is_err_and c.from_residual-in_err-save.result c.from_residual-in_err-save.ensures.1 in
+    rw (p.1, p.2) tt
+
+pub returns-in_err-save-clause-counts : goal.returns-in_err-save-clause-counts
+returns-in_err-save-clause-counts g c =
+    let p = err_from_is_err_and c.from_residual-in_err-save.result c.from_residual-in_err-save.ensures.1 in
+    rw (p.1, p.2) (writing_more _ c.in_ok-status.ensures.counts (writing_memory _ _))
+
 pub returns-clause-outside : goal.returns-clause-outside
-returns-clause-outside g c = c.in_ok-status.ensures.outside
+returns-clause-outside g c = rw (← c.statements_of.ensures) c.in_ok-status.ensures.outside
 
 pub returns-clause-told : goal.returns-clause-told
 returns-clause-told g c =

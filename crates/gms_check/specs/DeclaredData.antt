@@ -1,0 +1,71 @@
+-- What the declarations of a program give its names: the data of their items, the bounds of their types, and nothing else.
+-- GAMS User's Guide, "Set Definition"; "Data Entry: Parameters, Scalars and Tables"; "Variables"; "Equations".
+use Rattle.std.specs.Prelude.{◌≡◌, ◌++◌, ◌∷◌, ℕ, Bool, true, false, List, [], Option, Some, None, if◌then◌else◌}
+use Rattle.gq_number.specs.Number.{Number}
+use Rattle.gq_extended.specs.Extended.{Extended}
+use Rattle.gq_extended.specs.Meaning.{extended}
+use Rattle.gq_extended.specs.declared.extended.Ext.{Ext}
+use Rattle.gms_ast.specs.declared.declaration.DeclKind.{DeclKind}
+use Rattle.gms_ast.specs.declared.declaration.DeclKind.TheVariants as declaring
+use Rattle.gms_ast.specs.declared.declaration.Decl.{Decl}
+use Rattle.gms_ast.specs.declared.declaration.Item.{Item}
+use Rattle.gms_ast.specs.declared.program.Act.TheVariants.{Declare}
+use Rattle.gms_ast.specs.declared.program.Program.{Program}
+use Rattle.gms_ast.specs.declared.program.Stmt.{Stmt}
+use Rattle.gms_tuple.specs.Products.{product}
+use Rattle.gms_tuple.specs.TupleSet.{has}
+use Rattle.gms_store.specs.declared.kind.VariableType.{VariableType}
+use Rattle.gms_store.specs.declared.kind.VariableType.TheVariants.{Free, Positive, Negative, Discrete}
+use Rattle.gms_store.specs.State.{zero}
+use Rattle.gms_check.specs.Checked.{StandsAfter}
+use Rattle.gms_check.specs.Past.{is_among, names_declared}
+
+-- whether a declaration is of names that have values
+abbrev pub has_values : DeclKind → Bool
+has_values declaring.Parameter = true
+has_values declaring.Scalar = true
+has_values declaring.Table = true
+has_values kind = false
+
+-- the type of the variables that a declaration is of
+abbrev pub type_of : DeclKind → Option VariableType
+type_of declaring.Free = Some Free
+type_of declaring.Positive = Some Positive
+type_of declaring.Negative = Some Negative
+type_of declaring.Discrete = Some Discrete
+type_of kind = None
+
+module _ {F : Type 0} where
+  -- what items of data give at a tuple: the value of the item that has it, or that this has none; nothing where no item has it
+  abbrev pub datum_at : List (Item F) → List ℕ → Option (Option (Ext F))
+  datum_at [] t = None
+  datum_at (item ∷ items) t = if has (product item.parts) t then Some item.value else datum_at items t
+
+  -- whether a tuple is put into a set: an item without a value has it
+  abbrev pub is_put_in : Option (Option (Ext F)) → Bool
+  is_put_in (Some None) = true
+  is_put_in datum = false
+
+  -- A statement of a program declares a name, of a kind, with a domain and data.
+  pub record Declares (program : Program F) (kind : DeclKind) (item : Decl F) : Type 0 where
+    pub before : List (Stmt F)
+    pub statement : Stmt F
+    pub stands : StandsAfter program before statement
+    pub first : List (Decl F)
+    pub rest : List (Decl F)
+    pub act : statement.act ≡ Declare kind (first ++ item ∷ rest)
+
+  -- every declaration of a name leaves its type free
+  abbrev pub IsFree : Program F → ℕ → Type 0
+  IsFree program name = (kind : DeclKind) (item : Decl F) → Declares program kind item → item.named.name ≡ name → type_of kind ≡ Some Free
+
+  -- no statement declares a name
+  abbrev pub IsUndeclared : Program F → ℕ → Type 0
+  IsUndeclared program name =
+      (before : List (Stmt F)) (statement : Stmt F) → StandsAfter program before statement → is_among (names_declared statement.act) name ≡ false
+
+module _ {F : Type 0} (value : F → Number) where
+  -- the value that a parameter has of what items give it: 0 where they give none
+  abbrev pub value_put : Option (Option (Ext F)) → Extended
+  value_put (Some (Some x)) = extended value x
+  value_put datum = zero

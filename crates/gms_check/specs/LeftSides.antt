@@ -1,0 +1,41 @@
+-- The left sides of assignments in an accepted program: which indices stand there.
+-- GAMS User's Guide, "Data Manipulations with Parameters", indexed assignments; "Sets as Sequences: Ordered Sets", lags and leads in assignments.
+use Rattle.std.specs.Prelude.{◌≡◌, ◌++◌, ◌∷◌, ℕ, zero, suc, Bool, true, false, List, Vec}
+use Rattle.std.specs.declared.alloc.Global.{Global}
+use Rattle.gms_ast.specs.declared.expression.Control.{Control}
+use Rattle.gms_ast.specs.declared.expression.Suffix.TheVariants as suffix
+use Rattle.gms_ast.specs.declared.program.Act.{Loop}
+use Rattle.gms_ast.specs.declared.program.Stmt.{Stmt}
+use Rattle.gms_ast.specs.Trees as tree
+use Rattle.gms_store.specs.State.{State}
+use Rattle.gms_known.specs.Names.{is_index_set}
+
+-- whether an amount of a lag is a number or a scalar
+abbrev pub is_fixed_amount : {F : Type 0} → tree.Tree F → Bool
+is_fixed_amount (tree.number n) = true
+is_fixed_amount (tree.reference at name suffix.None tree.no_index) = true
+is_fixed_amount e = false
+
+-- each set among indices has one dimension, and each amount of a lag is a number or a scalar
+abbrev pub AreLeftIndices : {F : Type 0} → State → tree.Indices F → Type 0
+AreLeftIndices state tree.no_index = Unit {0}
+AreLeftIndices state (tree.label label rest) = AreLeftIndices state rest
+AreLeftIndices state (tree.set name rest) = (is_index_set state name ≡ true) × AreLeftIndices state rest
+AreLeftIndices state (tree.lagged name op at amount rest) = (is_index_set state name ≡ true) × ((is_fixed_amount amount ≡ true) × AreLeftIndices state rest)
+
+module _ {F : Type 0} where
+  -- A loop has a statement in its body of which something holds.
+  pub record IsIn (Inner : Stmt F → Type 0) (outer : Stmt F) : Type 0 where
+    pub control : Control F
+    pub body : Vec (Stmt F) Global
+    pub loop : outer.act ≡ Loop control body
+    pub before : List (Stmt F)
+    pub next : Stmt F
+    pub rest : List (Stmt F)
+    pub stands : body.items ≡ before ++ next ∷ rest
+    pub holds : Inner next
+
+  -- a statement is another one, or stands so many loops deep in it
+  abbrev pub StandsIn : ℕ → Stmt F → Stmt F → Type 0
+  StandsIn zero inner outer = outer ≡ inner
+  StandsIn (suc depth) inner outer = IsIn (StandsIn depth inner) outer

@@ -1,0 +1,267 @@
+-- A source without a fault has a program.
+use Rattle.std.proofs.Common.{◌≡◌, ◌≢◌, ℕ, suc, ◌+◌, ◌≤◌, Bool, true, false, cond, not, List, [], ◌∷◌, ◌++◌, length, map, reverse, take, take_while, All, Result, Ok, Err, refl, sym, ap, ◌∙◌, subst, append_assoc, append-nil, arith, inl, inr}
+use Rattle.std.specs.List.{prefix_len}
+use Rattle.std.proofs.lemmas.Bool.{cases_lt}
+use Rattle.std.proofs.lemmas.List.{reverse-append, reverse-reverse}
+use Rattle.std.proofs.lemmas.List.Elements.{All-head, All-tail}
+use Rattle.gq_number.specs.Number.{Number as Rational, neg_ℚ}
+use Rattle.gms_ast.specs.declared.declaration.Item.{Item}
+use Rattle.gms_lex.specs.declared.token.Token.{Token}
+use Rattle.gms_lex.specs.declared.fault.LexFault.{LexFault}
+use Rattle.gms_lex.specs.TokenTexts.{token_text}
+use Rattle.gms_lex.specs.Tokens.{Means, IsTokens, most_bytes}
+use Rattle.gms_lex.proofs.AnswerLemmas.{means_one}
+use Rattle.gms_table.specs.declared.fault.TableFault.{TableFault}
+use Rattle.gms_table.specs.Words.{words_of}
+use Rattle.gms_table.specs.WordLabels.{all_entered}
+use Rattle.gms_table.specs.TableEntries.{texts_of, IsFirstFault}
+use Rattle.gms_table.proofs.LabelLemmas.{Stay}
+use Rattle.gms_grammar.specs.declared.terminal.Terminal.{Terminal}
+use Rattle.gms_grammar.specs.declared.terminal.Terminal.TheVariants.{TableLine, End}
+use Rattle.gms_grammar.specs.Grammar.{the, yield, IsTree, Derives, Stops}
+use Rattle.gms_grammar.specs.Reading.{Found, read, stuck, Reads}
+use Rattle.gms_grammar.specs.Terminals.{is}
+use Rattle.gms_grammar.specs.GamsGrammar.{Program, productions}
+use Rattle.gms_grammar.specs.GamsLookAhead.{look_ahead}
+use Rattle.gms_grammar.proofs.Basics.{not_true}
+use Rattle.gms_grammar.proofs.Language.{gams_read_tree, gams_read_stops, gams_stuck_stops, gams_stuck_none, gams_finds}
+use Rattle.gms_expressions.specs.ExpressionTrees.{no_token, first_place}
+use Rattle.gms_expressions.specs.Outcomes.{seen}
+use Rattle.gms_parse.specs.declared.fault.SourceError.TheVariants.{TooLong}
+use Rattle.gms_parse.specs.declared.fault.SourceFault.{SourceFault}
+use Rattle.gms_parse.specs.Faults.{error_of_lexical, error_of_table}
+use Rattle.gms_expressions.specs.Valuations.{number_in}
+use Rattle.gms_parse.specs.Programs.{statements_of}
+use Rattle.gms_parse.specs.Tables.{parts_of_tokens, labels_of_lines, IsLineFault, AreTableItems, item_of_entry, items_given}
+use Rattle.gms_parse.specs.Walks.{Seen, Walk, start, kind_ahead, table_name, lines_with, walk_after, walk_behind, IsFaulty, in_table, AreSound}
+use Rattle.gms_parse.specs.Outcomes.{unexpected_error, IsTableOf, HaveItems, HasProgram, ProgramView, IsFault, IsNoProgram}
+use Rattle.gms_parse.specs.Readings.{Derivation}
+use Rattle.gms_parse.proofs.TokenKinds.{same_kind}
+use Rattle.gms_parse.proofs.Alphabet.{AllPass, pass_front, pass_rest}
+use Rattle.gms_parse.proofs.Walks.{walk_append, sound_append, labels_kept}
+use Rattle.gms_parse.proofs.EndTokens.{has_end, end_alone}
+use Rattle.gms_parse.proofs.OneReading.{sound_at}
+use Rattle.gms_parse.proofs.TableSound.{sound_table, ArePlaced, placed_stay, entered_placed, placed_table, entries_there}
+
+-- ---- the last of tokens
+
+record Ending (us : List Seen) : Type 0 where
+  others : List Seen
+  last : Seen
+  are : us ≡ others ++ last ∷ []
+
+ending : (x : Seen) (xs : List Seen) → Ending (x ∷ xs)
+ending x [] = record { others = []; last = x; are = refl }
+ending x (y ∷ xs) = let e = ending y xs in record { others = x ∷ e.others; last = e.last; are = ap (λ us. x ∷ us) e.are }
+
+-- tokens in the other order
+turned : (u : Seen) (us before : List Seen) → reverse (u ∷ us) ++ before ≡ reverse us ++ (u ∷ before)
+turned u us before = ap (λ (ws : List Seen). ws ++ before) (reverse-append (u ∷ []) us) ∙ append_assoc (reverse us) (u ∷ []) before
+
+-- ---- the lines that tokens end in
+
+-- the lines that tokens end in, where the last token comes first
+abbrev run_of : List Seen → List Seen
+run_of before = take_while (λ token. is TableLine token.0) before
+
+run_one : (u : Seen) (before : List Seen) → is TableLine u.0 ≡ true → run_of (u ∷ before) ≡ u ∷ run_of before
+run_one u before h =
+    let n = prefix_len (λ (token : Seen). is TableLine token.0) before in
+    ap (λ b. take (cond b (1 + n) 0) (u ∷ before)) h ∙ ap (λ k. take k (u ∷ before)) (let e : 1 + n ≡ suc n = omega arith in e)
+
+run_other : (u : Seen) (before : List Seen) → is TableLine u.0 ≡ false → run_of (u ∷ before) ≡ []
+run_other u before h = ap (λ b. take (cond b (1 + prefix_len (λ (token : Seen). is TableLine token.0) before) 0) (u ∷ before)) h
+
+run_all : (us before : List Seen) → AllPass (is TableLine) us → run_of (reverse us ++ before) ≡ reverse us ++ run_of before
+run_all [] before h = refl
+run_all (u ∷ us) before h =
+    ap run_of (turned u us before) ∙ run_all us (u ∷ before) h.1 ∙ ap (λ (ws : List Seen). reverse us ++ ws) (run_one u before h.0) ∙ sym (turned u us (run_of before))
+
+-- tokens that end in no line
+run_none : (us : List Seen) → ((others : List Seen) (token : Seen) → us ≡ others ++ token ∷ [] → token.0 ≢ TableLine) → run_of (reverse us) ≡ []
+run_none [] none = refl
+run_none (x ∷ xs) none =
+    let e = ending x xs in
+    ap (λ (ws : List Seen). run_of (reverse ws)) e.are ∙ ap run_of (reverse-append e.others (e.last ∷ []))
+    ∙ run_other e.last (reverse e.others) (not_true (is TableLine e.last.0) (λ h. none e.others e.last e.are (sym (same_kind TableLine e.last.0 h))))
+
+all_lines : (us : List Seen) → All (λ token. token.0 ≡ TableLine) us → AllPass (is TableLine) us
+all_lines [] h = tt
+all_lines (u ∷ us) h =
+    (ap (is TableLine) (All-head (λ (token : Seen). token.0 ≡ TableLine) u us h), all_lines us (All-tail (λ (token : Seen). token.0 ≡ TableLine) u us h))
+
+-- the tokens that a walk has gone over
+gone_over : (source : List ℕ) (w : Walk) (us : List Seen) (ahead : Terminal) → (walk_behind source w us ahead).before ≡ reverse us ++ w.before
+gone_over source w [] ahead = refl
+gone_over source w (u ∷ us) ahead = gone_over source (walk_after source w u (kind_ahead us ahead)) us ahead ∙ sym (turned u us w.before)
+
+-- ---- tables
+
+module _ (limit : ℕ) (source : List ℕ) (tokens : List Seen) (sound : AreSound limit source start tokens End) where
+  -- the labels that the tokens leave
+  abbrev last_labels : List (List ℕ)
+  last_labels = (walk_behind source start tokens End).labels
+
+  module _ (lines : List Seen) (k : IsTableOf tokens lines) (others : List Seen) (line : Token) (are : lines ≡ others ++ (TableLine, line) ∷ []) where
+    abbrev front : List Seen
+    front = k.before ++ others
+
+    tokens_are : tokens ≡ front ++ ((TableLine, line) ∷ k.behind)
+    tokens_are =
+        k.parts ∙ ap (λ (ls : List Seen). (k.before ++ ls) ++ k.behind) are ∙ ap (λ (us : List Seen). us ++ k.behind) (sym (append_assoc k.before others ((TableLine, line) ∷ [])))
+        ∙ append_assoc front ((TableLine, line) ∷ []) k.behind
+
+    abbrev here : Walk
+    here = walk_behind source start front TableLine
+
+    lines_pass : AllPass (is TableLine) (others ++ (TableLine, line) ∷ [])
+    lines_pass = subst (λ (us : List Seen). AllPass (is TableLine) us) are (all_lines lines k.are_lines)
+
+    run_here : run_of here.before ≡ reverse others
+    run_here =
+        ap run_of (gone_over source start front TableLine ∙ append-nil (reverse front) ∙ reverse-append k.before others)
+        ∙ run_all others (reverse k.before) (pass_front (is TableLine) others ((TableLine, line) ∷ []) lines_pass)
+        ∙ ap (λ (us : List Seen). reverse others ++ us) (run_none k.before k.none_before) ∙ append-nil (reverse others)
+
+    lines_here : lines_with source here.before (TableLine, line) ≡ lines
+    lines_here =
+        ap (λ (us : List Seen). reverse ((TableLine, line) ∷ us)) run_here ∙ reverse-append ((TableLine, line) ∷ []) (reverse others)
+        ∙ ap (λ (us : List Seen). us ++ (TableLine, line) ∷ []) (reverse-reverse others) ∙ sym are
+
+    abbrev ahead : Terminal
+    ahead = kind_ahead k.behind End
+
+    no_line_ahead : is TableLine ahead ≡ false
+    no_line_ahead = not_true (is TableLine ahead) (λ h. k.none_behind (sym (same_kind TableLine ahead h)))
+
+    no_fault_here : (fault : SourceFault) → IsLineFault limit source (table_name here.before) here.labels lines fault → ⊥
+    no_fault_here fault f =
+        sound_at limit source start front (TableLine, line) k.behind End fault (subst (λ (us : List Seen). AreSound limit source start us End) tokens_are sound)
+        (in_table refl no_line_ahead (subst (λ (ls : List Seen). IsLineFault limit source (table_name here.before) here.labels ls fault) (sym lines_here) f))
+
+    no_table_fault : (found : TableFault) → IsFirstFault limit here.labels (parts_of_tokens source lines) found → ⊥
+    no_table_fault found first = no_fault_here (record { error = error_of_table found.error; at = found.at }) (inr (found, first, refl))
+
+    -- the walk behind the last line
+    abbrev past : Walk
+    past = walk_after source here (TableLine, line) ahead
+
+    past_labels : past.labels ≡ all_entered here.labels (labels_of_lines source lines)
+    past_labels =
+        ap (λ b. all_entered here.labels (cond (not b) (labels_of_lines source (lines_with source here.before (TableLine, line))) [])) no_line_ahead
+        ∙ ap (λ (ls : List Seen). all_entered here.labels (labels_of_lines source ls)) lines_here
+
+    labels_stay : Stay past.labels last_labels
+    labels_stay =
+        subst (λ (w : Walk). Stay past.labels w.labels)
+        (sym (ap (λ (us : List Seen). walk_behind source start us End) tokens_are ∙ walk_append source start front ((TableLine, line) ∷ k.behind) End))
+        (record { stays = λ text n h. labels_kept source past k.behind End text n h })
+
+    placed : ArePlaced last_labels (texts_of (parts_of_tokens source lines))
+    placed =
+        placed_stay past.labels last_labels labels_stay (labels_of_lines source lines)
+        (subst (λ (ls : List (List ℕ)). ArePlaced ls (labels_of_lines source lines)) (sym past_labels) (entered_placed here.labels (labels_of_lines source lines)))
+
+    items_by : (items : List (Item Rational)) × AreTableItems limit source last_labels lines items
+    items_by =
+        let whole = sound_table limit here.labels (parts_of_tokens source lines) no_table_fault in
+        let cells = placed_table last_labels (map (λ (line : Seen). words_of line.1.at.line (token_text source line.1)) lines) placed in
+        let es = entries_there last_labels limit here.labels [] (parts_of_tokens source lines) whole cells in
+        (map item_of_entry es.entries, (es.entries, es.are, refl))
+
+  -- each table has items
+  pub tables_have : HaveItems limit source last_labels tokens
+  tables_have = λ lines k. by lines k.some k
+    where
+      by : (lines : List Seen) → lines ≢ [] → IsTableOf tokens lines → (items : List (Item Rational)) × AreTableItems limit source last_labels lines items
+      by [] some k = absurd (some refl)
+      by (x ∷ xs) some k =
+          let e = ending x xs in
+          let pass = subst (λ (us : List Seen). AllPass (is TableLine) us) e.are (all_lines (x ∷ xs) k.are_lines) in
+          let kind : TableLine ≡ e.last.0 = same_kind TableLine e.last.0 (pass_rest (is TableLine) e.others (e.last ∷ []) pass).0 in
+          let are : x ∷ xs ≡ e.others ++ (TableLine, e.last.1) ∷ [] = e.are ∙ ap (λ (t : Terminal). e.others ++ (t, e.last.1) ∷ []) (sym kind) in
+          items_by (x ∷ xs) k e.others e.last.1 are
+
+-- ---- sources
+
+module _ (limit : ℕ) (source : List ℕ) (tokens : List Seen) (none : (fault : SourceFault) → IsNoProgram limit source tokens fault → ⊥) where
+  -- where tokens cease to begin a program, those before are sound
+  module _ (front rest : List Seen) (stops : Stops productions (the Program) tokens front rest) where
+    sound_on : (before left : List Seen) → front ≡ before ++ left → AreSound limit source start before (kind_ahead left (kind_ahead rest End)) →
+        AreSound limit source (walk_behind source start before (kind_ahead left (kind_ahead rest End))) left (kind_ahead rest End)
+    sound_on before [] e s = tt
+    sound_on before (t ∷ left) e s =
+        let ahead = kind_ahead left (kind_ahead rest End) in
+        let here : (fault : SourceFault) → IsFaulty limit source (walk_behind source start before t.0) t ahead fault → ⊥ =
+        λ fault f. none fault (record { front = front; rest = rest; stops = stops; cause = inl (record { before = before; token = t; behind = left; parts = e; are_sound = s; is_faulty = f }) }) in
+        let more : AreSound limit source start (before ++ t ∷ []) ahead = sound_append limit source start before (t ∷ []) ahead s (here, tt) in
+        let others = sound_on (before ++ t ∷ []) left (e ∙ sym (append_assoc before (t ∷ []) left)) more in
+        (here, subst (λ (w : Walk). AreSound limit source w left (kind_ahead rest End)) (walk_append source start before (t ∷ []) ahead) others)
+
+    pub sound_front : AreSound limit source start front (kind_ahead rest End)
+    sound_front = sound_on [] front refl tt
+
+pub record SomeProgram (limit : ℕ) (source : List ℕ) : Type 0 where
+  pub view : ProgramView
+  pub has : HasProgram limit source view
+
+module _ (limit : ℕ) (source : List ℕ) (none : (fault : SourceFault) → IsFault limit source fault → ⊥) where
+  module _ (short : length source ≤ most_bytes) (tokens : List Token) (are : IsTokens source tokens) where
+    refused : (fault : SourceFault) → IsNoProgram limit source (seen source tokens) fault → ⊥
+    refused fault r = none fault (inr (inr (record { short = short; tokens = tokens; are_tokens = are; refused = r })))
+
+    unexpected : (front rest : List Seen) → Stops productions (the Program) (seen source tokens) front rest → (kind_ahead rest End ≡ End → Derives productions (the Program) front → ⊥) → ⊥
+    unexpected front rest stops is_none =
+        refused (record { error = unexpected_error rest; at = first_place rest }) (record {
+          front = front;
+          rest = rest;
+          stops = stops;
+          cause = inr (record { is_none = is_none; are_sound = sound_front limit source (seen source tokens) refused front rest stops; error = refl; at = refl });
+        })
+
+    by_end : (tree : Derivation) (rest : List Seen) → IsTree productions (the Program) tree → Stops productions (the Program) (seen source tokens) (yield tree) rest → (b : Bool) → is End (kind_ahead rest End) ≡ b → SomeProgram limit source
+    by_end tree rest is_tree stops true e =
+        let at_end : kind_ahead rest End ≡ End = sym (same_kind End (kind_ahead rest End) e) in
+        let ended = has_end source tokens are in
+        let sound : AreSound limit source start (yield tree) End = subst (λ (t : Terminal). AreSound limit source start (yield tree) t) at_end (sound_front limit source (seen source tokens) refused (yield tree) rest stops) in
+        let walk = walk_behind source start (yield tree) End in
+        record {
+          view = record { names = walk.names; labels = walk.labels; statements = statements_of source walk.names walk.labels number_in neg_ℚ (items_given source walk.labels) tree };
+          has = record {
+            short = short;
+            tokens = tokens;
+            are_tokens = are;
+            is = record {
+              tree = tree;
+              end = ended.end;
+              tokens_are = stops.parts ∙ ap (λ (us : List Seen). yield tree ++ us) (end_alone ended tree rest is_tree stops.parts at_end);
+              is_tree = is_tree;
+              are_sound = sound;
+              names_are = refl;
+              labels_are = refl;
+              tables = tables_have limit source (yield tree) sound;
+              statements_are = refl;
+            };
+          };
+        }
+    by_end tree rest is_tree stops false e =
+        absurd (unexpected (yield tree) rest stops (λ at_end d. let no : is End (kind_ahead rest End) ≡ true = ap (is End) at_end in cc))
+
+    by_found : (found : Found Seen) → Reads productions look_ahead (the Program) (seen source tokens) found → SomeProgram limit source
+    by_found (read tree rest) r =
+        by_end tree rest (gams_read_tree Program (seen source tokens) rest tree r) (gams_read_stops no_token Program (seen source tokens) rest tree r) (is End (kind_ahead rest End)) refl
+    by_found (stuck front rest) r =
+        absurd (unexpected front rest (gams_stuck_stops no_token Program (seen source tokens) front rest r) (λ at_end d. gams_stuck_none no_token Program (seen source tokens) front rest r d))
+
+  by_meaning : length source ≤ most_bytes → (m : Result (List Token) LexFault) → Means source m → SomeProgram limit source
+  by_meaning short (Err f) h =
+      absurd (none (record { error = error_of_lexical f.error; at = f.at }) (inr (inl (record { short = short; lexical = f; is_first = h; error = refl; at = refl }))))
+  by_meaning short (Ok tokens) h = let f = gams_finds Program (seen source tokens) in by_found short tokens h f.0 f.1
+
+  -- a source without a fault has a program
+  pub program_there : SomeProgram limit source
+  program_there =
+      elim (cases_lt most_bytes (length source)) [
+        | inl long ↦ absurd (none (record { error = TooLong; at = record { line = 1; column = 1 } }) (inl (long, refl)))
+        | inr short ↦ (let m = means_one source in by_meaning short m.0 m.1)
+      ]

@@ -1,0 +1,65 @@
+-- A table has one first fault.
+use Rattle.std.proofs.Common.{◌≡◌, ℕ, ◌≤◌, ◌==◌, List, [], ◌∷◌, ◌++◌, if◌then◌else◌, refl, sym, ap, ap₂, ◌∙◌, subst, append_assoc, append-nil, arith, inl, inr}
+use Rattle.gms_labels.specs.declared.place.Place.{Place}
+use Rattle.gms_table.specs.declared.fault.TableError.{TableError}
+use Rattle.gms_table.specs.declared.fault.TableError.TheVariants.{NoColumn, TwoColumns, RepeatedEntry, BadRow, NoHeading, Labels}
+use Rattle.gms_table.specs.declared.fault.TableFault.{TableFault}
+use Rattle.gms_table.specs.Faults.{error_code}
+use Rattle.gms_table.specs.TableEntries.{Part, place_of_part, Stands, AreSound, IsFirstFault}
+use Rattle.gms_parse.specs.declared.fault.SourceFault.{SourceFault}
+use Rattle.gms_parse.specs.Faults.{error_of_table}
+use Rattle.gms_parse.specs.Tables.{parts_of_tokens, IsLineFault}
+use Rattle.gms_parse.specs.Walks.{Seen}
+use Rattle.gms_parse.proofs.Orders.{Order, at_once, earlier, later, order, some_there}
+
+-- the error of a number
+abbrev error_of_code : ℕ → TableError
+error_of_code n =
+    if n == 1 then NoColumn else (if n == 2 then TwoColumns else (if n == 3 then RepeatedEntry else (if n == 4 then BadRow else (if n == 5 then NoHeading else Labels))))
+
+error_is : (error : TableError) → error_of_code (error_code error) ≡ error
+error_is NoColumn = refl
+error_is TwoColumns = refl
+error_is RepeatedEntry = refl
+error_is BadRow = refl
+error_is NoHeading = refl
+error_is Labels = refl
+
+-- errors of the same number are the same
+same_error : (one other : TableError) → error_code one ≡ error_code other → one ≡ other
+same_error one other e = sym (error_is one) ∙ ap error_of_code e ∙ error_is other
+
+module _ (limit : ℕ) (labels : List (List ℕ)) where
+  -- nothing stands at a sound part
+  pub stands_not : (done before : List Part) (part : Part) (behind : List Part) (error : TableError) → AreSound limit labels done (before ++ (part ∷ behind)) → Stands limit labels (done ++ before) part error → ⊥
+  stands_not done [] part behind error sound h = sound.0 error (subst (λ (ps : List Part). Stands limit labels ps part error) (append-nil done) h)
+  stands_not done (p ∷ before) part behind error sound h =
+      stands_not (done ++ p ∷ []) before part behind error sound.1 (subst (λ (ps : List Part). Stands limit labels ps part error) (sym (append_assoc done (p ∷ []) before)) h)
+
+  -- two first faults of a table are one
+  one_first : (parts : List Part) (one other : TableFault) → IsFirstFault limit labels parts one → IsFirstFault limit labels parts other → one ≡ other
+  one_first parts one other f g = by (order f.before f.part f.behind g.before g.part g.behind (sym f.parts_are ∙ g.parts_are))
+    where
+      by : Order f.before f.part f.behind g.before g.part g.behind → one ≡ other
+      by (earlier w e k) = absurd (stands_not [] f.before f.part w one.error (subst (λ (ps : List Part). AreSound limit labels [] ps) e g.sound) f.stands)
+      by (later w e k) = absurd (stands_not [] g.before g.part w other.error (subst (λ (ps : List Part). AreSound limit labels [] ps) e f.sound) g.stands)
+      by (at_once front part rest) =
+          let there : Stands limit labels f.before f.part other.error = subst (λ (ps : List Part). Stands limit labels ps f.part other.error) (sym front) (subst (λ (p : Part). Stands limit labels g.before p other.error) (sym part) g.stands) in
+          let here : Stands limit labels g.before g.part one.error = subst (λ (ps : List Part). Stands limit labels ps g.part one.error) front (subst (λ (p : Part). Stands limit labels f.before p one.error) part f.stands) in
+          let less : error_code one.error ≤ error_code other.error = f.least other.error there in
+          let more : error_code other.error ≤ error_code one.error = g.least one.error here in
+          let codes : error_code one.error ≡ error_code other.error = omega (arith, less, more) in
+          ap₂ (λ (e : TableError) (p : Place). record { error = e; at = p }) (same_error one.error other.error codes) (f.at ∙ ap place_of_part part ∙ sym g.at)
+
+-- what is told of a fault of a table
+abbrev told_of : TableFault → SourceFault
+told_of fault = record { error = error_of_table fault.error; at = fault.at }
+
+-- two faults of the lines of a table are one
+pub one_line_fault : (limit : ℕ) (source : List ℕ) (name : Place) (labels : List (List ℕ)) (lines : List Seen) (one other : SourceFault) → IsLineFault limit source name labels lines one → IsLineFault limit source name labels lines other → one ≡ other
+one_line_fault limit source name labels lines one other (inl a) (inl b) = a.1 ∙ sym b.1
+one_line_fault limit source name labels lines one other (inl a) (inr b) = absurd (some_there b.1.before b.1.part b.1.behind (sym a.0 ∙ b.1.parts_are))
+one_line_fault limit source name labels lines one other (inr a) (inl b) = absurd (some_there a.1.before a.1.part a.1.behind (sym b.0 ∙ a.1.parts_are))
+one_line_fault limit source name labels lines one other (inr a) (inr b) =
+    let same = one_first limit labels (parts_of_tokens source lines) a.0 b.0 a.1 b.1 in
+    a.2 ∙ ap told_of same ∙ sym b.2

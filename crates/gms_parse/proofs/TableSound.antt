@@ -1,0 +1,205 @@
+-- Lines of a table without a fault have entries.
+use Rattle.std.proofs.Common.{◌≡◌, ◌⊎◌, ℕ, zero, suc, ◌<◌, Bool, true, false, cond, List, [], ◌∷◌, ◌++◌, length, map, Option, Some, None, is_some, refl, sym, ap, ap₂, ◌∙◌, subst, append_assoc, arith, inl, inr}
+use Rattle.std.proofs.lemmas.Bool.{cases_lt}
+use Rattle.gq_number.specs.Number.{Number as Rational}
+use Rattle.gms_labels.specs.Labels.{place_of, entered}
+use Rattle.gms_labels.proofs.Places.{place_of-entered}
+use Rattle.gms_table.specs.declared.entry.Entry.{Entry}
+use Rattle.gms_table.specs.declared.fault.TableError.{TableError}
+use Rattle.gms_table.specs.declared.fault.TableError.TheVariants.{NoColumn, TwoColumns, BadRow}
+use Rattle.gms_table.specs.declared.fault.TableFault.{TableFault}
+use Rattle.gms_table.specs.Faults.{error_code}
+use Rattle.gms_table.specs.Words.{Word}
+use Rattle.gms_table.specs.WordLabels.{AreNumbers, names_of, all_entered}
+use Rattle.gms_table.specs.CellNumbers.{IsValue}
+use Rattle.gms_table.specs.TableEntries.{Part, name, cell, is_plus, under, table_of, texts_of, place_of_part, meet, met, IsEntry, AreEntries, Stands, AreSound, IsFirstFault}
+use Rattle.gms_table.proofs.LabelLemmas.{Stay, Stay-all_entered}
+use Rattle.gms_table.proofs.PartLemmas.{texts_of-append, AreSound-push}
+use Rattle.gms_parse.proofs.Decided.{value_told}
+
+-- ---- a table without a fault is sound
+
+module _ (limit : ℕ) (labels : List (List ℕ)) (parts : List Part) (none : (fault : TableFault) → IsFirstFault limit labels parts fault → ⊥) where
+  standing : (before : List Part) (part : Part) (left : List Part) → parts ≡ before ++ (part ∷ left) → AreSound limit labels [] before → (n : ℕ) (error : TableError) → error_code error < n → Stands limit labels before part error → ⊥
+  standing before part left e sound zero error l h = omega (arith, l)
+  standing before part left e sound (suc n) error l h = none (record { error = error; at = place_of_part part }) (record {
+    before = before;
+    part = part;
+    behind = left;
+    parts_are = e;
+    sound = sound;
+    at = refl;
+    stands = h;
+    least = λ other k. elim (cases_lt (error_code other) (error_code error)) [
+      | inl less ↦ absurd (standing before part left e sound n other (omega (arith, l, less)) k)
+      | inr more ↦ more
+    ];
+  })
+
+  sound_from : (before left : List Part) → parts ≡ before ++ left → AreSound limit labels [] before → AreSound limit labels before left
+  sound_from before [] e sound = tt
+  sound_from before (part ∷ left) e sound =
+      let here : (error : TableError) → Stands limit labels before part error → ⊥ = λ error h. standing before part left e sound (suc (error_code error)) error (omega arith) h in
+      (here, sound_from (before ++ part ∷ []) left (e ∙ sym (append_assoc before (part ∷ []) left)) (AreSound-push limit labels [] before part sound here))
+
+  pub sound_table : AreSound limit labels [] parts
+  sound_table = sound_from [] parts refl tt
+
+-- ---- labels that have numbers
+
+-- a text has a number among labels
+pub record Placed (labels : List (List ℕ)) (text : List ℕ) : Type 0 where
+  pub n : ℕ
+  pub at : place_of labels text ≡ Some n
+
+-- each of these texts has one
+abbrev pub ArePlaced : List (List ℕ) → List (List ℕ) → Type 0
+ArePlaced labels [] = Unit {0}
+ArePlaced labels (text ∷ texts) = Placed labels text × ArePlaced labels texts
+
+placed_front : (labels u v : List (List ℕ)) → ArePlaced labels (u ++ v) → ArePlaced labels u
+placed_front labels [] v h = tt
+placed_front labels (t ∷ u) v h = (h.0, placed_front labels u v h.1)
+
+placed_rest : (labels u v : List (List ℕ)) → ArePlaced labels (u ++ v) → ArePlaced labels v
+placed_rest labels [] v h = h
+placed_rest labels (t ∷ u) v h = placed_rest labels u v h.1
+
+pub placed_stay : (before after : List (List ℕ)) → Stay before after → (texts : List (List ℕ)) → ArePlaced before texts → ArePlaced after texts
+placed_stay before after stay [] h = tt
+placed_stay before after stay (t ∷ texts) h =
+    let there : Placed after t = record { n = h.0.n; at = stay.stays t h.0.n h.0.at } in
+    (there, placed_stay before after stay texts h.1)
+
+placed_from : (labels : List (List ℕ)) (text : List ℕ) (o : Option ℕ) → place_of labels text ≡ o → is_some o ≡ true → Placed labels text
+placed_from labels text (Some n) e h = record { n = n; at = e }
+placed_from labels text None e h = absurd cc
+
+-- texts that are entered have numbers
+pub entered_placed : (labels texts : List (List ℕ)) → ArePlaced (all_entered labels texts) texts
+entered_placed labels [] = tt
+entered_placed labels (t ∷ texts) =
+    let p = placed_from (entered labels t) t (place_of (entered labels t) t) refl (place_of-entered labels t) in
+    let stay = Stay-all_entered (entered labels t) texts in
+    let there : Placed (all_entered (entered labels t) texts) t = record { n = p.n; at = stay.stays t p.n p.at } in
+    (there, entered_placed (entered labels t) texts)
+
+-- the numbers of texts
+record Numbered (labels texts : List (List ℕ)) : Type 0 where
+  numbers : List ℕ
+  are : AreNumbers labels numbers texts
+
+numbered : (labels texts : List (List ℕ)) → ArePlaced labels texts → Numbered labels texts
+numbered labels [] h = record { numbers = []; are = refl }
+numbered labels (t ∷ texts) h =
+    let others = numbered labels texts h.1 in
+    record { numbers = h.0.n ∷ others.numbers; are = ap₂ (λ (a : Option ℕ) (b : List (Option ℕ)). a ∷ b) (sym h.0.at) others.are }
+
+-- ---- the rows and headings of numbers
+
+module _ (labels : List (List ℕ)) where
+  -- the labels of each of these words have numbers
+  abbrev pub HavePlaces : List Word → Type 0
+  HavePlaces [] = Unit {0}
+  HavePlaces (word ∷ words) = ArePlaced labels (names_of word) × HavePlaces words
+
+  -- the labels of a row, and those of the headings that hold there
+  pub record CellPlaced (row : Word) (headings : List Word) : Type 0 where
+    pub row_there : ArePlaced labels (names_of row)
+    pub headings_there : HavePlaces headings
+
+  -- the same of each number
+  abbrev pub CellsPlaced : List Part → Type 0
+  CellsPlaced [] = Unit {0}
+  CellsPlaced (name word ∷ parts) = CellsPlaced parts
+  CellsPlaced (cell row headings word ∷ parts) = CellPlaced row headings × CellsPlaced parts
+
+  names_placed : (words : List Word) → ArePlaced labels (texts_of (map name words)) → HavePlaces words
+  names_placed [] h = tt
+  names_placed (word ∷ words) h =
+      (placed_front labels (names_of word) (texts_of (map name words)) h, names_placed words (placed_rest labels (names_of word) (texts_of (map name words)) h))
+
+  behind_names : (words : List Word) (rest : List Part) → CellsPlaced rest → CellsPlaced (map name words ++ rest)
+  behind_names [] rest h = h
+  behind_names (word ∷ words) rest h = behind_names words rest h
+
+  cells_placed : (row : Word) (headings words : List Word) (rest : List Part) → CellPlaced row headings → CellsPlaced rest → CellsPlaced (map (cell row headings) words ++ rest)
+  cells_placed row headings [] rest h k = k
+  cells_placed row headings (word ∷ words) rest h k = (h, cells_placed row headings words rest h k)
+
+  texts_behind : (row : Word) (headings words : List Word) (rest : List Part) → texts_of (map (cell row headings) words ++ rest) ≡ texts_of rest
+  texts_behind row headings [] rest = refl
+  texts_behind row headings (word ∷ words) rest = texts_behind row headings words rest
+
+  placed_under : (headings : List Word) (lines : List (List Word)) → HavePlaces headings → ArePlaced labels (texts_of (under headings lines)) → CellsPlaced (under headings lines)
+  placed_under headings [] k h = tt
+  placed_under headings ([] ∷ lines) k h = placed_under headings lines k h
+  placed_under headings ((first ∷ words) ∷ lines) k h = go (λ others p q. placed_under others lines p q) (is_plus first) h
+    where
+      go : ((others : List Word) → HavePlaces others → ArePlaced labels (texts_of (under others lines)) → CellsPlaced (under others lines)) → (b : Bool) → ArePlaced labels (texts_of (cond b (map name words ++ under words lines) (name first ∷ (map (cell first headings) words ++ under headings lines)))) →
+          CellsPlaced (cond b (map name words ++ under words lines) (name first ∷ (map (cell first headings) words ++ under headings lines)))
+      go below true g =
+          let split : ArePlaced labels (texts_of (map name words) ++ texts_of (under words lines)) = subst (λ (ts : List (List ℕ)). ArePlaced labels ts) (texts_of-append (map name words) (under words lines)) g in
+          let there = names_placed words (placed_front labels (texts_of (map name words)) (texts_of (under words lines)) split) in
+          behind_names words (under words lines) (below words there (placed_rest labels (texts_of (map name words)) (texts_of (under words lines)) split))
+      go below false g =
+          let there : CellPlaced first headings = record { row_there = placed_front labels (names_of first) (texts_of (map (cell first headings) words ++ under headings lines)) g; headings_there = k } in
+          let others : ArePlaced labels (texts_of (under headings lines)) = subst (λ (ts : List (List ℕ)). ArePlaced labels ts) (texts_behind first headings words (under headings lines)) (placed_rest labels (names_of first) (texts_of (map (cell first headings) words ++ under headings lines)) g) in
+          cells_placed first headings words (under headings lines) there (below headings k others)
+
+  pub placed_table : (lines : List (List Word)) → ArePlaced labels (texts_of (table_of lines)) → CellsPlaced (table_of lines)
+  placed_table [] h = tt
+  placed_table ([] ∷ lines) h = placed_table lines h
+  placed_table ((first ∷ words) ∷ lines) h =
+      let split : ArePlaced labels (texts_of (map name (first ∷ words)) ++ texts_of (under (first ∷ words) lines)) = subst (λ (ts : List (List ℕ)). ArePlaced labels ts) (texts_of-append (map name (first ∷ words)) (under (first ∷ words) lines)) h in
+      let there = names_placed (first ∷ words) (placed_front labels (texts_of (map name (first ∷ words))) (texts_of (under (first ∷ words) lines)) split) in
+      behind_names (first ∷ words) (under (first ∷ words) lines) (placed_under (first ∷ words) lines there (placed_rest labels (texts_of (map name (first ∷ words))) (texts_of (under (first ∷ words) lines)) split))
+
+  met_placed : (headings : List Word) (word : Word) → HavePlaces headings → HavePlaces (met headings word)
+  met_placed [] word h = tt
+  met_placed (heading ∷ headings) word h = go (met_placed headings word h.1) (meet word heading)
+    where
+      go : HavePlaces (met headings word) → (b : Bool) → HavePlaces (cond b (heading ∷ met headings word) (met headings word))
+      go others true = (h.0, others)
+      go others false = others
+
+  -- ---- entries
+
+  record SomeEntry (limit : ℕ) (row : Word) (headings : List Word) (word : Word) : Type 0 where
+    entry : Entry Rational
+    is : IsEntry limit (λ x. x) labels row headings word entry
+
+  pub record SomeEntries (limit : ℕ) (parts : List Part) : Type 0 where
+    pub entries : List (Entry Rational)
+    pub are : AreEntries limit (λ x. x) labels parts entries
+
+  module _ (limit : ℕ) (old : List (List ℕ)) where
+    cell_entry : (before : List Part) (row : Word) (headings : List Word) (word : Word) → CellPlaced row headings → ((error : TableError) → Stands limit old before (cell row headings word) error → ⊥) → SomeEntry limit row headings word
+    cell_entry before row headings word there none = by_value (value_told limit word.text)
+      where
+        by_met : (x : Rational) → IsValue limit word.text x → (found : List Word) → met headings word ≡ found → HavePlaces found → SomeEntry limit row headings word
+        by_met x value [] e h = absurd (none NoColumn ((value.magnitude, value.means), e))
+        by_met x value (heading ∷ []) e h =
+            let rows = numbered labels (names_of row) there.row_there in
+            let columns = numbered labels (names_of heading) h.0 in
+            record {
+              entry = record { at = word.at; row = rows.numbers; column = columns.numbers; value = x };
+              is = record { heading = heading; under_one = e; at = refl; row_is = rows.are; column_is = columns.are; value_is = value };
+            }
+        by_met x value (heading ∷ (other ∷ others)) e h =
+            let many : length (met headings word) ≡ suc (suc (length others)) = ap length e in
+            absurd (none TwoColumns ((value.magnitude, value.means), omega (arith, many)))
+
+        by_value : ((x : Rational) × IsValue limit word.text x) ⊎ ((x : Rational) → IsValue limit word.text x → ⊥) → SomeEntry limit row headings word
+        by_value (inl v) = by_met v.0 v.1 (met headings word) refl (met_placed headings word there.headings_there)
+        by_value (inr without) = absurd (none BadRow without)
+
+    pub entries_there : (before parts : List Part) → AreSound limit old before parts → CellsPlaced parts → SomeEntries limit parts
+    entries_there before [] sound placed = record { entries = []; are = refl }
+    entries_there before (name word ∷ parts) sound placed =
+        let others = entries_there (before ++ name word ∷ []) parts sound.1 placed in
+        record { entries = others.entries; are = others.are }
+    entries_there before (cell row headings word ∷ parts) sound placed =
+        let one = cell_entry before row headings word placed.0 sound.0 in
+        let others = entries_there (before ++ cell row headings word ∷ []) parts sound.1 placed.1 in
+        record { entries = one.entry ∷ others.entries; are = (one.is, others.are) }

@@ -1,0 +1,19 @@
+//! Laws of sources.
+ghost use Rattle.std.specs.Prelude.{◌≡◌, ℕ, List};
+ghost use Rattle.gms_parse.specs.declared.fault.SourceFault.{SourceFault};
+ghost use Rattle.gms_parse.specs.Outcomes.{ProgramView, HasProgram, IsFault};
+
+/// Each source has one program or one first fault: never both, and never neither (GAMS User's Guide, "GAMS Programs").
+///
+/// A program is taken as it is seen: its names, its labels, and the trees of its statements, tables included. So two programs that
+/// are the source's differ only in where their parts are kept in memory, and in the kind of their numbers.
+pub fn source_laws()
+    ensures one_program { (limit : ℕ) (source : List ℕ) (one other : ProgramView) →
+        HasProgram limit source one → HasProgram limit source other → one ≡ other }
+    ensures one_fault { (limit : ℕ) (source : List ℕ) (one other : SourceFault) →
+        IsFault limit source one → IsFault limit source other → one ≡ other }
+    ensures not_both { (limit : ℕ) (source : List ℕ) (view : ProgramView) (fault : SourceFault) →
+        HasProgram limit source view → IsFault limit source fault → ⊥ }
+    ensures not_neither { (limit : ℕ) (source : List ℕ) → ((fault : SourceFault) → IsFault limit source fault → ⊥) →
+        (view : ProgramView) × HasProgram limit source view }
+{}

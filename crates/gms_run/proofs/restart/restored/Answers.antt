@@ -1,0 +1,20 @@
+-- The names of the solvers are those that are looked at.
+use Rattle.std.proofs.Common.{◌≡◌, ◌<◌, ◌^◌, ◌∙◌, length, map, List, ℕ, ap, subst, sym}
+use Rattle.std.specs.Prelude.{string_bytes}
+use Rattle.std.proofs.lemmas.List.{length-map}
+use Rattle.gms_save.specs.Saves.{Restores}
+use Rattle.gms_run.proofs.Going.{wanting}
+use Rattle.gms_run.proofs.restart.restored.Goals as goal
+
+pub restore-requires : goal.restore-requires
+restore-requires g c =
+    let names : map string_bytes c.deref.result.now ≡ map (λ b. (goal.LpSolver-dyn g (b.vtable, b.value)).name b.value) c.args.solvers.now = ap (map string_bytes) c.deref.ensures.value ∙ c.in_ok-names.ensures in
+    subst (λ n. n < 2 ^ 32) (sym (length-map c.args.solvers.now (λ b. (goal.LpSolver-dyn g (b.vtable, b.value)).name b.value)) ∙ sym (ap length names) ∙ length-map c.deref.result.now string_bytes) c.requires
+
+pub returns-in_err-names : goal.returns-in_err-names
+returns-in_err-names g c = wanting c.from_residual.result (map (λ b. (goal.LpSolver-dyn g (b.vtable, b.value)).name b.value) c.args.solvers.now) c.args.save.now c.from_residual.ensures.1
+
+pub returns : goal.returns
+returns g c =
+    let names : map string_bytes c.deref.result.now ≡ map (λ b. (goal.LpSolver-dyn g (b.vtable, b.value)).name b.value) c.args.solvers.now = ap (map string_bytes) c.deref.ensures.value ∙ c.in_ok-names.ensures in
+    subst (λ (ns : List (List ℕ)). Restores ns c.args.save.now c.restore.result) names c.restore.ensures.answer

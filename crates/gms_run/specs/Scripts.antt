@@ -1,0 +1,100 @@
+-- What there is to run: a source that is run from its start, or a file that goes on from a saved state (GAMS User's Guide, "Save and Restart").
+use Rattle.std.specs.Prelude.{◌≡◌, ℕ, ◌+◌, ◌<◌, ◌≤◌, ◌==◌, List, ◌∷◌, ◌++◌, length, filter, drop, Option, Some, None, Result, Err}
+use Rattle.gq_frac.specs.declared.frac.Frac.{Frac}
+use Rattle.gq_frac.specs.Frac.{frac_value}
+use Rattle.gms_ast.specs.declared.program.Program.{Program}
+use Rattle.gms_ast.specs.declared.program.Stmt.{Stmt}
+use Rattle.gms_store.specs.State.{State, symbol_of, base_of}
+use Rattle.gms_store.specs.Declarations.{declared_state}
+use Rattle.gms_check.specs.declared.error.CompileError.{CompileError}
+use Rattle.gms_check.specs.CompileErrors.{compile_errors}
+use Rattle.gms_check.specs.Loaded.{loaded}
+use Rattle.gms_save.specs.declared.saved.Saved.{Saved}
+use Rattle.gms_save.specs.declared.fault.SaveFault.{SaveFault}
+use Rattle.gms_save.specs.declared.fault.SaveFaultOrMemory.{SaveFaultOrMemory}
+use Rattle.gms_save.specs.declared.fault.SaveFaultOrMemory.TheVariants.{Fault}
+use Rattle.gms_save.specs.JointErrors.{joint_errors, resumed, saved_statements}
+use Rattle.gms_save.specs.Saves.{most_bytes as most_save_bytes, IsRestored, Restores}
+
+-- A source that there is to run. It is the file alone, or joint: a saved source and the file behind it. The lines of the file are echoed, and the
+-- first of them has this number.
+pub record Script : Type 0 where
+  pub source : List ℕ
+  pub file : List ℕ
+  pub line : ℕ
+  -- the saved state from which it goes on
+  pub saved : Option State
+
+-- what there is to run, unless a save cannot be restored, for a fault
+pub data Matter : Type 0 where
+  scripted : Script → Matter
+  unrestored : SaveFault → Matter
+
+-- what was taken: a source that is run from its start, or a save, and a file that goes on from it
+pub data Taken : Type 0 where
+  from_start : List ℕ → Taken
+  from_save : List ℕ → List ℕ → Taken
+
+-- ---- scripts
+
+-- a source that is run from its start
+abbrev pub script_of : List ℕ → Script
+script_of source = record { source = source; file = source; line = 1; saved = None }
+
+-- the joint source: the saved source, a line end, a line with `;`, and the file
+abbrev pub joint_source : List ℕ → List ℕ → List ℕ
+joint_source saved file = saved ++ (10 ∷ 59 ∷ 10 ∷ file)
+
+-- the line of a joint source at which the file begins
+abbrev pub first_line : List ℕ → ℕ
+first_line saved = length (filter (λ byte. byte == 10) saved) + 3
+
+-- a file that goes on from a saved state, behind its source
+abbrev pub joint_script : List ℕ → State → List ℕ → Script
+joint_script saved state file =
+    record { source = joint_source saved file; file = file; line = first_line saved; saved = Some state }
+
+-- The script is that of a file behind what was restored from a save.
+pub record IsJoint (solvers : List (List ℕ)) (save file : List ℕ) (script : Script) : Type 0 where
+  pub saved : Saved
+  pub short : length save ≤ most_save_bytes
+  pub restored : IsRestored solvers save saved
+  pub joint : script ≡ joint_script saved.source.items saved.store file
+
+-- why a save is not restored
+abbrev pub IsUnrestored : List (List ℕ) → List ℕ → SaveFault → Type 0
+IsUnrestored solvers save fault = Restores solvers save (let r : Result Saved SaveFaultOrMemory = Err (Fault fault) in r)
+
+-- what there is to run, of what was taken, with solvers of these names
+abbrev pub IsMatter : List (List ℕ) → Taken → Matter → Type 0
+IsMatter solvers (from_start source) (scripted script) = script ≡ script_of source
+IsMatter solvers (from_start source) (unrestored fault) = ⊥
+IsMatter solvers (from_save save file) (scripted script) = IsJoint solvers save file script
+IsMatter solvers (from_save save file) (unrestored fault) = IsUnrestored solvers save fault
+
+-- ---- programs of scripts
+
+-- the errors of a program, of which the file begins at a line where it goes on from a saved state
+abbrev pub errors_of : Option State → ℕ → Program Frac → List (List ℕ) → List CompileError
+errors_of None line program solvers = compile_errors frac_value program solvers
+errors_of (Some state) line program solvers = joint_errors frac_value program line solvers
+
+-- the state in which a program begins: loaded, or resumed
+abbrev pub first_state : Option State → Program Frac → State
+first_state None program = loaded frac_value program
+first_state (Some state) program = resumed frac_value state program
+
+-- the statements that are run: all, or those behind the saved source
+abbrev pub statements_of : Option State → ℕ → Program Frac → List (Stmt Frac)
+statements_of None line program = program.statements.items
+statements_of (Some state) line program = drop (length (saved_statements line program)) program.statements.items
+
+-- Two states declare a name alike: over as many positions, and as another name of the same set.
+pub record IsAlike (one other : State) (name : ℕ) : Type 0 where
+  pub base : base_of one name ≡ base_of other name
+  pub positions : length (symbol_of one name).domain ≡ length (symbol_of other name).domain
+
+-- where a program goes on from a saved state, each of its names is declared there as the program declares it
+abbrev pub Fits : Option State → Program Frac → Type 0
+Fits None program = Unit {0}
+Fits (Some state) program = (name : ℕ) → name < length program.names → IsAlike (resumed frac_value state program) (declared_state program) name

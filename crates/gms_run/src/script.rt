@@ -1,0 +1,54 @@
+//! What there is to run: a source, alone or joint, or a save that cannot be restored.
+ghost use Rattle.std.specs.Prelude.{◌≡◌, ◌≤◌, length, IfOk};
+ghost use Rattle.gms_lex.specs.Tokens.{most_bytes};
+ghost use Rattle.gms_run.specs.Scripts.{first_line, joint_source};
+
+use gms_save::{SaveFault, Saved};
+use std::alloc::{AllocError, Global};
+
+/// What stands between a saved source and a file that goes on from it.
+const SEAM: &[u8] = b"\n;\n";
+
+/// How many lines of a joint source there are before its file, beside those that end in the saved source.
+const SEAM_LINES: u32 = 3;
+
+/// A source to be run.
+#[derive(Clone, Copy)]
+pub(crate) struct Script<'a> {
+    /// The whole source: the file, or a saved source and the file behind it.
+    pub source: &'a [u8],
+    /// The file, whose lines are echoed.
+    pub file: &'a [u8],
+    /// The number of the first line of the file.
+    pub line: u32,
+    /// What was saved, where the file goes on from that.
+    pub saved: Option<&'a Saved>,
+}
+
+/// What there is to run.
+#[derive(Clone, Copy)]
+pub(crate) enum Matter<'a> {
+    /// A source.
+    ToRun(Script<'a>),
+    /// Nothing, since a save cannot be restored.
+    Unrestored(SaveFault),
+}
+
+/// The joint source of a saved source and a file that goes on from it.
+pub(crate) fn joint_source(alloc: Global, saved: &[u8], file: &[u8]) -> Result<Vec<u8>, AllocError>
+    ensures { IfOk result (λ joint. joint.items ≡ joint_source saved.now file.now) }
+{
+    let mut joint = Vec::from_slice(alloc, saved)?;
+    joint.extend_from_slice(SEAM)?;
+    joint.extend_from_slice(file)?;
+    Ok(joint)
+}
+
+/// The line of a joint source at which the file begins, by the saved source.
+pub(crate) fn first_line(saved: &[u8]) -> u32
+    requires { length saved.now ≤ most_bytes }
+    ensures { result ≡ first_line saved.now }
+{
+    let ends = saved.iter().filter(|byte| **byte == b'\n').count();
+    ends as u32 + SEAM_LINES
+}

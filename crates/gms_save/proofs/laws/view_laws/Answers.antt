@@ -1,0 +1,13 @@
+-- Programs that are seen alike have the same errors, load the same, and have the same saved states.
+use Rattle.gms_save.proofs.SeenPrograms.{same-assigned-sets, same-declared, same-errors, same-loaded, same-saved, same-solvers}
+use Rattle.gms_save.proofs.laws.view_laws.Goals as goal
+
+pub returns : goal.returns
+returns c = record {
+  errors = λ one other solvers alike. same-errors one other alike solvers;
+  solvers = same-solvers;
+  declared = same-declared;
+  assigned = same-assigned-sets;
+  loaded = same-loaded;
+  saved = λ one other state solver alike. same-saved one other alike state solver;
+}

@@ -1,0 +1,27 @@
+//! Laws of programs that are seen alike.
+ghost use Rattle.std.specs.Prelude.{◌≡◌, ℕ, List};
+ghost use Rattle.gq_frac.specs.declared.frac.Frac.{Frac};
+ghost use Rattle.gq_frac.specs.Frac.{frac_value};
+ghost use Rattle.gms_ast.specs.declared.program.Program.{Program};
+ghost use Rattle.gms_store.specs.State.{State};
+ghost use Rattle.gms_store.specs.Declarations.{declared_state};
+ghost use Rattle.gms_known.specs.DynamicSets.{dynamic_sets};
+ghost use Rattle.gms_parse.specs.Outcomes.{program_view};
+ghost use Rattle.gms_check.specs.CompileErrors.{compile_errors};
+ghost use Rattle.gms_check.specs.Loaded.{loaded};
+ghost use Rattle.gms_save.specs.Saves.{IsSavedBy, solvers_chosen};
+
+/// Two programs that are seen alike, by their names, their labels and the trees of their statements, have the same errors, load
+/// the same state, and have the same saved states: it does not matter where their parts are kept in memory. A source has one
+/// program as it is seen, so what is said of one program of a source is said of each (GAMS User's Guide, "GAMS Programs",
+/// "Save and Restart").
+pub fn view_laws()
+    ensures errors { (one other : Program Frac) (solvers : List (List ℕ)) → program_view frac_value one ≡ program_view frac_value other →
+        compile_errors frac_value one solvers ≡ compile_errors frac_value other solvers }
+    ensures solvers { (one other : Program Frac) → program_view frac_value one ≡ program_view frac_value other → solvers_chosen one ≡ solvers_chosen other }
+    ensures declared { (one other : Program Frac) → program_view frac_value one ≡ program_view frac_value other → declared_state one ≡ declared_state other }
+    ensures assigned { (one other : Program Frac) → program_view frac_value one ≡ program_view frac_value other → dynamic_sets one ≡ dynamic_sets other }
+    ensures loaded { (one other : Program Frac) → program_view frac_value one ≡ program_view frac_value other → loaded frac_value one ≡ loaded frac_value other }
+    ensures saved { (one other : Program Frac) (state : State) (solver : List ℕ) → program_view frac_value one ≡ program_view frac_value other →
+        IsSavedBy one state solver → IsSavedBy other state solver }
+{}

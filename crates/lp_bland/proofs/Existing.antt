@@ -1,0 +1,286 @@
+-- That a program has an answer under Bland's rule, for each limit of pivots.
+use Rattle.std.proofs.Common.{◌≡◌, ℕ, zero, suc, ◌+◌, ◌^◌, ◌<◌, ◌≤◌, ◌⊎◌, inl, inr, true, pos, List, [], ◌∷◌, ◌++◌, length, map, replicate, Option, Some, None, refl, sym, ap, ◌∙◌, subst, subst₂, arith}
+use Rattle.std.specs.Prelude.{slice_get, slice_index_or}
+use Rattle.std.specs.List.{All, AllWithin}
+use Rattle.std.proofs.lemmas.List.Elements.{All-nil, All-cons, All-replicate}
+use Rattle.gq_number.specs.Number.{Number, whole}
+use Rattle.gq_number.proofs.Order.{≤ℚ_or_above, not_above}
+use Rattle.lp_form.proofs.Zeros.{fits-zero}
+use Rattle.lp_core.specs.declared.answer.Answer.{Answer}
+use Rattle.lp_core.specs.declared.answer.End.{End}
+use Rattle.lp_core.specs.declared.answer.End.TheVariants.{Optimal, Infeasible, Unbounded, Interrupted, Refused}
+use Rattle.lp_core.specs.declared.answer.Pivot.{Pivot}
+use Rattle.lp_core.specs.declared.answer.Rule.TheVariants.{Bland}
+use Rattle.lp_core.specs.declared.answer.StepName.{StepName}
+use Rattle.lp_core.specs.declared.program.Column.{Column}
+use Rattle.lp_core.specs.declared.program.Lp.{Lp}
+use Rattle.lp_core.specs.Feasible.{Feasible}
+use Rattle.lp_core.specs.WellFormed.{IsWellFormed}
+use Rattle.lp_core.specs.Proofs.{Crosses, row_sums, ProvesOptimal, ProvesInfeasible, ProvesCrossed, ProvesUnbounded}
+use Rattle.lp_core.specs.StandardForm.{standard_form, levels_back, duals_back, reduced_back, farkas_back, ray_back}
+use Rattle.lp_core.specs.Dictionary.{Dictionary, InPhaseOne, OpeningIsDue, Improves, Limits, first_dictionary, exchanged}
+use Rattle.lp_core.specs.Steps.{Due, AllFit, FirstStop, standard_steps, exchange_steps, ratio_steps, levels_steps, row_levels_steps, duals_steps, reduced_costs_steps, ray_steps, optimal_steps, infeasible_steps, unbounded_steps, interrupted_steps}
+use Rattle.lp_core.specs.Answers.{IsAllowed, IsChosen, NothingImproves, TestFits, IsUnlimitedBy, IsGoingOnBy, IsPhase, Leads, EndsSo, EndsSoBy, NoneCrosses, IsAnswer, last_of, last_along}
+use Rattle.lp_core.specs.Choices.{IsAllowedBy}
+use Rattle.lp_std.specs.declared.types.FinalKind.TheVariants as kind
+use Rattle.lp_std.specs.Meaning.{FirstCrossed}
+use Rattle.lp_std.specs.Pieces.{first_stop}
+use Rattle.lp_std.proofs.Ends.{optimal_proved, infeasible_proved, unbounded_proved, point_feasible}
+use Rattle.lp_std.proofs.Stops.{all_fit, stops_first}
+use Rattle.lp_std.proofs.Sums.{All-append_left, All-append_right}
+use Rattle.lp_exact.proofs.Improving.{found_or_not}
+use Rattle.lp_exact.proofs.Kept.{contains_get}
+use Rattle.lp_walk.specs.Ends.{EndsWith, IsLedBack, IsBrokenOff}
+use Rattle.lp_walk.proofs.Ending.{unlimited_legal, ended_so, broken_off_so}
+use Rattle.lp_walk.proofs.Rules.{bland_of, taken_of, ends_by}
+use Rattle.lp_walk.proofs.Standing.{Stands, first_stands, stands_after}
+use Rattle.lp_walk.proofs.Walking.{some_limits, limits_in_one, goes_on_by_pivot, ratio_stops}
+use Rattle.lp_bland.proofs.Deciding.{Case, nothing_improves, none_limits, test_stops, pivot_is_due, due_or_not, case_at}
+use Rattle.lp_bland.proofs.Fitting.{Fitting, all_meant}
+use Rattle.lp_bland.proofs.FittingForm.{HasFitting, form_within}
+use Rattle.lp_bland.proofs.FittingTurn.{turn_within, values_within, costs_within, changes_within}
+use Rattle.lp_bland.proofs.FittingBack.{levels_back_within, row_sums_within, duals_back_within, reduced_back_within, farkas_back_within, ray_back_within}
+
+abbrev Fit : Due → Type 0
+Fit step = step.1 ≡ true
+
+-- the phase of a dictionary
+phase_at : (d : Dictionary) → IsPhase d 1 ⊎ (IsPhase d 2 × ¬ (OpeningIsDue d) × ¬ (InPhaseOne d))
+phase_at d =
+    elim (due_or_not d) [
+      | inl found ↦ inl (inl (refl, inl (found.0, found.1.below, found.1.holds)))
+      | inr none ↦ elim (found_or_not d.basic 0) [
+        | inl found ↦ inl (inl (refl, inr (contains_get d.basic found.0 0 found.1)))
+        | inr away ↦ inr (inr (refl, none, away), none, away)
+      ]
+    ]
+
+module _ {F : Type 0} (value : F → Number) (limit : ℕ) (some : 1 ≤ limit) (small : limit < 2 ^ 127) (within : (x : F) → Fitting limit (value x)) (each : (x : Number) → Fitting limit x → (y : F) × (value y ≡ x)) (lp : Lp F) (formed : IsWellFormed value lp) (iterlim : ℕ) (ordered : NoneCrosses value limit lp iterlim Bland) where
+  meant : (xs : List Number) → All (Fitting limit) xs → (ys : List F) × (map value ys ≡ xs)
+  meant xs h = all_meant value limit each xs h
+
+  -- ---- the ends that a last dictionary leads back to
+
+  module _ (d : Dictionary) (stands : Stands (standard_form value lp) d) (fitting : HasFitting limit d) where
+    levels_meant : AllFit (levels_steps value limit lp (last_of d)) → (xs : List F) × (map value xs ≡ levels_back value lp (last_of d))
+    levels_meant fit = meant (levels_back value lp (last_of d)) (levels_back_within value limit some small within lp (last_of d) (values_within limit some d fitting) fit)
+
+    sums_meant : AllFit (row_levels_steps value limit lp (last_of d)) → (xs : List F) × (map value xs ≡ row_sums value lp (levels_back value lp (last_of d)))
+    sums_meant fit = meant (row_sums value lp (levels_back value lp (last_of d))) (row_sums_within value limit some small within lp (last_of d) fit)
+
+    optimal_end : ¬ (InPhaseOne d) → NothingImproves d → (o : Option StepName) → first_stop (optimal_steps value limit lp (last_of d)) ≡ o → (end : End F) × EndsWith value limit lp kind.Optimal (last_of d) end
+    optimal_end away none (Some step) stops = (Refused step, inr (step, refl, stops_first (optimal_steps value limit lp (last_of d)) step stops))
+    optimal_end away none None fits =
+        let first : List Due = levels_steps value limit lp (last_of d) in
+        let second : List Due = row_levels_steps value limit lp (last_of d) in
+        let third : List Due = duals_steps value limit lp (last_of d) in
+        let fourth : List Due = reduced_costs_steps value limit lp (last_of d) in
+        let fit : AllFit (first ++ second ++ third ++ fourth) = all_fit (optimal_steps value limit lp (last_of d)) fits in
+        let front : AllFit (first ++ second ++ third) = All-append_left Fit (first ++ second ++ third) fourth fit in
+        let point : AllFit (first ++ second) = All-append_left Fit (first ++ second) third front in
+        let costs = costs_within limit some d fitting in
+        let xs = levels_meant (All-append_left Fit first second point) in
+        let sums = sums_meant (All-append_right Fit first second point) in
+        let ys = meant (duals_back value lp (last_of d)) (duals_back_within value limit some small within lp (last_of d) costs (All-append_right Fit (first ++ second) third front)) in
+        let rs = meant (reduced_back value lp (last_of d)) (reduced_back_within value limit some small within lp (last_of d) costs (All-append_right Fit (first ++ second ++ third) fourth fit)) in
+        let proof = optimal_proved value lp formed ordered d stands.of_form none.0 away none in
+        let at_levels : ProvesOptimal value lp (map value xs.0) (map value sums.0) (duals_back value lp (last_of d)) (reduced_back value lp (last_of d)) =
+        subst₂ (λ a b. ProvesOptimal value lp a b (duals_back value lp (last_of d)) (reduced_back value lp (last_of d))) (sym xs.1) (sym sums.1) proof in
+        let proved : ProvesOptimal value lp (map value xs.0) (map value sums.0) (map value ys.0) (map value rs.0) =
+        subst₂ (λ a b. ProvesOptimal value lp (map value xs.0) (map value sums.0) a b) (sym ys.1) (sym rs.1) at_levels in
+        (Optimal xs.0 sums.0 ys.0 rs.0, inl ((xs.1, sums.1, ys.1, rs.1), fit, proved))
+
+    infeasible_end : InPhaseOne d → NothingImproves d → (o : Option StepName) → first_stop (infeasible_steps value limit lp (last_of d)) ≡ o → (end : End F) × EndsWith value limit lp kind.Infeasible (last_of d) end
+    infeasible_end phase none (Some step) stops = (Refused step, inr (step, refl, stops_first (infeasible_steps value limit lp (last_of d)) step stops))
+    infeasible_end phase none None fits =
+        let fit : AllFit (infeasible_steps value limit lp (last_of d)) = all_fit (infeasible_steps value limit lp (last_of d)) fits in
+        let ys = meant (farkas_back value lp (last_of d)) (farkas_back_within value limit some small within lp (last_of d) (costs_within limit some d fitting) fit) in
+        let proof = infeasible_proved value lp formed ordered d stands.of_form none.0 phase none in
+        (Infeasible ys.0 None, inl ((ys.1, refl), fit, subst (ProvesInfeasible value lp) (sym ys.1) proof))
+
+    unbounded_end : (q : ℕ) → ¬ (InPhaseOne d) → IsUnlimitedBy (IsChosen Bland d) d q → (o : Option StepName) → first_stop (unbounded_steps value limit lp (last_along d q)) ≡ o → (end : End F) × EndsWith value limit lp kind.Unbounded (last_along d q) end
+    unbounded_end q away along (Some step) stops = (Refused step, inr (step, refl, stops_first (unbounded_steps value limit lp (last_along d q)) step stops))
+    unbounded_end q away along None fits =
+        let first : List Due = levels_steps value limit lp (last_along d q) in
+        let second : List Due = row_levels_steps value limit lp (last_along d q) in
+        let third : List Due = ray_steps value limit lp (last_along d q) in
+        let fit : AllFit (first ++ second ++ third) = all_fit (unbounded_steps value limit lp (last_along d q)) fits in
+        let point : AllFit (first ++ second) = All-append_left Fit (first ++ second) third fit in
+        let xs = levels_meant (All-append_left Fit first second point) in
+        let sums = sums_meant (All-append_right Fit first second point) in
+        let rs = meant (ray_back value lp (last_along d q)) (ray_back_within value limit some small within lp (last_along d q) (changes_within limit some d fitting q along.1.0.there) (All-append_right Fit (first ++ second) third fit)) in
+        let proof = unbounded_proved value lp formed ordered d stands.of_form along.0 away q (unlimited_legal (IsChosen Bland d) d (λ v chosen. chosen.0) q along) in
+        let at_levels : ProvesUnbounded value lp (map value xs.0) (map value sums.0) (ray_back value lp (last_along d q)) =
+        subst₂ (λ a b. ProvesUnbounded value lp a b (ray_back value lp (last_along d q))) (sym xs.1) (sym sums.1) proof in
+        (Unbounded xs.0 sums.0 rs.0, inl ((xs.1, sums.1, rs.1), fit, subst (λ a. ProvesUnbounded value lp (map value xs.0) (map value sums.0) a) (sym rs.1) at_levels))
+
+    interrupted_end : ¬ (OpeningIsDue d) → ¬ (InPhaseOne d) → (o : Option StepName) → first_stop (interrupted_steps value limit lp (last_of d)) ≡ o → (end : End F) × EndsWith value limit lp kind.Interrupted (last_of d) end
+    interrupted_end none away (Some step) stops = (Refused step, inr (step, refl, stops_first (interrupted_steps value limit lp (last_of d)) step stops))
+    interrupted_end none away None fits =
+        let first : List Due = levels_steps value limit lp (last_of d) in
+        let second : List Due = row_levels_steps value limit lp (last_of d) in
+        let fit : AllFit (first ++ second) = all_fit (interrupted_steps value limit lp (last_of d)) fits in
+        let xs = levels_meant (All-append_left Fit first second fit) in
+        let sums = sums_meant (All-append_right Fit first second fit) in
+        let proof = point_feasible value lp formed ordered d stands.of_form none away in
+        (Interrupted 2 xs.0 sums.0, inl ((refl, xs.1, sums.1), fit, subst (Feasible value lp) (sym xs.1) proof))
+
+    -- ---- the end of the search here
+
+    module _ (pivots : ℕ) where
+      abbrev By : End F → Type 0
+      By end = EndsSoBy value limit lp iterlim (IsAllowedBy (IsChosen Bland d) d) (IsChosen Bland d) pivots d end
+
+      abbrev So : End F → Type 0
+      So end = EndsSo value limit lp iterlim Bland pivots d end
+
+      under_bland : (end : End F) → By end → So end
+      under_bland end h =
+          ends_by value limit lp iterlim pivots d (IsAllowedBy (IsChosen Bland d) d) (IsAllowed Bland d) (IsChosen Bland d) (IsChosen Bland d) (bland_of d) (λ q chosen. chosen) end h
+
+      ends_nothing : NothingImproves d → (end : End F) × So end
+      ends_nothing none =
+          elim (found_or_not d.basic 0) [
+            | inl found ↦
+                let phase : InPhaseOne d = contains_get d.basic found.0 0 found.1 in
+                let made = infeasible_end phase none (first_stop (infeasible_steps value limit lp (last_of d))) refl in
+                let led : IsLedBack value limit lp d None made.0 = record { kind = kind.Infeasible; last = last_of d; ends_by = (phase, none, refl); read = (phase, none, refl); ray = refl; gives = made.1 } in
+                (made.0, under_bland made.0 (ended_so value limit lp iterlim (IsChosen Bland d) pivots d (λ v chosen. chosen.0) None made.0 none led))
+            | inr away ↦
+                let made = optimal_end away none (first_stop (optimal_steps value limit lp (last_of d))) refl in
+                let led : IsLedBack value limit lp d None made.0 = record { kind = kind.Optimal; last = last_of d; ends_by = (away, none, refl); read = (away, none, refl); ray = refl; gives = made.1 } in
+                (made.0, under_bland made.0 (ended_so value limit lp iterlim (IsChosen Bland d) pivots d (λ v chosen. chosen.0) None made.0 none led))
+          ]
+
+      ends_unlimited : (q : ℕ) → ¬ (OpeningIsDue d) → IsChosen Bland d q → ((k : ℕ) → ¬ (Limits d q k)) → (end : End F) × So end
+      ends_unlimited q none chosen free =
+          let away = limits_in_one d q chosen.0 free in
+          let along : IsUnlimitedBy (IsChosen Bland d) d q = (none, chosen, free) in
+          let legal = unlimited_legal (IsChosen Bland d) d (λ v picked. picked.0) q along in
+          let made = unbounded_end q away along (first_stop (unbounded_steps value limit lp (last_along d q))) refl in
+          let led : IsLedBack value limit lp d (Some q) made.0 = record { kind = kind.Unbounded; last = last_along d q; ends_by = (away, (q, legal, refl)); read = (away, (q, legal, refl)); ray = refl; gives = made.1 } in
+          (made.0, under_bland made.0 (ended_so value limit lp iterlim (IsChosen Bland d) pivots d (λ v picked. picked.0) (Some q) made.0 (away, along) led))
+
+      -- where the limit of pivots is met
+      ends_broken : pivots ≡ iterlim → IsGoingOnBy (IsChosen Bland d) d → (end : End F) × So end
+      ends_broken most goes =
+          elim (phase_at d) [
+            | inl one ↦ (Interrupted 1 [] [], under_bland (Interrupted 1 [] []) (broken_off_so value limit lp iterlim (IsChosen Bland d) pivots d (λ v chosen. chosen.0) (Interrupted 1 [] []) most goes (inl (one, refl))))
+            | inr two ↦
+                let more : (q : ℕ) × Improves d q = elim goes [ inl due ↦ absurd (two.1 due) | inr on ↦ (on.1.0, on.1.2.0) ] in
+                let made = interrupted_end two.1 two.2 (first_stop (interrupted_steps value limit lp (last_of d))) refl in
+                let led : IsLedBack value limit lp d None made.0 = record { kind = kind.Interrupted; last = last_of d; ends_by = (two.2, two.1, more, refl); read = (two.2, two.1, more, refl); ray = refl; gives = made.1 } in
+                (made.0, under_bland made.0 (broken_off_so value limit lp iterlim (IsChosen Bland d) pivots d (λ v chosen. chosen.0) made.0 most goes (inr (two.0, led))))
+          ]
+
+      -- where no further pivot may be taken
+      ends_at_limit : pivots ≡ iterlim → Case limit (pivots + 1) d → (end : End F) × So end
+      ends_at_limit most (nothing_improves none) = ends_nothing none
+      ends_at_limit most (none_limits q none chosen free) = ends_unlimited q none chosen free
+      ends_at_limit most (test_stops q none chosen name stops) =
+          let row = some_limits limit (pivots + 1) d q name stops in
+          ends_broken most (inr (none, (q, row.0, chosen, row.1)))
+      ends_at_limit most (pivot_is_due p k allowed tested) = ends_broken most (goes_on_by_pivot (IsChosen Bland d) d p k (allowed.0, taken_of d p k allowed))
+
+  -- ---- the walk
+
+  -- pivots from a dictionary, and an end
+  abbrev Goes : ℕ → ℕ → Dictionary → Type 0
+  Goes left done d =
+      (pivots : List Pivot) × (length pivots ≤ left) × ((last : Dictionary) × Leads Bland limit (done + 1) d pivots last × ((end : End F) × EndsSo value limit lp iterlim Bland (done + length pivots) last end))
+
+  ends_now : (left done : ℕ) (d : Dictionary) → ((end : End F) × EndsSo value limit lp iterlim Bland done d end) → Goes left done d
+  ends_now left done d made =
+      let count : done ≡ done + length {A = Pivot} [] = omega arith in
+      ([], omega arith, (d, refl, (made.0, subst (λ n. EndsSo value limit lp iterlim Bland n d made.0) count made.1)))
+
+  goes_more : (left done : ℕ) (d : Dictionary) (p : Pivot) (k : ℕ) → IsAllowed Bland d p k → TestFits limit (done + 1) d p → AllFit (exchange_steps limit (done + 1) d p.enter k) → Goes left (done + 1) (exchanged d p.enter k) → Goes (suc left) done d
+  goes_more left done d p k allowed tested fit (pivots, few, (last, leads, (end, ends))) =
+      let count : done + 1 + length pivots ≡ done + length (p ∷ pivots) = omega arith in
+      (p ∷ pivots, omega arith, (last, (k, allowed, tested, fit, leads), (end, subst (λ n. EndsSo value limit lp iterlim Bland n last end) count ends)))
+
+  -- a further pivot is allowed: all its steps fit, or there is a first that does not
+  turns : (left done : ℕ) (d : Dictionary) (p : Pivot) (k : ℕ) → done < iterlim → IsAllowed Bland d p k → TestFits limit (done + 1) d p → (AllFit (exchange_steps limit (done + 1) d p.enter k) → Goes left (done + 1) (exchanged d p.enter k)) → (o : Option StepName) → first_stop (exchange_steps limit (done + 1) d p.enter k) ≡ o → Goes (suc left) done d
+  turns left done d p k less allowed tested next None fits =
+      let fit : AllFit (exchange_steps limit (done + 1) d p.enter k) = all_fit (exchange_steps limit (done + 1) d p.enter k) fits in
+      goes_more left done d p k allowed tested fit (next fit)
+  turns left done d p k less allowed tested next (Some name) stops =
+      ends_now (suc left) done d (Refused name, inl (less, inr (p, k, allowed, tested, stops_first (exchange_steps limit (done + 1) d p.enter k) name stops)))
+
+  abbrev Next : ℕ → ℕ → Dictionary → Type 0
+  Next left done d =
+      (p : Pivot) (k : ℕ) → IsAllowed Bland d p k → AllFit (exchange_steps limit (done + 1) d p.enter k) → Goes left (done + 1) (exchanged d p.enter k)
+
+  by_case : (left done : ℕ) (d : Dictionary) → done < iterlim → Stands (standard_form value lp) d → HasFitting limit d → Next left done d → Case limit (done + 1) d → Goes (suc left) done d
+  by_case left done d less stands fitting next (nothing_improves none) = ends_now (suc left) done d (ends_nothing d stands fitting done none)
+  by_case left done d less stands fitting next (none_limits q none chosen free) = ends_now (suc left) done d (ends_unlimited d stands fitting done q none chosen free)
+  by_case left done d less stands fitting next (test_stops q none chosen name stops) =
+      let row = some_limits limit (done + 1) d q name stops in
+      ends_now (suc left) done d (Refused name, inl (less, inl (none, (q, row.0, chosen, row.1, stops))))
+  by_case left done d less stands fitting next (pivot_is_due p k allowed tested) =
+      turns left done d p k less allowed tested (λ fit. next p k allowed fit) (first_stop (exchange_steps limit (done + 1) d p.enter k)) refl
+
+  goes : (left done : ℕ) (d : Dictionary) → done + left ≡ iterlim → Stands (standard_form value lp) d → HasFitting limit d → Goes left done d
+  goes zero done d count stands fitting = ends_now zero done d (ends_at_limit d stands fitting done (omega arith) (case_at limit (done + 1) d stands.proper))
+  goes (suc left) done d count stands fitting =
+      by_case left done d (omega arith) stands fitting
+      (λ p k allowed fit. goes left (done + 1) (exchanged d p.enter k) (omega arith) (stands_after (standard_form value lp) d p k stands allowed.0) (turn_within limit some small (done + 1) d p.enter k fitting fit)) (case_at limit (done + 1) d stands.proper)
+
+  -- the answer where the steps of the standard form fit
+  pub walked : AllFit (standard_steps value limit lp) → (answer : Answer F) × IsAnswer value limit lp iterlim Bland answer
+  walked fit =
+      let start = first_dictionary (standard_form value lp) in
+      let found = goes iterlim 0 start (omega arith) (first_stands value lp formed) (form_within value limit some small within lp formed fit) in
+      made_answer fit found
+    where
+      made_answer : AllFit (standard_steps value limit lp) → Goes iterlim 0 (first_dictionary (standard_form value lp)) → (answer : Answer F) × IsAnswer value limit lp iterlim Bland answer
+      made_answer fit (pivots, few, (last, leads, (end, ends))) =
+          let count : 0 + length pivots ≡ length pivots = omega arith in
+          (record { pivots = pivots; end = end }, inr (inr (ordered, fit, few, (last, leads, subst (λ n. EndsSo value limit lp iterlim Bland n last end) count ends))))
+
+-- ---- columns whose bounds cross
+
+module _ {F : Type 0} (value : F → Number) where
+  crosses_or_not : (lower upper : Option F) → Crosses value lower upper ⊎ ¬ (Crosses value lower upper)
+  crosses_or_not (Some l) (Some u) = elim (≤ℚ_or_above (value l) (value u)) [ inl less ↦ inr (not_above (value l) (value u) less) | inr above ↦ inl above ]
+  crosses_or_not (Some l) None = inr (λ h. h)
+  crosses_or_not None (Some u) = inr (λ h. h)
+  crosses_or_not None None = inr (λ h. h)
+
+  abbrev Ordered : Column F → Type 0
+  Ordered column = ¬ (Crosses value column.lower column.upper)
+
+  first_later : (column : Column F) (columns : List (Column F)) (j : ℕ) → Ordered column → AllWithin Ordered columns 0 j → (k : ℕ) (d : Column F) → k < suc j → Ordered (slice_index_or (column ∷ columns) k d)
+  first_later column columns j here rest zero d less = here
+  first_later column columns j here rest (suc k) d less = rest k d (omega arith) (omega arith)
+
+  crossed_or_none : (columns : List (Column F)) → ((j : ℕ) × FirstCrossed value columns (Some j)) ⊎ FirstCrossed value columns None
+  crossed_or_none [] = inr (All-nil Ordered)
+  crossed_or_none (column ∷ columns) =
+      elim (crosses_or_not column.lower column.upper) [
+        | inl crosses ↦ inl (0, ((column, refl, crosses), λ k d low high. absurd (omega arith)))
+        | inr none ↦ elim (crossed_or_none columns) [
+          | inl found ↦ inl (suc found.0, (found.1.0, λ k d low high. first_later column columns found.0 none found.1.1 k d high))
+          | inr rest ↦ inr (All-cons Ordered column columns none rest)
+        ]
+      ]
+
+-- ---- the answer
+
+module _ {F : Type 0} (value : F → Number) (limit : ℕ) (some : 1 ≤ limit) (small : limit < 2 ^ 127) (within : (x : F) → Fitting limit (value x)) (each : (x : Number) → Fitting limit x → (y : F) × (value y ≡ x)) (lp : Lp F) (formed : IsWellFormed value lp) (iterlim : ℕ) where
+  crossed_answer : (j : ℕ) → FirstCrossed value lp.columns (Some j) → (answer : Answer F) × IsAnswer value limit lp iterlim Bland answer
+  crossed_answer j first =
+      let zeros = all_meant value limit each (replicate (length lp.rows) (whole (pos 0))) (All-replicate (Fitting limit) (length lp.rows) (whole (pos 0)) (fits-zero limit some)) in
+      (record { pivots = []; end = Infeasible zeros.0 (Some j) }, inl (refl, record { crossed = first.0; first = first.1; duals_zero = zeros.1 }))
+
+  formed_answer : NoneCrosses value limit lp iterlim Bland → (o : Option StepName) → first_stop (standard_steps value limit lp) ≡ o → (answer : Answer F) × IsAnswer value limit lp iterlim Bland answer
+  formed_answer ordered None fits = walked value limit some small within each lp formed iterlim ordered (all_fit (standard_steps value limit lp) fits)
+  formed_answer ordered (Some step) stops =
+      (record { pivots = []; end = Refused step }, inr (inl (refl, ordered, stops_first (standard_steps value limit lp) step stops)))
+
+  pub some_answer : (answer : Answer F) × IsAnswer value limit lp iterlim Bland answer
+  some_answer =
+      elim (crossed_or_none value lp.columns) [
+        | inl found ↦ crossed_answer found.0 found.1
+        | inr ordered ↦ formed_answer ordered (first_stop (standard_steps value limit lp)) refl
+      ]

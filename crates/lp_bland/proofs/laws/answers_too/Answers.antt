@@ -1,0 +1,13 @@
+use Rattle.lp_bland.proofs.Answered.{legal_too, optimum_within, over_numbers}
+use Rattle.lp_bland.proofs.laws.answers_too.Goals as goal
+
+pub returns-clause-legal : goal.returns-clause-legal
+returns-clause-legal g c lp iterlim answer is = legal_too g.F.ExactField.value g.F.ExactField.limit lp iterlim answer is
+
+pub returns-clause-within : goal.returns-clause-within
+returns-clause-within g c lp iterlim other rule answer levels row_levels duals reduced is few answers =
+    optimum_within g.F.ExactField.value g.F.ExactField.limit lp iterlim rule answer levels row_levels duals reduced other is few answers
+
+pub returns-clause-numbers : goal.returns-clause-numbers
+returns-clause-numbers g c lp iterlim rule answer formed is =
+    over_numbers g.F.ExactField.value g.F.ExactField.limit lp iterlim rule formed answer is
