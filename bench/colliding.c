@@ -1,10 +1,11 @@
-/* Prints labels that a table of labels cannot tell apart before it compares them: N of them, one a line.
+/* Prints labels that have one hash: N of them, one a line.
  *
  *   colliding N
  *
- * A table finds a label by a hash with a fixed seed (`FoldHasher` of the toolchain's `core`, over `indexmap`): its low bits choose the
- * first group that is searched, its highest byte is kept beside each label. All labels printed here agree in both, so each is compared
- * with each. N is at most 65,536; the search takes about N times N divided by 30 steps of a nanosecond or two.
+ * A table that finds a label by the toolchain's `FoldHasher`, whose seed is fixed (`indexmap`, say), cannot tell them apart before it
+ * compares them: the low bits of the hash choose the first group that is searched, its highest byte is kept beside each label, and all
+ * labels printed here agree in both. So each is compared with each there. N is at most 65,536; the search takes about N times N divided
+ * by 30 steps of a nanosecond or two.
  */
 #include <stdint.h>
 #include <stdio.h>

@@ -4,7 +4,7 @@ use Rattle.std.specs.Prelude.{codes}
 use Rattle.lp_core.specs.declared.answer.Pivot.{Pivot}
 use Rattle.lp_core.specs.declared.answer.Rule.{Rule}
 use Rattle.lp_core.specs.declared.answer.Rule.TheVariants.{Bland, Legal}
-use Rattle.gms_run.specs.Solving.{Solvers, seen}
+use Rattle.gms_run.specs.Solving.{seen}
 use Rattle.gms25.specs.Program.{both}
 
 -- What one solver tells.

@@ -31,7 +31,7 @@ pub enum DeclKind {
 ///
 /// In `parameter p(i,*) "a text" /a.x 5/;` the name is `p`, the domain is `i` and any label, and the data are one
 /// item.
-#[derive(Debug, Drop)]
+#[derive(Debug)]
 pub struct Decl<F> {
     /// The name.
     pub named: Named,
@@ -41,10 +41,21 @@ pub struct Decl<F> {
     pub items: Sequence<Item<F>>,
 }
 
+// Written out, so that it is proved here alone, and not in each crate that lets one go.
+impl<F: Drop> Drop for Decl<F> {
+    fn drop(self) {
+        let Self {
+            named: _,
+            domain: _,
+            items: _,
+        } = self;
+    }
+}
+
 /// One item of data: the labels of an element, and the value that it gives them.
 ///
 /// In `/a.(b,c) 5/` it has two positions, with one label and with two, and the number 5.
-#[derive(Debug, Drop)]
+#[derive(Debug)]
 pub struct Item<F> {
     /// The place of its first character.
     pub at: Place,
@@ -56,10 +67,22 @@ pub struct Item<F> {
     pub bad_range: bool,
 }
 
+// Written out, so that it is proved here alone, and not in each crate that lets one go.
+impl<F: Drop> Drop for Item<F> {
+    fn drop(self) {
+        let Self {
+            at: _,
+            parts: _,
+            value: _,
+            bad_range: _,
+        } = self;
+    }
+}
+
 /// One model that is declared.
 ///
 /// In `model m /cost, supply/;` it is `m` of two equations, and in `model m /all/;` of all that are declared.
-#[derive(Debug, Drop)]
+#[derive(Debug)]
 pub struct ModelDecl {
     /// The name of the model.
     pub named: Named,
@@ -67,4 +90,15 @@ pub struct ModelDecl {
     pub all: bool,
     /// The equations that are named, in order.
     pub equations: Sequence<Named>,
+}
+
+// Written out, so that it is proved here alone, and not in each crate that lets one go.
+impl Drop for ModelDecl {
+    fn drop(self) {
+        let Self {
+            named: _,
+            all: _,
+            equations: _,
+        } = self;
+    }
 }

@@ -101,7 +101,6 @@ pub enum RelOp {
 /// of a sum, a product or a power is that of its first character, its own sign included. The mark of a first part says
 /// nothing: it is false, or `Eq`.
 #[cycle(expression)]
-#[derive(Drop)]
 pub enum Expr<F> {
     /// A number, as `2.5`.
     Number(F),
@@ -183,9 +182,53 @@ pub enum Expr<F> {
     },
 }
 
+// Written out, so that it is proved here alone, and not in each crate that lets one go.
+impl<F: Drop> Drop for Expr<F> {
+    #[cycle(let_go)]
+    fn drop(self) {
+        match self {
+            Self::Number(_) => {}
+            Self::PlusInf => {}
+            Self::Na => {}
+            Self::Yes => {}
+            Self::No => {}
+            Self::Ref {
+                at: _,
+                name: _,
+                suffix: _,
+                indices: _,
+            } => {}
+            Self::Ord { at: _, set: _ } => {}
+            Self::Card { at: _, set: _ } => {}
+            Self::Call {
+                at: _,
+                function: _,
+                args: _,
+            } => {}
+            Self::Fold {
+                at: _,
+                op: _,
+                control: _,
+                body: _,
+            } => {}
+            Self::Neg(_) => {}
+            Self::Plus(_) => {}
+            Self::Times(_) => {}
+            Self::Power(_) => {}
+            Self::Relate(_) => {}
+            Self::Not(_) => {}
+            Self::And(_) => {}
+            Self::Or(_) => {}
+            Self::Guard {
+                operand: _,
+                guards: _,
+            } => {}
+        }
+    }
+}
+
 /// An index of a reference.
 #[cycle(expression)]
-#[derive(Drop)]
 pub enum Index<F> {
     /// A label in quotation marks, as `"a"`, by its number.
     Label(u32),
@@ -198,14 +241,35 @@ pub enum Index<F> {
     },
 }
 
+// Written out, so that it is proved here alone, and not in each crate that lets one go.
+impl<F: Drop> Drop for Index<F> {
+    #[cycle(let_go)]
+    fn drop(self) {
+        match self {
+            Self::Label(_) => {}
+            Self::Set { name: _, lag: _ } => {}
+        }
+    }
+}
+
 /// The sets over which a fold or a loop goes, and the condition on their elements.
 ///
 /// In `sum((i,j)$c(i,j), x(i,j))` the sets are `i` and `j`, and the condition is `c(i,j)`.
 #[cycle(expression)]
-#[derive(Drop)]
 pub struct Control<F> {
     /// The sets, by the numbers of their names.
     pub sets: Sequence<u32>,
     /// The condition, where there is one.
     pub condition: Option<Box<Expr<F>>>,
+}
+
+// Written out, so that it is proved here alone, and not in each crate that lets one go.
+impl<F: Drop> Drop for Control<F> {
+    #[cycle(let_go)]
+    fn drop(self) {
+        let Self {
+            sets: _,
+            condition: _,
+        } = self;
+    }
 }

@@ -6,7 +6,6 @@ use crate::word::{Named, Word};
 use gms_labels::{Labels, Place};
 
 /// A program: its two tables, in which names and labels have their numbers, and its statements in order.
-#[derive(Drop)]
 pub struct Program<F> {
     /// The names, in order of first appearance.
     pub names: Labels,
@@ -16,11 +15,21 @@ pub struct Program<F> {
     pub statements: Vec<Stmt<F>>,
 }
 
+// Written out, so that it is proved here alone, and not in each crate that lets one go.
+impl<F: Drop> Drop for Program<F> {
+    fn drop(self) {
+        let Self {
+            names: _,
+            labels: _,
+            statements: _,
+        } = self;
+    }
+}
+
 /// A statement, and the place of its first character.
 ///
 /// `c(i) = 2 * d(i);` is one.
 #[cycle(statement)]
-#[derive(Drop)]
 pub struct Stmt<F> {
     /// The place of its first character.
     pub at: Place,
@@ -28,9 +37,16 @@ pub struct Stmt<F> {
     pub act: Act<F>,
 }
 
+// Written out, so that it is proved here alone, and not in each crate that lets one go.
+impl<F: Drop> Drop for Stmt<F> {
+    #[cycle(let_go)]
+    fn drop(self) {
+        let Self { at: _, act: _ } = self;
+    }
+}
+
 /// What a statement does.
 #[cycle(statement)]
-#[derive(Drop)]
 pub enum Act<F> {
     /// Declares names of one kind, as `set i /a/, j /b/;`.
     Declare {
@@ -118,6 +134,53 @@ pub enum Act<F> {
     },
 }
 
+// Written out, so that it is proved here alone, and not in each crate that lets one go.
+impl<F: Drop> Drop for Act<F> {
+    #[cycle(let_go)]
+    fn drop(self) {
+        match self {
+            Self::Declare { kind: _, items: _ } => {}
+            Self::Alias {
+                first: _,
+                second: _,
+            } => {}
+            Self::Assign {
+                target: _,
+                condition: _,
+                right_at: _,
+                right: _,
+            } => {}
+            Self::Define {
+                equation: _,
+                indices: _,
+                condition: _,
+                left_at: _,
+                left: _,
+                side: _,
+                right_at: _,
+                right: _,
+            } => {}
+            Self::Model { models: _ } => {}
+            Self::Solve {
+                model: _,
+                method: _,
+                objective: _,
+                maximize: _,
+            } => {}
+            Self::Display { items: _ } => {}
+            Self::Loop {
+                control: _,
+                body: _,
+            } => {}
+            Self::Options { settings: _ } => {}
+            Self::Abort {
+                condition: _,
+                items: _,
+            } => {}
+        }
+    }
+}
+
 /// What an assignment assigns.
 ///
 /// In `x.lo(i,"a") = 3;` it is `x.lo(i,"a")`.
@@ -134,10 +197,18 @@ pub struct Target<F> {
 }
 
 /// The right side of an assignment.
-#[derive(Drop)]
 pub enum Right<F> {
     /// An expression, as in `s = 2 * q;`, `x.up(i) = inf;` or `c(i) = yes;`.
     Value(Expr<F>),
+}
+
+// Written out, so that it is proved here alone, and not in each crate that lets one go.
+impl<F: Drop> Drop for Right<F> {
+    fn drop(self) {
+        match self {
+            Self::Value(_) => {}
+        }
+    }
 }
 
 /// How the two sides of an equation relate.
@@ -154,7 +225,7 @@ pub enum Side {
 }
 
 /// What a `display` or an `abort` shows.
-#[derive(Debug, Drop)]
+#[derive(Debug)]
 pub enum Show {
     /// A text, as in `display "costs";`.
     Text(Word),
@@ -167,8 +238,21 @@ pub enum Show {
     },
 }
 
+// Written out, so that it is proved here alone, and not in each crate that lets one go.
+impl Drop for Show {
+    fn drop(self) {
+        match self {
+            Self::Text(_) => {}
+            Self::Symbol {
+                named: _,
+                suffix: _,
+            } => {}
+        }
+    }
+}
+
 /// What an option is set to.
-#[derive(Debug, Drop)]
+#[derive(Debug)]
 pub enum Setting<F> {
     /// A number, as in `option limrow = 0;`.
     Number {
@@ -179,4 +263,14 @@ pub enum Setting<F> {
     },
     /// A word, as in `option solprint = off;`.
     Name(Word),
+}
+
+// Written out, so that it is proved here alone, and not in each crate that lets one go.
+impl<F: Drop> Drop for Setting<F> {
+    fn drop(self) {
+        match self {
+            Self::Number { at: _, value: _ } => {}
+            Self::Name(_) => {}
+        }
+    }
 }

@@ -16,10 +16,17 @@ pub struct Named {
 /// A word or a text where it stands in the source, which is in no table: its bytes as they were written.
 ///
 /// In `solve m using lp minimizing z;` it is `lp`, and in `display "costs", c;` it is `costs`.
-#[derive(Debug, Drop)]
+#[derive(Debug)]
 pub struct Word {
     /// The place of its first character.
     pub at: Place,
     /// Its bytes.
     pub text: Sequence<u8>,
+}
+
+// Written out, so that it is proved here alone, and not in each crate that lets one go.
+impl Drop for Word {
+    fn drop(self) {
+        let Self { at: _, text: _ } = self;
+    }
 }

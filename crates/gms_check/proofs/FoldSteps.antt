@@ -1,7 +1,5 @@
 -- A fold: its own errors, then its control, and its body under the sets, which are controlled no more behind it.
-use Rattle.std.proofs.Common.{◌≡◌, ℕ, Bool, List, [], ◌∷◌, ◌++◌, map, take, length, refl, sym, ap, ◌∙◌, Vec, arith}
-use Rattle.std.specs.Vec.{vec_len}
-use Rattle.std.specs.declared.alloc.Global.{Global}
+use Rattle.std.proofs.Common.{◌≡◌, ℕ, Bool, List, [], ◌∷◌, ◌++◌, map, take, length, refl, sym, ap, ◌∙◌}
 use Rattle.std.proofs.Math.Seq.{take-append_seam}
 use Rattle.gq_number.specs.Number.{Number}
 use Rattle.gms_labels.specs.declared.place.Place.{Place}
@@ -27,5 +25,5 @@ module _ {F : Type 0} (value : F → Number) where
       noted-around value c r u v at used faults late (xs ++ ys) same e (noted-under r s t u xs ys sets outer (count ∙ ap (λ (c : Checking). length c.controlled) (sym e)) f g h) i
 
 -- how many sets are controlled
-pub controlled-counted : (outer : ℕ) (v : Vec ℕ Global) (c : Checking) → outer ≡ vec_len v → v.items ≡ c.controlled → outer ≡ length c.controlled
-controlled-counted outer v c e same = let counted = v.ok.0 in let long : length v.items ≡ length c.controlled = ap length same in omega arith
+pub controlled-counted : (outer : ℕ) (names : List ℕ) (c : Checking) → outer ≡ length names → names ≡ c.controlled → outer ≡ length c.controlled
+controlled-counted outer names c e same = e ∙ ap length same

@@ -87,7 +87,7 @@ module _ {F : Type 0} (known : Known F) where
       left-indices inside (index_list target.indices) (neither-second (not (may_be_assigned (kind_of known.state target.name) target.suffix)) (has_wrong_set known (index_sets (index_list target.indices))) (whole.0 WrongKind)) (clean-left known (shift_uses inside (index_list target.indices)) (condition_uses statement.at inside (option_map tree_of condition)) left)
 
   -- one of the statements of a body
-  clean-one_of : (sets : List ℕ) (before rest : List (Stmt F)) (statement : Stmt F) → AreClean known (flat_map (λ (s : Stmt F). statement_uses s known.state sets) (before ++ statement ∷ rest)) → AreClean known (statement_uses statement known.state sets)
+  pub clean-one_of : (sets : List ℕ) (before rest : List (Stmt F)) (statement : Stmt F) → AreClean known (flat_map (λ (s : Stmt F). statement_uses s known.state sets) (before ++ statement ∷ rest)) → AreClean known (statement_uses statement known.state sets)
   clean-one_of sets [] rest statement clean =
       clean-left known (statement_uses statement known.state sets) (flat_map (λ (s : Stmt F). statement_uses s known.state sets) rest) clean
   clean-one_of sets (first ∷ before) rest statement clean =

@@ -29,3 +29,7 @@ pub mod GivenData
 pub mod DeclaredNames
 pub mod LoadedNames
 pub mod LeftAmounts
+pub mod ReferencesRead
+pub mod Growing
+pub mod IndexSetsStay
+pub mod Controlling

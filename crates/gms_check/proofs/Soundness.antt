@@ -81,7 +81,7 @@ module _ {F : Type 0} where
   }
 
   -- what has no error is sound
-  sound-use : (known : Known F) (used : Use F) → IsClean known used → IsSound known used
+  pub sound-use : (known : Known F) (used : Use F) → IsClean known used → IsSound known used
   sound-use known (reading standing controlled name suffix indices) clean = record {
     declared = neither-first (is_unknown known.state name) (list_any (is_unknown known.state) (index_sets indices)) (clean UnknownName);
     stands = not-false (may_stand standing (kind_of known.state name) suffix) (neither-first (not (may_stand standing (kind_of known.state name) suffix)) (has_wrong_set known (index_sets indices)) (clean WrongKind));

@@ -52,7 +52,7 @@ with_facts c facts = record c { facts = facts }
 module _ {F : Type 0} where
   -- what a check shows
   abbrev pub seen : Checker F → Checking
-  seen c = record { facts = c.known; solvers = c.solvers.now; controlled = c.controlled.items; first = c.first }
+  seen c = record { facts = c.known; solvers = c.solvers.now; controlled = c.controlled; first = c.first }
 
 module _ {F : Type 0} (value : F → Number) where
   -- what is known, with solvers of these names

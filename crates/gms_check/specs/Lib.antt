@@ -20,6 +20,7 @@ pub mod OptionKinds
 pub mod OptionWords
 pub mod PartLists
 pub mod Past
+pub mod References
 pub mod Solves
 pub mod Standing
 pub mod StatementUses

@@ -5,6 +5,7 @@ ghost use Rattle.gms_check.specs.Checking.{faulted, seen};
 ghost use Rattle.gms_check.specs.CompileErrors.{compile_errors, statement_errors};
 ghost use Rattle.gms_check.specs.Errors.{sooner};
 
+use crate::controlled::Controlled;
 use crate::error::{CompileError, ErrorKind};
 use gms_ast::{Program, Sequence};
 use gms_known::Known;
@@ -107,7 +108,7 @@ pub struct Checker<'s, F: ExactField> {
     /// What is known.
     pub known: Known<F>,
     /// The sets that are controlled.
-    pub controlled: Vec<u32>,
+    pub controlled: Controlled,
     /// The first error of the statement so far.
     pub first: Option<CompileError>,
 }
@@ -127,7 +128,7 @@ impl<'s, F: ExactField> Checker<'s, F> {
             alloc,
             solvers,
             known,
-            controlled: Vec::new(alloc),
+            controlled: Controlled::new(alloc),
             first: None,
         })
     }

@@ -8,7 +8,7 @@ ghost use Rattle.gms_check.specs.declared.error.ErrorKind.TheVariants.{UnknownNa
 
 use crate::checker::Checker;
 use crate::error::ErrorKind;
-use crate::indices::{MOST, has_unknown, has_wrong_set, is_controlled};
+use crate::indices::{MOST, has_unknown, has_wrong_set};
 use crate::standing::Standing;
 use gms_labels::Place;
 use gq_field::ExactField;
@@ -45,7 +45,7 @@ impl<'s, F: ExactField> Checker<'s, F> {
     {
         let mut twice = false;
         for set in sets {
-            twice = twice || is_controlled(&self.controlled, *set);
+            twice = twice || self.controlled.has(*set);
             self.controlled.push(*set)?;
         }
         Ok(twice)
@@ -55,7 +55,7 @@ impl<'s, F: ExactField> Checker<'s, F> {
     pub fn ordinal(&mut self, standing: Standing, at: Place, set: u32)
         ensures { seen self.new ≡ noted F.value (seen self.old) ((at, ordinal standing (seen self.old).controlled set) ∷ []) }
     {
-        let controlled = is_controlled(&self.controlled, set);
+        let controlled = self.controlled.has(set);
         let ordered = self.known.is_ordered(set);
         self.cardinal(standing, at, set);
         self.require(controlled, ErrorKind::Uncontrolled, at);

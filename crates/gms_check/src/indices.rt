@@ -11,6 +11,7 @@ ghost use Rattle.gms_check.specs.Past.{is_among};
 ghost use Rattle.gms_check.specs.StatementUses.{index_list};
 ghost use Rattle.gms_check.specs.Uses.{index_sets};
 
+use crate::controlled::Controlled;
 use gms_ast::Index;
 use gms_known::Known;
 use gq_field::ExactField;
@@ -90,24 +91,12 @@ pub fn has_unordered<F: ExactField>(known: &Known<F>, sets: &[u32]) -> bool
     false
 }
 
-/// Whether a set is among some that are controlled.
-pub fn is_controlled(controlled: &[u32], set: u32) -> bool
-    ensures { result ≡ is_among controlled.now set }
-{
-    for other in controlled {
-        if *other == set {
-            return true;
-        }
-    }
-    false
-}
-
 /// Whether some of these sets is none of those that are controlled.
-pub fn has_uncontrolled(controlled: &[u32], sets: &[u32]) -> bool
+pub fn has_uncontrolled(controlled: &Controlled, sets: &[u32]) -> bool
     ensures { result ≡ list_any (λ set. not (is_among controlled.now set)) sets.now }
 {
     for set in sets {
-        if !is_controlled(controlled, *set) {
+        if !controlled.has(*set) {
             return true;
         }
     }

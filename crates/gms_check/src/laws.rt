@@ -21,6 +21,7 @@ ghost use Rattle.gms_check.specs.Checked.{IsChecked, StandsAfter};
 ghost use Rattle.gms_check.specs.DeclaredData.{Declares, IsFree, IsUndeclared, datum_at, has_values, is_put_in, type_of, value_put};
 ghost use Rattle.gms_check.specs.LeftSides.{AreLeftIndices, StandsIn};
 ghost use Rattle.gms_check.specs.Loaded.{IsAccepted, loaded, sound};
+ghost use Rattle.gms_check.specs.References.{Asking, InStatement, IsMeant};
 ghost use Rattle.gms_check.specs.StatementUses.{index_list};
 
 use gq_field::ExactField;
@@ -31,6 +32,20 @@ use gq_field::ExactField;
 /// controlled are one-dimensional, and controlled once; so is the set of an `ord`, which is ordered.
 pub fn checked_laws<F: ExactField>()
     ensures checked { (program : Program F) (solvers : List (List ℕ)) → compile_errors F.value program solvers ≡ [] → IsChecked F.value program solvers }
+{}
+
+/// What holds of each reference of a program without compile errors, wherever it stands in a statement: in an expression, under any
+/// folds and conditions, in the amount of a lag, in an assignment, a definition, an abort or the condition of a loop, so many loops deep.
+/// Its name is declared by a statement before and may stand there, it has as many indices as its name has positions, at most 10, each
+/// set among them has one dimension and fits its position, each label is in its position's set, a set with a lag is ordered, and each
+/// set is one of those that are controlled just there: by the loops around the statement, by the left side, and by the folds around the
+/// reference. So is the set of an `ord`, which is ordered.
+///
+/// GAMS User's Guide, "Data Manipulations with Parameters", "Sets as Sequences: Ordered Sets", "Programming Flow Control Features".
+pub fn reference_laws<F: ExactField>()
+    ensures { (program : Program F) (solvers : List (List ℕ)) (before : List (Stmt F)) (statement : Stmt F) (depth : ℕ) (within : List ℕ) (what : Asking F) →
+        compile_errors F.value program solvers ≡ [] → StandsAfter program before statement → InStatement depth within what [] statement →
+        IsMeant (known_after F.value program solvers (sound before)) within what }
 {}
 
 /// What stands on the left of an assignment in a program without compile errors, also of one in the body of a loop: each set among its

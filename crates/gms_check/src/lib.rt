@@ -3,6 +3,7 @@
 
 mod checker;
 mod control;
+mod controlled;
 mod declaration;
 mod error;
 mod expression;
@@ -19,5 +20,5 @@ mod target;
 
 pub use checker::{check, found_errors, names_of, statement_errors};
 pub use error::{CompileError, ErrorKind};
-pub use laws::{checked_laws, left_laws, load_laws};
+pub use laws::{checked_laws, left_laws, load_laws, reference_laws};
 pub use loading::load;

@@ -1,8 +1,8 @@
 //! The state in which a program begins.
-ghost use Rattle.std.specs.Prelude.{◌≡◌, Ok, IfOk, OnOk};
+ghost use Rattle.std.specs.Prelude.{◌≡◌, length, Ok, IfOk, OnOk};
 ghost use Rattle.std.specs.List.{fold};
 ghost use Rattle.gms_set.specs.Expansion.{expanded};
-ghost use Rattle.gms_store.specs.Declarations.{names_of, positions_of};
+ghost use Rattle.gms_store.specs.Declarations.{blank_state, names_of, positions_of};
 ghost use Rattle.gms_check.specs.Loadable.{AreLoadable, IsLoadable, IsLoadableItem};
 ghost use Rattle.gms_check.specs.Loaded.{loaded, IsAccepted};
 ghost use Rattle.gms_check.specs.Past.{after_act, with_item};
@@ -23,10 +23,24 @@ pub fn load<F: ExactField>(alloc: Global, program: &Program<F>) -> Result<Store<
     ensures { IfOk result (λ store. store ≡ loaded F.value program.now) }
 {
     let mut store = Store::blank(alloc, program.names.len())?;
-    for statement in &program.statements {
-        load_act(alloc, &mut store, &statement.act)?;
-    }
+    load_statements(alloc, &mut store, program)?;
     Ok(store)
+}
+
+/// Declares what the statements of an accepted program declare, with its data.
+fn load_statements<F: ExactField>(
+    alloc: Global,
+    store: &mut Store<F>,
+    program: &Program<F>,
+) -> Result<(), AllocError>
+    requires accepted { IsAccepted F.value program.now }
+    requires blank { store.old ≡ blank_state (length program.now.names) }
+    ensures { OnOk result (store.new ≡ loaded F.value program.now) }
+{
+    for statement in &program.statements {
+        load_act(alloc, store, &statement.act)?;
+    }
+    Ok(())
 }
 
 /// Declares what a statement declares, with its data.

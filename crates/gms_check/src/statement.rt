@@ -26,7 +26,7 @@ impl<'s, F: ExactField> Checker<'s, F> {
         ensures facts { IfOk result (λ error. seen self.new
             ≡ record (seen self.old) { facts = facts_after F.value (seen self.old).facts statement.now.act (is_none error); controlled = []; first = None }) }
     {
-        self.controlled.clear();
+        self.controlled.truncate(0);
         self.look_at(statement)?;
         Ok(self.take_first())
     }

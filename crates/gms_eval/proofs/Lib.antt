@@ -8,6 +8,7 @@ pub mod Depths
 pub mod Ends
 pub mod Entries
 pub mod Factors
+pub mod Fewest
 pub mod Gathering
 pub mod Guards
 pub mod Inner
@@ -17,8 +18,10 @@ pub mod Marks
 pub mod NodeValues
 pub mod Places
 pub mod Products
+pub mod Reaching
 pub mod Scanning
 pub mod Shapes
+pub mod Shortness
 pub mod Simple
 pub mod Sizes
 pub mod Thinning

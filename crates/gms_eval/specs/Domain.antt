@@ -18,14 +18,22 @@ labels_of state set = map label_in (members_of state set)
 abbrev pub elements : State → List ℕ → List (List ℕ)
 elements state sets = if nat_le (length sets) 10 then product (map (labels_of state) sets) else []
 
--- the fault of so many elements, whose count is the greatest number of a `u64` where they pass it
+-- how many elements the product of the sets of a domain may have
+abbrev pub most_elements : ℕ
+most_elements = 16777216
+
+-- how many elements are counted at most: the greatest number of a `u64`
+abbrev pub most_counted : ℕ
+most_counted = 18446744073709551615
+
+-- the fault of so many elements, whose count stops at the greatest number that is counted
 abbrev pub too_large : Place → Pairs → ℕ → Fault
 too_large at binding count =
-    record { kind = DomainSize; at = at; binding = binding; left = nothing; right = nothing; count = min count 18446744073709551615 }
+    record { kind = DomainSize; at = at; binding = binding; left = nothing; right = nothing; count = min count most_counted }
 
--- a product of more than 16,777,216 elements is a fault
+-- a product of more elements than may be is a fault
 abbrev pub sized : Place → Pairs → List (List ℕ) → Answer (List (List ℕ))
-sized at binding those = if nat_lt 16777216 (length those) then Err (too_large at binding (length those)) else Ok those
+sized at binding those = if nat_lt most_elements (length those) then Err (too_large at binding (length those)) else Ok those
 
 -- the elements for which a test holds, in their order, or the first fault of a test
 abbrev pub those_where : (List ℕ → Answer Bool) → List (List ℕ) → Answer (List (List ℕ))

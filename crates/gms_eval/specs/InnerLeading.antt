@@ -1,10 +1,11 @@
 -- What the pieces of the code promise each other of walks over the stored tuples of a name, in place of a whole product of sets.
-use Rattle.std.specs.Prelude.{◌≡◌, ◌≤◌, ℕ, Bool, true, false, List, ◌++◌, length, map, fold, slice_index, slice_range, Option, Some, None, Ok, IsOk, IsTrue, IfSome, if◌then◌else◌}
+use Rattle.std.specs.Prelude.{◌≡◌, ◌≤◌, ◌-◌, ◌*◌, ℕ, Bool, true, false, List, ◌++◌, length, map, fold, slice_index, slice_range, Option, Some, None, Ok, IsOk, IsTrue, IfSome, if◌then◌else◌}
 use Rattle.std.specs.List.{flat_map}
 use Rattle.gq_number.specs.Number.{Number}
 use Rattle.gms_ast.specs.declared.expression.Expr.{Expr}
 use Rattle.gms_ast.specs.declared.expression.Index.{Index}
-use Rattle.gms_ast.specs.TreeView.{tree_of}
+use Rattle.gms_ast.specs.Trees as tree
+use Rattle.gms_ast.specs.TreeView.{parts_of, indices_of, tree_of, index_tree}
 use Rattle.gms_tuple.specs.TupleOrder.{IsOrdered}
 use Rattle.gms_tuple.specs.TupleSet.{has}
 use Rattle.gms_store.specs.State.{State, symbol_of, members_of, given_of}
@@ -13,6 +14,7 @@ use Rattle.gms_eval.specs.Bindings.{Pairs, controlled}
 use Rattle.gms_eval.specs.Domain.{elements}
 use Rattle.gms_eval.specs.Faults.{Answer, nothing, ◌and_then◌}
 use Rattle.gms_eval.specs.Holds.{holds}
+use Rattle.gms_eval.specs.Leaders.{without_lags, index_count, reach}
 use Rattle.gms_eval.specs.References.{tuple_of, plain_value}
 use Rattle.gms_eval.specs.Value.{value, label_answer}
 use Rattle.gms_eval.specs.declared.walk.Walk.{Walk}
@@ -66,6 +68,51 @@ pub record Leads (state : State) (binding : Pairs) (sets : List ℕ) (condition 
 pub record IsScan (state : State) (binding : Pairs) (sets : List ℕ) (condition : Condition) (scan : Scan) : Type 0 where
   pub safe : IsTrue scan.safe → (other : Pairs) → IsOk (condition other)
   pub leads : IfSome scan.walk (λ walk. Leads state binding sets condition walk)
+
+-- ---- how short a walk is
+
+-- to how many elements a walk comes at most
+abbrev pub steps_of : Walk → ℕ
+steps_of walk = (walk.upto - walk.from) * walk.spread
+
+-- a walk comes to so many elements; where there is none, so many are no fewer than the bound
+abbrev pub IsReaching : ℕ → ℕ → Option Walk → Type 0
+IsReaching bound count None = bound ≤ count
+IsReaching bound count (Some walk) = steps_of walk ≡ count
+
+-- a walk comes to at most so many elements; where there is none, the bound is no more
+abbrev pub IsBounded : ℕ → ℕ → Option Walk → Type 0
+IsBounded bound count None = bound ≤ count
+IsBounded bound count (Some walk) = steps_of walk ≤ count
+
+-- the references of which one may lead
+abbrev pub Leading : Type 0 → Type 1
+Leading F = ℕ → tree.Indices F → Type 0
+
+-- What is known of how short the walk of a condition is, whose leading references are these: its bound is at most this one, the walk
+-- comes to no more elements, and no leading reference comes to fewer.
+pub record IsShort {F : Type 0} (state : State) (binding : Pairs) (sets : List ℕ) (bound : ℕ) (leading : Leading F) (scan : Scan) : Type 0 where
+  pub below : scan.bound ≤ bound
+  pub comes : IsBounded bound scan.bound scan.walk
+  pub fewest : (name : ℕ) (indices : tree.Indices F) → leading name indices → scan.bound ≤ reach state binding sets name indices
+
+-- the indices of a reference, as a tree has them
+abbrev pub indices_tree : {F : Type 0} → List (Index F) → tree.Indices F
+indices_tree indices = indices_of (map index_tree indices)
+
+-- conditions, as the parts of a tree
+abbrev pub parts_tree : {F : Type 0} → List (Expr F) → tree.Parts F
+parts_tree conditions = parts_of (map (λ condition. (tree.plain, tree_of condition)) conditions)
+
+-- the reference that may lead, where the condition is one without a suffix
+abbrev pub IsBareReference : {F : Type 0} → ℕ → tree.Indices F → Leading F
+IsBareReference other those name indices =
+    (without_lags those ≡ true) × (index_count those ≤ 10) × (other ≡ name) × (those ≡ indices)
+
+-- the walk of the second of two conditions, or else that of the first
+abbrev pub later_walk : Option Walk → Option Walk → Option Walk
+later_walk first None = first
+later_walk first (Some walk) = Some walk
 
 -- ---- references
 

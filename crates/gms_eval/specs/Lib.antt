@@ -10,3 +10,4 @@ pub mod Value
 pub mod InnerLeading
 pub mod InnerSteps
 pub mod InnerWalks
+pub mod Leaders

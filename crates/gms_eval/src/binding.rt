@@ -10,9 +10,15 @@ use std::marker::Model;
 /// In `loop(i, s = sum(j, p(i,j)))` the entry `p(i,j)` is taken under a binding of `i` and of `j`, each to a label. Sets are
 /// named by the numbers of their names, so a set and an alias of it may stand for two labels. GAMS User's Guide, "Data
 /// Manipulations with Parameters".
-#[derive(Drop)]
 pub struct Binding {
     pairs: Vec<(u32, u32)>,
+}
+
+// Written out, so that it is proved here alone, and not in each crate that lets one go.
+impl Drop for Binding {
+    fn drop(self) {
+        let Self { pairs: _ } = self;
+    }
 }
 
 impl Model for Binding {

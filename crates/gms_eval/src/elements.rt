@@ -1,6 +1,6 @@
 //! The elements of the product of sets, by their numbers.
 ghost use Rattle.std.specs.Prelude.{◌≡◌, ◌<◌, [], min, length, slice_index_or, IfOk, OnOk};
-ghost use Rattle.gms_eval.specs.Domain.{elements, sized};
+ghost use Rattle.gms_eval.specs.Domain.{most_counted, elements, sized};
 ghost use Rattle.gms_eval.specs.Gives.{Gives};
 ghost use Rattle.gms_eval.specs.InnerWalks.{those_of, IsCounted, with_element};
 
@@ -18,7 +18,7 @@ pub(crate) const MOST_ELEMENTS: u64 = 16_777_216;
 
 /// How many elements the product of sets has, or the greatest number of a `u64` where they pass it.
 pub(crate) fn count<F: ExactField>(store: &Store<F>, sets: &[u32]) -> u64
-    ensures { result ≡ min (length (elements store.now sets.now)) 18446744073709551615 }
+    ensures { result ≡ min (length (elements store.now sets.now)) most_counted }
 {
     if sets.len() > MOST_LABELS {
         return 0;
@@ -31,6 +31,7 @@ pub(crate) fn count<F: ExactField>(store: &Store<F>, sets: &[u32]) -> u64
 }
 
 /// How many elements the product of sets has. `DomainSize` exactly where they are more than 16,777,216.
+#[inline(never)]
 pub(crate) fn size<F: ExactField>(
     alloc: Global,
     store: &Store<F>,
@@ -90,6 +91,7 @@ pub(crate) fn all<F: ExactField>(
 }
 
 /// Adds an element at the end of others, where it is one of them.
+#[inline(never)]
 pub(crate) fn keep(those: &mut Vec<Tuple>, element: Tuple, holds: bool) -> Result<(), AllocError>
     ensures { OnOk result (those.new.items ≡ with_element those.old.items element holds) }
 {

@@ -133,6 +133,7 @@ pub fn signed_chain<F: ExactField>(
 
 /// The value of a power.
 #[cycle(value)]
+#[inline(never)]
 fn powers<F: ExactField>(
     alloc: Global,
     store: &Store<F>,
@@ -152,6 +153,7 @@ fn powers<F: ExactField>(
 
 /// The value of relations, 1 or 0.
 #[cycle(value)]
+#[inline(never)]
 fn relations<F: ExactField>(
     alloc: Global,
     store: &Store<F>,
@@ -237,6 +239,7 @@ pub fn all_hold<F: ExactField>(
 
 /// The values of arguments, in order.
 #[cycle(value)]
+#[inline(never)]
 fn arguments<F: ExactField>(
     alloc: Global,
     store: &Store<F>,
@@ -255,6 +258,7 @@ fn arguments<F: ExactField>(
 
 /// The tuple of indices, where each has a label and they are at most 10.
 #[cycle(value)]
+#[inline(never)]
 pub fn tuple_of<F: ExactField>(
     alloc: Global,
     store: &Store<F>,
@@ -296,6 +300,7 @@ fn label_of<F: ExactField>(
 
 /// The elements of a control, in order.
 #[cycle(value)]
+#[inline(never)]
 fn elements_of<F: ExactField>(
     alloc: Global,
     store: &Store<F>,
@@ -321,6 +326,7 @@ fn elements_of<F: ExactField>(
 
 /// Those of some elements for which a condition holds, in order.
 #[cycle(value)]
+#[inline(never)]
 fn chosen<F: ExactField>(
     alloc: Global,
     store: &Store<F>,

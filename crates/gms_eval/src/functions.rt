@@ -18,6 +18,7 @@ use std::alloc::Global;
 ///
 /// With another number of arguments than the function takes the value is 0, as that of a function that the language
 /// leaves out.
+#[inline(never)]
 pub(crate) fn called<F: ExactField>(
     alloc: Global,
     at: Place,

@@ -44,6 +44,7 @@ fn place_in(alloc: Global, members: &TupleSet, label: u32) -> Result<Option<usiz
 }
 
 /// The place of a set's label in the set, from 1; 0 where the set stands for none, or for one that it does not have.
+#[inline(never)]
 pub(crate) fn place_in_set<F: ExactField>(
     alloc: Global,
     store: &Store<F>,
@@ -142,6 +143,7 @@ fn lagged(
 
 /// The label that a lag of this amount reaches from the label of its set. `LagNotWhole` exactly where the amount is no
 /// whole number.
+#[inline(never)]
 pub(crate) fn reached<F: ExactField>(
     alloc: Global,
     store: &Store<F>,
@@ -163,6 +165,7 @@ pub(crate) fn reached<F: ExactField>(
 }
 
 /// A tuple with one more label, while both are there and the tuple has room.
+#[inline(never)]
 pub(crate) fn with_label(
     alloc: Global,
     tuple: Option<Tuple>,

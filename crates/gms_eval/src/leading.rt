@@ -1,13 +1,16 @@
 //! The factor of a condition that leads a walk: a reference whose stored tuples are all at which the condition may hold.
-ghost use Rattle.std.specs.Prelude.{◌≡◌, ◌<◌, ◌≤◌, ℕ, Bool, ◌++◌, List, length, slice_index_or, true, None, Some, Ok, IfOk, IfSome, IsOk, IsTrue};
-ghost use Rattle.gms_ast.specs.TreeView.{tree_of};
-ghost use Rattle.gms_store.specs.State.{State};
+ghost use Rattle.std.specs.Prelude.{◌≡◌, ◌<◌, ◌≤◌, ◌-◌, ◌*◌, ◌&&◌, ◌||◌, ℕ, Bool, ◌++◌, [], List, length, take, slice_index_or, is_some, true, None, Some, Ok, IfOk, IfSome, IsOk, IsTrue};
+ghost use Rattle.std.specs.List.{All};
+ghost use Rattle.gms_ast.specs.Trees.{Indices};
+ghost use Rattle.gms_ast.specs.TreeView.{tree_of, index_tree};
+ghost use Rattle.gms_store.specs.State.{State, symbol_of};
 ghost use Rattle.gms_tuple.specs.TupleOrder.{begins_with};
 ghost use Rattle.gms_tuple.specs.TupleSet.{has};
 ghost use Rattle.gms_eval.specs.Bindings.{Pairs, label_of, controlled};
-ghost use Rattle.gms_eval.specs.Domain.{elements, those_where};
+ghost use Rattle.gms_eval.specs.Domain.{most_elements, elements, those_where};
 ghost use Rattle.gms_eval.specs.Holds.{holds};
-ghost use Rattle.gms_eval.specs.InnerLeading.{Condition, both, Leads, IsScan, spread_over, label_answers, tuple_answer, entry_holds, expression_holds, all_hold_in_turn, guards_hold};
+ghost use Rattle.gms_eval.specs.InnerLeading.{Condition, both, Leads, IsScan, IsReaching, IsShort, IsBareReference, later_walk, indices_tree, parts_tree, spread_over, label_answers, tuple_answer, entry_holds, expression_holds, all_hold_in_turn, guards_hold};
+ghost use Rattle.gms_eval.specs.Leaders.{before_others, without_lags, never_fails, none_fails, MayLead, OneMayLead, LastMayLead, front_of, is_index, is_told, free_behind, reach};
 ghost use Rattle.gms_eval.specs.InnerWalks.{those_of, IsCounted};
 ghost use Rattle.gms_eval.specs.Value.{label_answer};
 
@@ -22,8 +25,9 @@ use std::alloc::{AllocError, Global};
 
 /// The label of an index whose set stands for one outside, or that is a label itself.
 fn constant<F: ExactField>(index: &Index<F>, b: &Binding) -> Option<u32>
-    ensures { IfSome result (λ label. (state : State) (more : Pairs) →
+    ensures label { IfSome result (λ label. (state : State) (more : Pairs) →
         label_answer F.value F.limit state (b.now ++ more) index.now ≡ Ok (Some label)) }
+    ensures front { (rest : Indices F) → front_of b.now (index_tree index.now rest) ≡ before_others result (front_of b.now rest) }
 {
     match index {
         Index::Label(label) => Some(*label),
@@ -40,8 +44,9 @@ fn prefix<F: ExactField>(
     indices: &[Index<F>],
     b: &Binding,
 ) -> Result<Tuple, AllocError>
-    ensures { IfOk result (λ prefix. (state : State) (more : Pairs) (tuple : List ℕ) →
+    ensures begins { IfOk result (λ prefix. (state : State) (more : Pairs) (tuple : List ℕ) →
         tuple_answer F.value F.limit state indices.now (b.now ++ more) ≡ Ok (Some tuple) → begins_with tuple prefix ≡ true) }
+    ensures front { IfOk result (λ prefix. length indices.now ≤ 10 → prefix ≡ front_of b.now (indices_tree indices.now)) }
 {
     let mut prefix = Tuple::new(alloc);
     for index in indices {
@@ -58,8 +63,9 @@ fn prefix<F: ExactField>(
 
 /// Whether an index is this set, without a lag.
 fn is_set<F: ExactField>(index: &Index<F>, set: u32) -> bool
-    ensures { IsTrue result → (state : State) (binding : Pairs) →
+    ensures label { IsTrue result → (state : State) (binding : Pairs) →
         label_answer F.value F.limit state binding index.now ≡ Ok (label_of binding set) }
+    ensures index { (rest : Indices F) → is_index set (index_tree index.now rest) ≡ (result || is_index set rest) }
 {
     match index {
         Index::Label(_) => false,
@@ -72,6 +78,7 @@ fn place_of<F: ExactField>(indices: &[Index<F>], set: u32) -> Option<usize>
     ensures within { IfSome result (λ place. place < length indices.now) }
     ensures label { IfSome result (λ place. (state : State) (binding : Pairs) →
         slice_index_or (label_answers F.value F.limit state indices.now binding) place (Ok None) ≡ Ok (label_of binding set)) }
+    ensures index { is_some result ≡ is_index set (indices_tree indices.now) }
 {
     for place in 0..indices.len() {
         if is_set(&indices[place], set) {
@@ -94,6 +101,8 @@ fn place_at<F: ExactField>(
     ensures label { IfSome result (λ place. (state : State) (element tuple : List ℕ) → length element ≡ length sets.now →
         tuple_answer F.value F.limit state indices.now (controlled b.now sets.now element) ≡ Ok (Some tuple) →
         slice_index_or tuple place 0 ≡ slice_index_or element position 0) }
+    ensures told { is_some result ≡
+        is_told b.now (indices_tree indices.now) (take position sets.now) (slice_index_or sets.now position 0) }
 {
     let set = sets[position];
     if b.label(set).is_some() || sets[..position].contains(&set) {
@@ -125,6 +134,7 @@ fn covered<F: ExactField>(
     ensures spreads { IfOk result (λ cover. (state : State) (element tuple : List ℕ) → has (elements state sets.now) element ≡ true →
         tuple_answer F.value F.limit state indices.now (controlled b.now sets.now element) ≡ Ok (Some tuple) →
         has (spread_over state cover.free.items cover.places.items tuple) element ≡ true) }
+    ensures free { IfOk result (λ cover. cover.free.items ≡ free_behind b.now (indices_tree indices.now) [] sets.now) }
 {
     let mut places = Vec::new(alloc);
     let mut free = Vec::new(alloc);
@@ -141,8 +151,9 @@ fn covered<F: ExactField>(
 
 /// Whether an index has no lag.
 fn is_plain<F: ExactField>(index: &Index<F>) -> bool
-    ensures { IsTrue result → (state : State) (binding : Pairs) →
+    ensures safe { IsTrue result → (state : State) (binding : Pairs) →
         IsOk (label_answer F.value F.limit state binding index.now) }
+    ensures lags { (rest : Indices F) → without_lags (index_tree index.now rest) ≡ (result && without_lags rest) }
 {
     match index {
         Index::Label(_) => true,
@@ -152,8 +163,9 @@ fn is_plain<F: ExactField>(index: &Index<F>) -> bool
 
 /// Whether no index has a lag.
 fn are_plain<F: ExactField>(indices: &[Index<F>]) -> bool
-    ensures { IsTrue result → (state : State) (binding : Pairs) →
+    ensures safe { IsTrue result → (state : State) (binding : Pairs) →
         IsOk (tuple_answer F.value F.limit state indices.now binding) }
+    ensures lags { result ≡ without_lags (indices_tree indices.now) }
 {
     for index in indices {
         if !is_plain(index) {
@@ -174,8 +186,12 @@ fn walk_by<F: ExactField>(
     b: &Binding,
 ) -> Result<Option<Walk>, AllocError>
     requires { (binding : Pairs) → IsOk (tuple_answer F.value F.limit store.now indices.now binding) }
-    ensures { IfOk result (λ walk. IfSome walk (λ walk.
+    ensures leads { IfOk result (λ walk. IfSome walk (λ walk.
         Leads store.now b.now sets.now (entry_holds F.value F.limit store.now name indices.now) walk)) }
+    ensures reach { IfOk result (λ walk. bound ≤ length (elements store.now sets.now) →
+        length (elements store.now sets.now) ≤ most_elements → length indices.now ≤ 10 →
+        IsReaching bound (reach store.now b.now sets.now name (indices_tree indices.now)) walk) }
+    ensures shorter { IfOk result (λ walk. IfSome walk (λ walk. (walk.upto - walk.from) * walk.spread < bound)) }
 {
     if indices.len() > MOST_LABELS || sets.len() > MOST_LABELS {
         return Ok(None);
@@ -214,9 +230,12 @@ pub(crate) struct Scan {
 impl Scan {
     /// What is known of two conditions of which the second is taken where the first holds and never has a fault.
     fn and(self, second: Scan) -> Scan
-        ensures { IsTrue self.safe → (state : State) (binding : Pairs) (sets : List ℕ) (one other : Condition) →
+        ensures known { IsTrue self.safe → (state : State) (binding : Pairs) (sets : List ℕ) (one other : Condition) →
             IsScan state binding sets one self → IsScan state binding sets other second →
             IsScan state binding sets (λ b. both (one b) (other b)) result }
+        ensures safe { result.safe ≡ second.safe }
+        ensures bound { result.bound ≡ second.bound }
+        ensures walk { result.walk ≡ later_walk self.walk second.walk }
     {
         let Scan { safe, bound, walk } = second;
         match walk {
@@ -244,8 +263,12 @@ fn scan_reference<F: ExactField>(
     indices: &[Index<F>],
     b: &Binding,
 ) -> Result<Scan, AllocError>
-    ensures { IfOk result (λ scan.
+    ensures known { IfOk result (λ scan.
         IsScan store.now b.now sets.now (entry_holds F.value F.limit store.now name indices.now) scan) }
+    ensures safe { IfOk result (λ scan. scan.safe ≡ without_lags (indices_tree indices.now)) }
+    ensures short { IfOk result (λ scan. bound ≤ length (elements store.now sets.now) →
+        length (elements store.now sets.now) ≤ most_elements →
+        IsShort store.now b.now sets.now bound (IsBareReference name (indices_tree indices.now)) scan) }
 {
     if !are_plain(indices) {
         return Ok(Scan {
@@ -278,8 +301,12 @@ fn scan_condition<F: ExactField>(
     condition: &Expr<F>,
     b: &Binding,
 ) -> Result<Scan, AllocError>
-    ensures { IfOk result (λ scan.
+    ensures known { IfOk result (λ scan.
         IsScan store.now b.now sets.now (expression_holds F.value F.limit store.now condition.now) scan) }
+    ensures safe { IfOk result (λ scan. scan.safe ≡ never_fails (tree_of condition.now)) }
+    ensures short { IfOk result (λ scan. bound ≤ length (elements store.now sets.now) →
+        length (elements store.now sets.now) ≤ most_elements →
+        IsShort store.now b.now sets.now bound (λ name indices. MayLead name indices (tree_of condition.now)) scan) }
 {
     match condition {
         Expr::Number(_) => Ok(Scan {
@@ -327,8 +354,12 @@ fn scan_parts<F: ExactField>(
     parts: &[Expr<F>],
     b: &Binding,
 ) -> Result<Scan, AllocError>
-    ensures { IfOk result (λ scan.
+    ensures known { IfOk result (λ scan.
         IsScan store.now b.now sets.now (all_hold_in_turn F.value F.limit store.now parts.now) scan) }
+    ensures safe { IfOk result (λ scan. scan.safe ≡ none_fails (parts_tree parts.now)) }
+    ensures short { IfOk result (λ scan. bound ≤ length (elements store.now sets.now) →
+        length (elements store.now sets.now) ≤ most_elements →
+        IsShort store.now b.now sets.now bound (λ name indices. OneMayLead name indices (parts_tree parts.now)) scan) }
 {
     let mut known = Scan {
         safe: true,
@@ -355,8 +386,12 @@ fn scan_guards<F: ExactField>(
     guards: &[Expr<F>],
     b: &Binding,
 ) -> Result<Scan, AllocError>
-    ensures { IfOk result (λ scan.
+    ensures known { IfOk result (λ scan.
         IsScan store.now b.now sets.now (guards_hold F.value F.limit store.now guards.now) scan) }
+    ensures safe { IfOk result (λ scan. scan.safe ≡ none_fails (parts_tree guards.now)) }
+    ensures short { IfOk result (λ scan. bound ≤ length (elements store.now sets.now) →
+        length (elements store.now sets.now) ≤ most_elements →
+        IsShort store.now b.now sets.now bound (λ name indices. LastMayLead name indices (parts_tree guards.now)) scan) }
 {
     let mut first = Scan {
         safe: true,
@@ -375,6 +410,7 @@ fn scan_guards<F: ExactField>(
 
 /// The elements at which a condition is to be tested, for those of the product of sets at which it holds: all of the
 /// product, which are `size`, or those to which a walk comes that leads.
+#[inline(never)]
 pub(crate) fn candidates<F: ExactField>(
     alloc: Global,
     store: &Store<F>,
@@ -388,6 +424,11 @@ pub(crate) fn candidates<F: ExactField>(
         those_where (λ element. holds F.value F.limit store.now (controlled b.now sets.now element) (tree_of condition.now)) (those_of store.now sets.now among)
         ≡ those_where (λ element. holds F.value F.limit store.now (controlled b.now sets.now element) (tree_of condition.now)) (elements store.now sets.now)) }
     ensures counted { IfOk result (IsCounted store.now sets.now) }
+    // Where references lead, a walk by the one that comes to the fewest elements comes to no fewer.
+    ensures fewest { IfOk result (λ among. size ≤ most_elements →
+        All (λ set. length (symbol_of store.now set).domain ≡ 1) sets.now → (name : ℕ) (indices : Indices F) →
+        MayLead name indices (tree_of condition.now) →
+        length (those_of store.now sets.now among) ≤ reach store.now b.now sets.now name indices) }
 {
     if !are_simple(store, sets) {
         return Ok(Elements::Every(size));

@@ -72,6 +72,7 @@ fn entry_at<F: ExactField>(
 }
 
 /// What a reference reads where its indices have a tuple; where they have none its value is 0.
+#[inline(never)]
 pub(crate) fn entry_of<F: ExactField>(
     alloc: Global,
     store: &Store<F>,

@@ -87,6 +87,7 @@ fn signed_outcome<F: ExactField>(
 }
 
 /// The value so far joined with the next part of a sum or a product; the first part makes it.
+#[inline(never)]
 pub(crate) fn signed_part<F: ExactField>(
     alloc: Global,
     chain: Signed,
@@ -106,6 +107,7 @@ pub(crate) fn signed_part<F: ExactField>(
 }
 
 /// The value so far raised to the next part of a power; the first part makes it.
+#[inline(never)]
 pub(crate) fn power_part<F: ExactField>(
     alloc: Global,
     at: Place,
@@ -123,6 +125,7 @@ pub(crate) fn power_part<F: ExactField>(
 }
 
 /// 1 or 0, as a relation holds between the value so far and the next part; the first part makes it.
+#[inline(never)]
 pub(crate) fn related_part<F: ExactField>(op: RelOp, so_far: Option<Ext<F>>, y: Ext<F>) -> Ext<F>
     ensures { after relation_step (related op) (option_map (extended F.value) so_far) (extended F.value y) ≡ Ok (extended F.value result) }
 {
@@ -143,6 +146,7 @@ pub(crate) fn is_left_by_and<F: ExactField>(so_far: Option<Ext<F>>) -> bool
 }
 
 /// 1 or 0, as what stands before it and the next part both hold; the first part makes it.
+#[inline(never)]
 pub(crate) fn all_part<F: ExactField>(so_far: Option<Ext<F>>, y: Ext<F>) -> Ext<F>
     ensures { after all_step plain (option_map (extended F.value) so_far) (extended F.value y) ≡ Ok (extended F.value result) }
 {
@@ -163,6 +167,7 @@ pub(crate) fn is_left_by_or<F: ExactField>(exclusive: bool, so_far: Option<Ext<F
 }
 
 /// 1 or 0, as what stands before it or the next part holds, with `xor` only one of them; the first part makes it.
+#[inline(never)]
 pub(crate) fn one_part<F: ExactField>(exclusive: bool, so_far: Option<Ext<F>>, y: Ext<F>) -> Ext<F>
     ensures { after one_step (chosen exclusive) (option_map (extended F.value) so_far) (extended F.value y) ≡ Ok (extended F.value result) }
 {
@@ -184,6 +189,7 @@ fn one_of_two<F: ExactField>(exclusive: bool, x: bool, y: bool) -> Ext<F>
 }
 
 /// A count, where it fits.
+#[inline(never)]
 pub(crate) fn counted<F: ExactField>(
     alloc: Global,
     at: Place,
@@ -211,6 +217,7 @@ pub(crate) fn start<F: ExactField>(op: FoldOp) -> Option<Ext<F>>
 }
 
 /// The value so far joined with that of the next body of a fold; the first makes it where there is none.
+#[inline(never)]
 pub(crate) fn fold_part<F: ExactField>(
     alloc: Global,
     op: FoldOp,

@@ -105,7 +105,6 @@ impl StopKind {
 }
 
 /// A stop: its kind and its place, and what is known of the step there.
-#[derive(Drop)]
 pub struct ExecStop<F> {
     /// Why the execution stops.
     pub kind: StopKind,
@@ -120,6 +119,20 @@ pub struct ExecStop<F> {
     /// How many elements, rows or columns there are too many of, or the greatest number of a `u64` where they pass it; 0
     /// for the other kinds.
     pub count: u64,
+}
+
+// Written out, so that it is proved here alone, and not in each crate that lets one go.
+impl<F: Drop> Drop for ExecStop<F> {
+    fn drop(self) {
+        let Self {
+            kind: _,
+            at: _,
+            binding: _,
+            left: _,
+            right: _,
+            count: _,
+        } = self;
+    }
 }
 
 /// A stop, or want of memory.
@@ -149,6 +162,7 @@ impl<F, T: Drop> From<AllocFailed<T>> for StopOrMemory<F> {
 
 impl<F: ExactField> StopOrMemory<F> {
     /// The stop of a step.
+    #[inline(never)]
     pub fn at_step(
         alloc: Global,
         kind: StopKind,

@@ -1,8 +1,8 @@
 //! Walks over the stored tuples of a name, in place of the whole product of sets.
-ghost use Rattle.std.specs.Prelude.{◌≡◌, ◌≤◌, ℕ, ◌∷◌, [], ◌++◌, ◌&&◌, ◌||◌, List, length, slice_index, All, IfOk, IsTrue};
+ghost use Rattle.std.specs.Prelude.{◌≡◌, ◌≤◌, ℕ, ◌∷◌, [], ◌++◌, ◌&&◌, ◌||◌, List, length, slice_index, All, IfOk, IsTrue, IsFalse};
 ghost use Rattle.gms_tuple.specs.TupleOrder.{IsOrdered};
 ghost use Rattle.gms_tuple.specs.TupleSet.{has};
-ghost use Rattle.gms_store.specs.State.{given_of};
+ghost use Rattle.gms_store.specs.State.{given_of, symbol_of};
 ghost use Rattle.gms_eval.specs.Domain.{elements};
 ghost use Rattle.gms_eval.specs.InnerLeading.{IsSimple, picked, spread_over, walked};
 
@@ -69,7 +69,8 @@ fn picked(alloc: Global, tuple: &Tuple, rest: &Tuple, places: &[usize]) -> Resul
 
 /// Whether a set has one dimension.
 fn is_simple<F: ExactField>(store: &Store<F>, set: u32) -> bool
-    ensures { IsTrue result → IsSimple store.now set }
+    ensures simple { IsTrue result → IsSimple store.now set }
+    ensures other { IsFalse result → length (symbol_of store.now set).domain ≡ 1 → ⊥ }
 {
     let _members = store.members(set);
     let _given = store.given(set);
@@ -78,7 +79,8 @@ fn is_simple<F: ExactField>(store: &Store<F>, set: u32) -> bool
 
 /// Whether each set has one dimension.
 pub(crate) fn are_simple<F: ExactField>(store: &Store<F>, sets: &[u32]) -> bool
-    ensures { IsTrue result → All (IsSimple store.now) sets.now }
+    ensures simple { IsTrue result → All (IsSimple store.now) sets.now }
+    ensures other { IsFalse result → All (λ set. length (symbol_of store.now set).domain ≡ 1) sets.now → ⊥ }
 {
     for set in sets {
         if !is_simple(store, *set) {

@@ -1,2 +1,3 @@
 pub mod EventView
 pub mod Events
+pub mod Endings

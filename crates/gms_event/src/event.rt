@@ -49,7 +49,6 @@ pub enum Event<F> {
 }
 
 /// What a `display` or an `abort` shows for one of its items: a text, or the values of a symbol.
-#[derive(Drop)]
 pub struct Shown<F> {
     /// The text. For a symbol it is empty.
     pub text: Sequence<u8>,
@@ -65,4 +64,19 @@ pub struct Shown<F> {
     pub entries: Sequence<(Tuple, Ext<F>)>,
     /// With how many decimals numbers are shown.
     pub decimals: u8,
+}
+
+// Written out, so that it is proved here alone, and not in each crate that lets one go.
+impl<F: Drop> Drop for Shown<F> {
+    fn drop(self) {
+        let Self {
+            text: _,
+            name: _,
+            kind: _,
+            suffix: _,
+            indexed: _,
+            entries: _,
+            decimals: _,
+        } = self;
+    }
 }

@@ -12,17 +12,17 @@ pub mod Putting
 mod ActSteps
 mod Acts
 mod Arms
-mod Assigned
+pub mod Assigned
 mod Chosen
 mod Folding
 mod Joining
 mod Keeping
-mod KeptSettings
-mod Levels
+pub mod KeptSettings
+pub mod Levels
 mod OneSolver
-mod Newest
-mod Staying
-mod Symbols
+pub mod Newest
+pub mod Staying
+pub mod Symbols
 pub mod Behind
 pub mod Quiet
 pub mod Standing
@@ -32,4 +32,4 @@ mod Standings
 mod Stepping
 mod Loops
 mod AfterSolve
-mod Once
+pub mod Once

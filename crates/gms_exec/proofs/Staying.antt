@@ -1,17 +1,19 @@
--- States that differ in contents alone: names stand for the same ones, over the same domains, and sets of one dimension have members of one
--- label.
-use Rattle.std.proofs.Common.{◌≡◌, ℕ, Bool, true, false, ◌||◌, ◌==◌, List, [], ◌∷◌, length, refl, sym, ap, subst, ◌∙◌, cond, Option, Some, None, unwrap_or, is_some, inl, inr}
+-- States that differ in contents alone: names stand for the same ones, over the same domains, sets of one dimension have members of one label,
+-- and members stay in order.
+use Rattle.std.proofs.Common.{◌≡◌, ℕ, Bool, true, false, not, ◌||◌, ◌==◌, List, [], ◌∷◌, ◌++◌, map, filter, reverse, length, refl, sym, ap, subst, ◌∙◌, cond, Option, Some, None, unwrap_or, is_some, inl, inr}
 use Rattle.std.specs.List.{All, fold}
+use Rattle.std.specs.FinMap as finite
 use Rattle.std.proofs.lemmas.Bool.{eqb-true}
 use Rattle.std.proofs.lemmas.List.Elements.{All-nil, All-cons, All-head, All-tail}
 use Rattle.gms_ast.specs.declared.expression.Suffix.{Suffix}
-use Rattle.gms_tuple.specs.TupleOrder.{same_tuple}
+use Rattle.gms_tuple.specs.TupleOrder.{tuple_cmp, same_tuple, IsOrdered}
 use Rattle.gms_tuple.specs.TupleSet.{has}
 use Rattle.gms_tuple.proofs.Ordered.{same_tuple-Decides, same_tuple_refl}
 use Rattle.gms_store.specs.State.{State, Attributes, Content, undeclared, alias_of, set_of, parameter_of, variable_of, equation_of, model_with, Symbol, symbol_at, behind, base_of, symbol_of, members_in, with_symbol, with_content, if_fits, with_attributes, with_statuses, after_attributes, after_statuses}
 use Rattle.lp_core.specs.declared.program.Lp.{Lp}
 use Rattle.lp_core.specs.declared.answer.End.{End}
 use Rattle.gq_number.specs.Number.{Number}
+use Rattle.gms_store.proofs.Views.{keys-ordered}
 use Rattle.gms_exec.specs.Given.{member, value_is, AllGiven, members_given, is_among, with_members, with_given, fitting, after_given}
 use Rattle.gms_exec.specs.Reads.{last_at}
 use Rattle.gms_exec.specs.Solved.{Point, with_point, statuses_of, points_of, after_end}
@@ -29,13 +31,14 @@ pub record Follows (old new : Symbol) : Type 0 where
   pub domain : new.domain ≡ old.domain
   pub alike : (n : ℕ) → behind n new.content ≡ behind n old.content
   pub singles : length old.domain ≡ 1 → AreSingles (members_in old.content) → AreSingles (members_in new.content)
+  pub ordered : IsOrdered (members_in old.content) → IsOrdered (members_in new.content)
 
 -- each name of a state follows the one of another
 abbrev pub Stays : State → State → Type 0
 Stays old new = (n : ℕ) → Follows (symbol_at old n) (symbol_at new n)
 
 follows-itself : (s : Symbol) → Follows s s
-follows-itself s = record { domain = refl; alike = λ n. refl; singles = λ one are. are }
+follows-itself s = record { domain = refl; alike = λ n. refl; singles = λ one are. are; ordered = λ up. up }
 
 follows-both : (a b c : Symbol) → Follows a b → Follows b c → Follows a c
 follows-both a b c first second =
@@ -43,6 +46,7 @@ follows-both a b c first second =
       domain = second.domain ∙ first.domain;
       alike = λ n. second.alike n ∙ first.alike n;
       singles = λ one are. second.singles (ap length first.domain ∙ one) (first.singles one are);
+      ordered = λ up. second.ordered (first.ordered up);
     }
 
 pub stays-itself : (s : State) → Stays s s
@@ -65,7 +69,7 @@ follows-of old new stays name =
 
 -- ---- levels, marginals, statuses
 
-members-put : (content : Content) (t : List ℕ) (a : Attributes) → members_in (with_attributes content t a) ≡ members_in content
+pub members-put : (content : Content) (t : List ℕ) (a : Attributes) → members_in (with_attributes content t a) ≡ members_in content
 members-put undeclared t a = refl
 members-put (alias_of base) t a = refl
 members-put (set_of members) t a = refl
@@ -88,6 +92,7 @@ stays-put state name t a =
       domain = domain-fitted s t (with_attributes s.content t a);
       alike = λ n. behind-fitted s t a n;
       singles = λ one are. fits-either (λ c. AreSingles (members_in c)) s t (with_attributes s.content t a) are (subst AreSingles (sym (members-put s.content t a)) are);
+      ordered = λ up. fits-either (λ c. IsOrdered (members_in c)) s t (with_attributes s.content t a) up (subst IsOrdered (sym (members-put s.content t a)) up);
     })
 
 behind-statuses : (content : Content) (model solver n : ℕ) → behind n (with_statuses content model solver) ≡ behind n content
@@ -99,7 +104,7 @@ behind-statuses (variable_of type entries) model solver n = refl
 behind-statuses (equation_of entries) model solver n = refl
 behind-statuses (model_with m s) model solver n = refl
 
-members-statuses : (content : Content) (model solver : ℕ) → members_in (with_statuses content model solver) ≡ members_in content
+pub members-statuses : (content : Content) (model solver : ℕ) → members_in (with_statuses content model solver) ≡ members_in content
 members-statuses undeclared model solver = refl
 members-statuses (alias_of base) model solver = refl
 members-statuses (set_of members) model solver = refl
@@ -115,6 +120,7 @@ stays-statuses state name model solver =
       domain = refl;
       alike = λ n. behind-statuses s.content model solver n;
       singles = λ one are. subst AreSingles (sym (members-statuses s.content model solver)) are;
+      ordered = λ up. subst IsOrdered (sym (members-statuses s.content model solver)) up;
     })
 
 stays-points : (points : List Point) (state : State) → Stays state (fold with_point state points)
@@ -194,6 +200,21 @@ singles-given s kind all one (variable_of type entries) are = are
 singles-given s kind all one (equation_of entries) are = are
 singles-given s kind all one (model_with model solver) are = are
 
+-- members that are given are put in order
+pub members-ordered : (given : List (List ℕ × Bool)) (members : List (List ℕ)) → IsOrdered (with_members given members)
+members-ordered given members =
+    let last = finite.from_entries {R = tuple_cmp} (reverse given) in
+    keys-ordered (finite.from_entries {R = tuple_cmp} (map (λ t. (t, true)) (finite.keys (finite.retain_keys last (λ t. unwrap_or (finite.get last t) false)) ++ filter (λ t. not (is_among given t)) members)))
+
+ordered-given : (kind : Suffix) (all : AllGiven) (content : Content) → IsOrdered (members_in content) → IsOrdered (members_in (with_given kind all content))
+ordered-given kind all undeclared up = up
+ordered-given kind all (alias_of base) up = up
+ordered-given kind all (set_of members) up = members-ordered (members_given all) members
+ordered-given kind all (parameter_of entries) up = up
+ordered-given kind all (variable_of type entries) up = up
+ordered-given kind all (equation_of entries) up = up
+ordered-given kind all (model_with model solver) up = up
+
 -- the state after an assignment
 pub stays-given : (kind : Suffix) (name : ℕ) (all : AllGiven) (state : State) → Stays state (after_given kind name all state)
 stays-given kind name all state =
@@ -202,4 +223,5 @@ stays-given kind name all state =
       domain = refl;
       alike = λ n. behind-given kind (fitting s all) s.content n;
       singles = λ one are. singles-given s kind all one s.content are;
+      ordered = λ up. ordered-given kind (fitting s all) s.content up;
     })

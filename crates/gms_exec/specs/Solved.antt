@@ -4,6 +4,8 @@ use Rattle.std.specs.Prelude.{ℕ, pos, ◌==◌, if◌then◌else◌, List, [],
 use Rattle.std.specs.List.{fold}
 use Rattle.gq_number.specs.Number.{Number, whole}
 use Rattle.gms_store.specs.State.{State, attributes_of, after_attributes, after_statuses, with_level, with_marginal}
+use Rattle.gms_store.specs.Statuses.{model_number, solver_number}
+use Rattle.gms_event.specs.Endings.{solve_status}
 use Rattle.lp_core.specs.declared.program.Column.{Column}
 use Rattle.lp_core.specs.declared.program.Row.{Row}
 use Rattle.lp_core.specs.declared.program.Lp.{Lp}
@@ -11,17 +13,9 @@ use Rattle.lp_core.specs.declared.answer.End.{End}
 use Rattle.lp_core.specs.declared.answer.End.TheVariants.{Optimal, Infeasible, Unbounded, Interrupted, Refused}
 use Rattle.lp_form.specs.declared.key.Key.{Key}
 
--- the status of a model that was interrupted in a phase
-abbrev pub interrupted_status : ℕ → ℕ
-interrupted_status phase = if phase == 1 then 6 else 7
-
 -- the status of the model, and that of its solver, after an end
 abbrev pub statuses_of : {F : Type 0} → End F → ℕ × ℕ
-statuses_of (Optimal levels row_levels duals reduced) = (1, 1)
-statuses_of (Unbounded levels row_levels ray) = (3, 1)
-statuses_of (Infeasible duals crossed) = (4, 1)
-statuses_of (Interrupted phase levels row_levels) = (interrupted_status phase, 2)
-statuses_of (Refused name) = (13, 4)
+statuses_of end = (model_number (solve_status end), solver_number (solve_status end))
 
 -- the first of some numbers, 0 where there is none
 abbrev pub first_or_zero : List Number → Number

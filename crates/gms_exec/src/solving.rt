@@ -17,7 +17,7 @@ ghost use Rattle.gms_exec.specs.Stepping.{Runs, Answered, UnlessMemory};
 use crate::statement::stopped;
 use gms_ast::{Program, Sequence};
 use gms_eval::{Binding, StopKind, StopOrMemory};
-use gms_event::Event;
+use gms_event::{Event, solve_status};
 use gms_labels::Place;
 use gms_rows::{equations_of, generate};
 use gms_store::{Settings, Store};
@@ -46,14 +46,8 @@ pub(crate) struct Solve {
 fn statuses<F>(end: &End<F>) -> (u8, u8)
     ensures { result ≡ statuses_of end.now }
 {
-    match end {
-        End::Optimal { .. } => (1, 1),
-        End::Unbounded { .. } => (3, 1),
-        End::Infeasible { .. } => (4, 1),
-        End::Interrupted { phase: 1, .. } => (6, 2),
-        End::Interrupted { .. } => (7, 2),
-        End::Refused { .. } => (13, 4),
-    }
+    let status = solve_status(end);
+    (status.model_number(), status.solver_number())
 }
 
 /// Puts the level and the marginal of an element.

@@ -8,7 +8,7 @@ use Rattle.gms_ast.specs.declared.expression.Expr.TheFolds.{fold-roll-Control}
 use Rattle.gms_ast.specs.Trees.{Tree as Syntax, Indices, Control as Over, over, over_where}
 use Rattle.gms_ast.specs.TreeView.{tree_step, index_step, control_step, tree_of, control_tree}
 use Rattle.gms_grammar.specs.declared.terminal.Terminal.TheVariants.{Name, Suffix, LeftParen, Dollar}
-use Rattle.gms_grammar.specs.Grammar.{the, ◌∣◌, pair, right, none, some, node}
+use Rattle.gms_grammar.specs.Grammar.{the, ◌∣◌, right}
 use Rattle.gms_grammar.specs.Reading.{leads}
 use Rattle.gms_grammar.specs.Terminals.{is, is_among}
 use Rattle.gms_grammar.specs.GamsGrammar.{Control, Condition, NameList, productions, token, name, bracketed}
@@ -21,7 +21,7 @@ use Rattle.gms_ast.specs.Numbers.{control_in_numbers}
 use Rattle.gms_expressions.specs.Nodes.{view}
 use Rattle.gms_expressions.specs.Readings.{Seen, Derivation, GamsPart, Sense, IsGot, IsAnswer, IsMeant, AreSets, IsControl, seen_from}
 use Rattle.gms_expressions.proofs.TokenKinds.{also, leads_by_kind}
-use Rattle.gms_expressions.proofs.Steps.{gives_both, gives_the, gives_none, gives_some, gives_right, refuses_right}
+use Rattle.gms_expressions.proofs.Steps.{got_by, gives_both, gives_the, gives_none, gives_some, gives_right, refuses_right}
 use Rattle.gms_expressions.proofs.Nexts.{earlier}
 use Rattle.gms_expressions.proofs.Sums.{leads_condition}
 
@@ -36,12 +36,7 @@ no_name ts h = leads_by_kind name ts refl ∙ off (also (is LeftParen) (λ k. if
 -- what was read or refused as the second alternative
 pub right_answer : {T : Type 0} (limit : ℕ) {Means : Sense → Derivation → T → Type 0} (p q : GamsPart) (reader : Reader) (at : ℕ) (old new : Tables) (r : Result (T × ℕ) SyntaxFaultOrMemory) → leads productions look_ahead p (seen_from reader at) ≡ false →
     leads productions look_ahead q (seen_from reader at) ≡ true → IsAnswer limit Means q reader at old new r → (Says : Sense → Derivation → T → Type 0) → ((sense : Sense) (tree : Derivation) (x : T) → Means sense tree x → Says sense (right tree) x) → IsAnswer limit Says (p ∣ q) reader at old new r
-right_answer limit p q reader at old new (Ok b) k l got Says says = record {
-  tree = right got.tree;
-  gives = gives_right k l got.gives;
-  means = λ sense s. says sense got.tree b.0 (got.means sense s);
-  further = got.further;
-}
+right_answer limit p q reader at old new (Ok b) k l got Says says = got_by (gives_right k l got.gives) (λ sense s. says sense got.tree b.0 (got.means sense s)) got.further
 right_answer limit p q reader at old new (Err e) k l refuses Says says = refuses_right k l refuses
 
 -- the controls that the reader makes
@@ -55,19 +50,10 @@ module _ {F : Type 0} (value : F → Number) {limit : ℕ} {reader : Reader} {at
   -- sets without a condition
   pub control_alone : IsGot limit (AreSets reader.source.now) (name ∣ bracketed (the NameList)) reader at old middle sets next → leads productions look_ahead (token Dollar) (seen_from reader next) ≡ false → control_tree control ≡ over sets.items →
       IsGot limit (IsControl value reader.source.now) (the Control) reader at old middle control next
-  control_alone got unled is = record {
-    tree = node (pair got.tree none);
-    gives = gives_the Control (gives_both got.gives (gives_none (leads_condition (seen_from reader next) ∙ unled)));
-    means = λ sense s. ap (control_in_numbers value) is ∙ ap over (got.means sense s);
-    further = got.further;
-  }
+  control_alone got unled is = got_by (gives_the Control (gives_both got.gives (gives_none (leads_condition (seen_from reader next) ∙ unled)))) (λ sense s. ap (control_in_numbers value) is ∙ ap over (got.means sense s)) got.further
 
   -- sets with a condition
   pub control_got : {new : Tables} {behind : ℕ} {e : Expr F} → IsGot limit (AreSets reader.source.now) (name ∣ bracketed (the NameList)) reader at old middle sets next → leads productions look_ahead (token Dollar) (seen_from reader next) ≡ true →
       IsGot limit (IsMeant value reader.source.now condition_in_tree) (the Condition) reader next middle new e behind → control_in_numbers value (control_tree control) ≡ over_where sets.items (view value e) → IsGot limit (IsControl value reader.source.now) (the Control) reader at old new control behind
-  control_got got led cond is = record {
-    tree = node (pair got.tree (some cond.tree));
-    gives = gives_the Control (gives_both got.gives (gives_some (leads_condition (seen_from reader next) ∙ led) cond.gives));
-    means = λ sense s. is ∙ ap₂ over_where (got.means sense (earlier cond.gives s)) (cond.means sense s).is;
-    further = (let f = got.further in let g = cond.further in omega arith);
-  }
+  control_got got led cond is = got_by (gives_the Control (gives_both got.gives (gives_some (leads_condition (seen_from reader next) ∙ led) cond.gives)))
+      (λ sense s. is ∙ ap₂ over_where (got.means sense (earlier cond.gives s)) (cond.means sense s).is) (let f = got.further in let g = cond.further in omega arith)

@@ -12,31 +12,33 @@ use Rattle.gms_grammar.specs.Reading.{leads}
 use Rattle.gms_grammar.specs.GamsGrammar.{Nonterminal, productions}
 use Rattle.gms_grammar.specs.GamsLookAhead.{look_ahead}
 use Rattle.std.proofs.lemmas.Bool.{both_ways}
+use Rattle.gms_grammar.specs.Rules as rules
 use Rattle.gms_grammar.proofs.Sound.{sound}
 use Rattle.gms_grammar.proofs.Starts.{Starts, starts}
 use Rattle.gms_grammar.proofs.Decided.{gams_decided}
 use Rattle.gms_expressions.specs.declared.fault.SyntaxFaultOrMemory.{SyntaxFaultOrMemory}
+use Rattle.gms_expressions.specs.declared.fault.SyntaxFaultOrMemory.TheVariants.{Memory}
 use Rattle.gms_expressions.specs.declared.reader.Reader.{Reader}
 use Rattle.gms_expressions.specs.declared.reader.Tables.{Tables}
 use Rattle.gms_expressions.specs.ExpressionTrees.{or_alone, first_place, place_in}
-use Rattle.gms_expressions.specs.Outcomes.{Walk, next_place}
+use Rattle.gms_expressions.specs.Outcomes.{next_place}
 use Rattle.gms_expressions.specs.Nodes.{view}
 use Rattle.gms_expressions.specs.Readings.{Seen, Derivation, GamsPart, Meaning, Gives, Refuses, Sense, IsGot, IsMeant, IsNext, seen_from, walk_of}
 use Rattle.gms_expressions.proofs.TokenKinds.{is_plain, implies}
 use Rattle.gms_expressions.proofs.Steps.{Within, within_the, within_second, within_then, gives_both, refuses_second}
 use Rattle.gms_expressions.proofs.Nexts.{gives_next, leads_next, unled_next}
-use Rattle.gms_expressions.proofs.Loops.{Looping, loop_on, loop_got, loop_refuses}
+use Rattle.gms_expressions.proofs.Loops.{Looping, loop_on, loop_got, loop_refuses, loop_memory}
 
 -- where a tree begins is where the next token stood
-pub place_begun : (source : List ℕ) (p : GamsPart) {ts : List Seen} (rest : List Seen) (tree : Derivation) → may_be_empty look_ahead p ≡ false → IsTree productions p tree × (ts ≡ yield tree ++ rest) → place_in tree ≡ next_place source ts
+place_begun : (source : List ℕ) (p : GamsPart) {ts : List Seen} (rest : List Seen) (tree : Derivation) → may_be_empty look_ahead p ≡ false → IsTree productions p tree × (ts ≡ yield tree ++ rest) → place_in tree ≡ next_place source ts
 place_begun source p {ts = ts} rest tree some found = go (yield tree) (starts productions look_ahead gams_decided p tree found.0) found.1
   where
     go : (u : List Seen) → Starts productions look_ahead gams_decided p u → ts ≡ u ++ rest → first_place u ≡ next_place source ts
     go [] s e = cc
     go (t ∷ u) s e = sym (ap (next_place source) e)
 
-pub place_read : {limit : ℕ} {source : List ℕ} {p : GamsPart} {w v : Walk} {ts rest : List Seen} {tree : Derivation} → may_be_empty look_ahead p ≡ false → Gives limit source p w ts tree v rest → place_in tree ≡ next_place source ts
-place_read {source = source} {p = p} some g = place_begun source p _ _ some (sound productions look_ahead g.reads)
+pub place_read : {W E R : Type 0} {rule : ℕ × List ℕ → rules.Rule Token W E R} {limit : ℕ} {source : List ℕ} (p : GamsPart) {w v : W} {ts rest : List Seen} {tree : Derivation} → may_be_empty look_ahead p ≡ false → rules.Gives rule (limit, source) p w ts tree v rest → place_in tree ≡ next_place source ts
+place_read {source = source} p some g = place_begun source p _ _ some (sound productions look_ahead g.reads)
 
 -- parts before others
 abbrev pub parts_before : {N : Type 0} → List (Mark × Syntax N) → Parts N → Parts N
@@ -140,6 +142,12 @@ module _ {F : Type 0} {value : F → Number} {limit : ℕ} {whole : Meaning (Syn
 
 -- the part behind an operator is refused
 pub chain_refuses : {limit : ℕ} {whole : Meaning (Syntax Number)} {others : Meaning (Parts Number)} {make : Parts Number → Syntax Number} {reader : Reader} {start : ℕ} {old new : Tables} {at : ℕ} {P : GamsPart} {test : Terminal → Bool} {sub : GamsPart} {views : List (Mark × Syntax Number)} →
-    Chain limit P (one test · sub) whole others make views reader start old new at → {behind : ℕ} {token : Token} {e : SyntaxFaultOrMemory} (n : IsNext test reader at token behind) → implies test is_plain ≡ true →
-    Refuses limit reader.source.now sub (walk_of reader.unclosed new) (seen_from reader behind) e → Refuses limit reader.source.now P (walk_of reader.unclosed old) (seen_from reader start) e
+    Chain limit P (one test · sub) whole others make views reader start old new at → {behind : ℕ} {token : Token} {last : Tables} {e : SyntaxFaultOrMemory} (n : IsNext test reader at token behind) → implies test is_plain ≡ true →
+    Refuses limit reader.source.now sub last (walk_of reader.unclosed new) (seen_from reader behind) e → Refuses limit reader.source.now P last (walk_of reader.unclosed old) (seen_from reader start) e
 chain_refuses {new = new} {sub = sub} l n plain r = loop_refuses l.looping (leads_next sub n) (refuses_second (gives_next new n plain) r)
+
+-- memory was wanting behind another part
+pub chain_memory : {limit : ℕ} {whole : Meaning (Syntax Number)} {others : Meaning (Parts Number)} {make : Parts Number → Syntax Number} {reader : Reader} {start : ℕ} {old new : Tables} {at : ℕ} {P q : GamsPart} {views : List (Mark × Syntax Number)} →
+    Chain limit P q whole others make views reader start old new at → {p : GamsPart} {ts rest : List Seen} {tree : Derivation} {last : Tables} {e : SyntaxFaultOrMemory} → Gives limit reader.source.now p (walk_of reader.unclosed new) ts tree (walk_of reader.unclosed last) rest → e ≡ Memory →
+    Refuses limit reader.source.now P last (walk_of reader.unclosed old) (seen_from reader start) e
+chain_memory l g is = loop_memory l.looping g is

@@ -12,7 +12,6 @@ use Rattle.gms_ast.specs.Trees.{Tree, Indices, Control, number as number_node, p
 use Rattle.gms_ast.specs.TreeView.{tree_step, index_step, control_step, tree_of}
 use Rattle.gms_grammar.specs.declared.terminal.Terminal.{Terminal}
 use Rattle.gms_grammar.specs.declared.terminal.Terminal.TheVariants.{Number, Infinity, NotAvailable, YesNo}
-use Rattle.gms_grammar.specs.Grammar.{leaf}
 use Rattle.gms_grammar.specs.Terminals.{is_among}
 use Rattle.gms_grammar.specs.GamsGrammar.{any_of}
 use Rattle.gms_expressions.specs.declared.fault.SyntaxFaultOrMemory.{SyntaxFaultOrMemory}
@@ -23,7 +22,7 @@ use Rattle.gms_expressions.specs.ExpressionTrees.{constant_in, constant_of, is_w
 use Rattle.gms_expressions.specs.Readings.{Refuses, IsGot, IsNext, IsMeant, IsValue, IsOutOfRange, kind_of, seen_from, walk_of}
 use Rattle.gms_expressions.proofs.TokenKinds.{is_plain}
 use Rattle.gms_expressions.proofs.Walks.{plain_after, plain_sound}
-use Rattle.gms_expressions.proofs.Steps.{gives_one}
+use Rattle.gms_expressions.proofs.Steps.{got_by, gives_one}
 use Rattle.gms_expressions.proofs.Nexts.{kind_next}
 use Rattle.gms_expressions.proofs.Entering.{number_gives, number_refused}
 
@@ -67,12 +66,9 @@ module _ {reader : Reader} {at behind : ℕ} {token : Token} (tables : Tables) (
       IsGot limit (IsMeant value reader.source.now constant_in) (any_of constants) reader at tables tables e behind
   constant_got {limit = limit} other is plain e shows =
       let k : is_plain n.kind ≡ true = ap is_plain (there ∙ is) ∙ plain in
-      record {
-        tree = leaf (n.kind, token);
-        gives = gives_one n.is n.passes (plain_sound limit reader.source.now (walk_of reader.unclosed tables) n.kind token k) (sym (plain_after reader.source.now reader.unclosed tables n.kind token k));
-        means = λ sense s. record { is = shows (sense.value (token_text reader.source.now token)) ∙ ap (λ t. constant_of t (token_text reader.source.now token) (sense.value (token_text reader.source.now token))) (sym (there ∙ is)) };
-        further = (let g = n.further in omega arith);
-      }
+      got_by (gives_one n.is n.passes (plain_sound limit reader.source.now (walk_of reader.unclosed tables) n.kind token k) (sym (plain_after reader.source.now reader.unclosed tables n.kind token k)))
+      (λ sense s. record { is = shows (sense.value (token_text reader.source.now token)) ∙ ap (λ t. constant_of t (token_text reader.source.now token) (sense.value (token_text reader.source.now token))) (sym (there ∙ is)) })
+      (let g = n.further in omega arith)
 
   module _ (not_infinity : kind ≡ Infinity → ⊥) (not_na : kind ≡ NotAvailable → ⊥) (not_yes : kind ≡ YesNo → ⊥) where
     is_number : n.kind ≡ Number
@@ -84,13 +80,9 @@ module _ {reader : Reader} {at behind : ℕ} {token : Token} (tables : Tables) (
     -- a number among the constants
     pub constant_number : {limit : ℕ} {F : Type 0} {value : F → Rational} (v : F) → IsValue limit value (token_text reader.source.now token) v → (e : Expr F) → view value e ≡ number_node (value v) →
         IsGot limit (IsMeant value reader.source.now constant_in) (any_of constants) reader at tables tables e behind
-    constant_number {value = value} v within e is = record {
-      tree = leaf (Number, token);
-      gives = number_gives reader at behind tables (value v) number_there refl within.0 within.1;
-      means = λ sense s. record { is = is ∙ ap number_node (sym (s.value (token_text reader.source.now token) (value v) within.0)) };
-      further = (let g = n.further in omega arith);
-    }
+    constant_number {value = value} v within e is = got_by (number_gives reader at behind tables (value v) number_there refl within.0 within.1)
+        (λ sense s. record { is = is ∙ ap number_node (sym (s.value (token_text reader.source.now token) (value v) within.0)) }) (let g = n.further in omega arith)
 
     -- which is out of range
-    pub constant_refused : {limit : ℕ} {e : SyntaxFaultOrMemory} → IsOutOfRange limit reader.source.now token e → Refuses limit reader.source.now (any_of constants) (walk_of reader.unclosed tables) (seen_from reader at) e
+    pub constant_refused : {limit : ℕ} {e : SyntaxFaultOrMemory} → IsOutOfRange limit reader.source.now token e → Refuses limit reader.source.now (any_of constants) tables (walk_of reader.unclosed tables) (seen_from reader at) e
     constant_refused o = number_refused reader at behind tables number_there refl o

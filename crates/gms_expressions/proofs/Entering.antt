@@ -1,5 +1,5 @@
 -- Names and labels that are entered, and numbers.
-use Rattle.std.proofs.Common.{◌≡◌, ℕ, Bool, true, false, List, [], ◌∷◌, Some, refl, sym, ap, ◌∙◌, subst, arith, inl, inr}
+use Rattle.std.proofs.Common.{◌≡◌, ℕ, Bool, true, false, List, [], ◌∷◌, Some, refl, sym, ap, ◌∙◌, subst, arith}
 use Rattle.gq_number.specs.Number.{Number as Rational}
 use Rattle.gq_text.specs.Decimal.{MeansNumber}
 use Rattle.gq_text.specs.Literal.{FitsLiteral}
@@ -11,7 +11,7 @@ use Rattle.gms_grammar.specs.declared.terminal.Terminal.TheVariants.{Name, Suffi
 use Rattle.gms_grammar.specs.Grammar.{one, leaf}
 use Rattle.gms_grammar.specs.Terminals.{is, is_among}
 use Rattle.gms_grammar.specs.GamsGrammar.{name, token}
-use Rattle.gms_expressions.specs.declared.fault.SyntaxError.{SyntaxError}
+use Rattle.gms_expressions.specs.declared.fault.SyntaxFault.{SyntaxFault}
 use Rattle.gms_expressions.specs.declared.fault.SyntaxError.TheVariants.{TooManyLabels}
 use Rattle.gms_expressions.specs.declared.fault.SyntaxFaultOrMemory.{SyntaxFaultOrMemory}
 use Rattle.gms_expressions.specs.declared.fault.SyntaxFaultOrMemory.TheVariants.{Fault}
@@ -21,12 +21,13 @@ use Rattle.gms_ast.specs.declared.expression.Expr.{Expr}
 use Rattle.gms_ast.specs.Trees.{number as number_node}
 use Rattle.gms_expressions.specs.Nodes.{view}
 use Rattle.gms_expressions.specs.ExpressionTrees.{unquoted, or_0, number_in}
-use Rattle.gms_expressions.specs.Outcomes.{Walk, walk_after, is_name, IsFaulty}
-use Rattle.gms_expressions.specs.Readings.{Gives, Refuses, IsGot, IsName, IsLabel, IsNext, IsMeant, IsValue, IsOutOfRange, seen_from, walk_of}
+use Rattle.gms_expressions.specs.Outcomes.{Walk, walk_after, is_name, IsFaulty, deep, out_of_range, many_names, many_labels}
+use Rattle.gms_expressions.specs.Readings.{Gives, Went, Refuses, IsGot, IsName, IsLabel, IsNext, IsMeant, IsValue, IsOutOfRange, seen_from, walk_of}
 use Rattle.gms_labels.specs.declared.fault.LabelFault.{LabelFault}
 use Rattle.gms_labels.specs.declared.fault.LabelFault.TheVariants as label_fault
 use Rattle.gms_expressions.specs.Faults.{not_entered}
-use Rattle.gms_expressions.proofs.Steps.{gives_one, takes_next, refuses_token, refuses_memory}
+use Rattle.gms_expressions.proofs.Steps.{got_by, gives_one, takes_next, refuses_token, refuses_memory}
+use Rattle.gms_expressions.proofs.Going.{went_same, went_are}
 use Rattle.gms_expressions.proofs.Nexts.{exact}
 
 abbrev is_named : Terminal → Bool
@@ -43,11 +44,11 @@ name_after source unclosed old new Name token h e f = same_walk unclosed new _ _
 name_after source unclosed old new Suffix token h e f = same_walk unclosed new _ _ e f
 name_after source unclosed old new _ token h e f = cc
 
-name_sound : (limit : ℕ) (source : List ℕ) (w : Walk) (kind : Terminal) (token : Token) → is_named kind ≡ true → (IsFullFor w.names (token_text source token) → ⊥) → (error : SyntaxError) → IsFaulty limit source w (kind, token) error → ⊥
-name_sound limit source w kind token h room error (inl f) = let e : is_named kind ≡ false = ap is_named f.0 in cc
-name_sound limit source w kind token h room error (inr (inl f)) = let e : is_named kind ≡ false = ap is_named f.0 in cc
-name_sound limit source w kind token h room error (inr (inr (inl f))) = room f.2
-name_sound limit source w kind token h room error (inr (inr (inr f))) = let e : is_named kind ≡ false = ap is_named f.0 in cc
+name_sound : (limit : ℕ) (source : List ℕ) (w : Walk) (kind : Terminal) (token : Token) → is_named kind ≡ true → (IsFullFor w.names (token_text source token) → ⊥) → (fault : SyntaxFault) → IsFaulty limit source w (kind, token) fault → ⊥
+name_sound limit source w kind token h room fault (deep e d) = let f : is_named kind ≡ false = ap is_named e in cc
+name_sound limit source w kind token h room fault (out_of_range e d) = let f : is_named kind ≡ false = ap is_named e in cc
+name_sound limit source w kind token h room fault (many_names n full) = room full
+name_sound limit source w kind token h room fault (many_labels e d) = let f : is_named kind ≡ false = ap is_named e in cc
 
 -- it is a name where no dot stands before it
 name_there : (unclosed : ℕ) (tables : Tables) (kind : Terminal) → is_named kind ≡ true → is_name (walk_of unclosed tables) kind ≡ true
@@ -59,16 +60,12 @@ module _ {limit : ℕ} {reader : Reader} {at behind : ℕ} {token : Token} (old 
   -- a name was entered, and has this number
   pub name_got : (new : Tables) (number : ℕ) → new.names ≡ entered old.names (token_text reader.source.now token) → new.labels ≡ old.labels → (IsFullFor old.names (token_text reader.source.now token) → ⊥) →
       place_of new.names (token_text reader.source.now token) ≡ Some number → IsGot limit (IsName reader.source.now) name reader at old new (number, token.at) behind
-  name_got new number e f room place = record {
-    tree = leaf (n.kind, token);
-    gives = gives_one n.is n.passes (name_sound limit reader.source.now (walk_of reader.unclosed old) n.kind token n.passes room) (name_after reader.source.now reader.unclosed old new n.kind token n.passes e f);
-    means = λ sense s. (sym (ap or_0 (s.names (token_text reader.source.now token) number place)), refl);
-    further = (let g = n.further in omega arith);
-  }
+  name_got new number e f room place = got_by (gives_one n.is n.passes (name_sound limit reader.source.now (walk_of reader.unclosed old) n.kind token n.passes room) (name_after reader.source.now reader.unclosed old new n.kind token n.passes e f))
+      (λ sense s. (sym (ap or_0 (s.names (token_text reader.source.now token) number place)), refl)) (let g = n.further in omega arith)
 
   -- there is no room for a name
-  pub name_refused : {e : SyntaxFaultOrMemory} → IsFullFor old.names (token_text reader.source.now token) → e ≡ Fault (record { error = TooManyLabels; at = token.at }) → Refuses limit reader.source.now name (walk_of reader.unclosed old) (seen_from reader at) e
-  name_refused full is = refuses_token (takes_next n.is n.passes) (inr (inr (inl (name_there reader.unclosed old n.kind n.passes, refl, full)))) is
+  pub name_refused : {last : Tables} {e : SyntaxFaultOrMemory} → IsFullFor old.names (token_text reader.source.now token) → e ≡ Fault (record { error = TooManyLabels; at = token.at }) → Went (walk_of reader.unclosed old) last → Refuses limit reader.source.now name last (walk_of reader.unclosed old) (seen_from reader at) e
+  name_refused full is went = refuses_token went (takes_next n.is n.passes) (many_names (name_there reader.unclosed old n.kind n.passes) full) is
 
   -- the same for a text that is the token's
   pub name_entered : (text : List ℕ) → text ≡ token_text reader.source.now token → (new : Tables) (number : ℕ) → new.names ≡ entered old.names text → new.labels ≡ old.labels → (IsFullFor old.names text → ⊥) →
@@ -77,29 +74,25 @@ module _ {limit : ℕ} {reader : Reader} {at behind : ℕ} {token : Token} (old 
       name_got new number (e ∙ ap (entered old.names) same) f (λ full. room (subst (λ (x : List ℕ). IsFullFor old.names x) (sym same) full)) (ap (place_of new.names) (sym same) ∙ place)
 
   pub name_not_entered : (text : List ℕ) → text ≡ token_text reader.source.now token → (fault : LabelFault) (e : SyntaxFaultOrMemory) → (fault ≡ label_fault.Full → IsFullFor old.names text) → e ≡ not_entered fault token.at →
-      Refuses limit reader.source.now name (walk_of reader.unclosed old) (seen_from reader at) e
-  name_not_entered text same label_fault.Full e full is = name_refused (subst (λ (x : List ℕ). IsFullFor old.names x) same (full refl)) is
-  name_not_entered text same label_fault.Memory e full is = refuses_memory is
+      (new : Tables) → new.names ≡ old.names → new.labels ≡ old.labels → Refuses limit reader.source.now name new (walk_of reader.unclosed old) (seen_from reader at) e
+  name_not_entered text same label_fault.Full e full is new f g = name_refused (subst (λ (x : List ℕ). IsFullFor old.names x) same (full refl)) is (went_are old new f g)
+  name_not_entered text same label_fault.Memory e full is new f g = refuses_memory (went_are old new f g) is
 
 module _ {limit : ℕ} {reader : Reader} {at behind : ℕ} {quoted : Token} (old : Tables) (n : IsNext (is Text) reader at quoted behind) where
-  label_sound : (IsFullFor old.labels (unquoted (token_text reader.source.now quoted)) → ⊥) → (error : SyntaxError) → IsFaulty limit reader.source.now (walk_of reader.unclosed old) (Text, quoted) error → ⊥
-  label_sound room error (inl f) = let e = f.0 in cc
-  label_sound room error (inr (inl f)) = let e = f.0 in cc
-  label_sound room error (inr (inr (inl f))) = let e = f.0 in cc
-  label_sound room error (inr (inr (inr f))) = room f.2
+  label_sound : (IsFullFor old.labels (unquoted (token_text reader.source.now quoted)) → ⊥) → (fault : SyntaxFault) → IsFaulty limit reader.source.now (walk_of reader.unclosed old) (Text, quoted) fault → ⊥
+  label_sound room fault (deep e d) = cc
+  label_sound room fault (out_of_range e d) = cc
+  label_sound room fault (many_names n d) = cc
+  label_sound room fault (many_labels e full) = room full
 
   -- a label was entered, and has this number
   pub label_got : (new : Tables) (number : ℕ) → new.names ≡ old.names → new.labels ≡ entered old.labels (unquoted (token_text reader.source.now quoted)) → (IsFullFor old.labels (unquoted (token_text reader.source.now quoted)) → ⊥) →
       place_of new.labels (unquoted (token_text reader.source.now quoted)) ≡ Some number → IsGot limit (IsLabel reader.source.now) (token Text) reader at old new number behind
-  label_got new number e f room place = record {
-    tree = leaf (Text, quoted);
-    gives = gives_one (exact n) refl (label_sound room) (same_walk reader.unclosed new _ _ e f);
-    means = λ sense s. sym (ap or_0 (s.labels (unquoted (token_text reader.source.now quoted)) number place));
-    further = (let g = n.further in omega arith);
-  }
+  label_got new number e f room place = got_by (gives_one (exact n) refl (label_sound room) (same_walk reader.unclosed new _ _ e f)) (λ sense s. sym (ap or_0 (s.labels (unquoted (token_text reader.source.now quoted)) number place)))
+      (let g = n.further in omega arith)
 
-  pub label_refused : {e : SyntaxFaultOrMemory} → IsFullFor old.labels (unquoted (token_text reader.source.now quoted)) → e ≡ Fault (record { error = TooManyLabels; at = quoted.at }) → Refuses limit reader.source.now (token Text) (walk_of reader.unclosed old) (seen_from reader at) e
-  label_refused full is = refuses_token (takes_next (exact n) refl) (inr (inr (inr (refl, refl, full)))) is
+  pub label_refused : {last : Tables} {e : SyntaxFaultOrMemory} → IsFullFor old.labels (unquoted (token_text reader.source.now quoted)) → e ≡ Fault (record { error = TooManyLabels; at = quoted.at }) → Went (walk_of reader.unclosed old) last → Refuses limit reader.source.now (token Text) last (walk_of reader.unclosed old) (seen_from reader at) e
+  label_refused full is went = refuses_token went (takes_next (exact n) refl) (many_labels refl full) is
 
   pub label_entered : (text : List ℕ) → text ≡ unquoted (token_text reader.source.now quoted) → (new : Tables) (number : ℕ) → new.names ≡ old.names → new.labels ≡ entered old.labels text → (IsFullFor old.labels text → ⊥) →
       place_of new.labels text ≡ Some number → IsGot limit (IsLabel reader.source.now) (token Text) reader at old new number behind
@@ -107,16 +100,16 @@ module _ {limit : ℕ} {reader : Reader} {at behind : ℕ} {quoted : Token} (old
       label_got new number e (f ∙ ap (entered old.labels) same) (λ full. room (subst (λ (x : List ℕ). IsFullFor old.labels x) (sym same) full)) (ap (place_of new.labels) (sym same) ∙ place)
 
   pub label_not_entered : (text : List ℕ) → text ≡ unquoted (token_text reader.source.now quoted) → (fault : LabelFault) (e : SyntaxFaultOrMemory) → (fault ≡ label_fault.Full → IsFullFor old.labels text) → e ≡ not_entered fault quoted.at →
-      Refuses limit reader.source.now (token Text) (walk_of reader.unclosed old) (seen_from reader at) e
-  label_not_entered text same label_fault.Full e full is = label_refused (subst (λ (x : List ℕ). IsFullFor old.labels x) same (full refl)) is
-  label_not_entered text same label_fault.Memory e full is = refuses_memory is
+      (new : Tables) → new.names ≡ old.names → new.labels ≡ old.labels → Refuses limit reader.source.now (token Text) new (walk_of reader.unclosed old) (seen_from reader at) e
+  label_not_entered text same label_fault.Full e full is new f g = label_refused (subst (λ (x : List ℕ). IsFullFor old.labels x) same (full refl)) is (went_are old new f g)
+  label_not_entered text same label_fault.Memory e full is new f g = refuses_memory (went_are old new f g) is
 
 -- a number that is within its range has no error
-number_sound : (limit : ℕ) (source : List ℕ) (unclosed : ℕ) (tables : Tables) (numeral : Token) (x : Rational) → MeansNumber (token_text source numeral) x → FitsLiteral limit x → (error : SyntaxError) → IsFaulty limit source (walk_of unclosed tables) (Number, numeral) error → ⊥
-number_sound limit source unclosed tables numeral x means fits error (inl f) = let e = f.0 in cc
-number_sound limit source unclosed tables numeral x means fits error (inr (inl f)) = f.2 x means fits
-number_sound limit source unclosed tables numeral x means fits error (inr (inr (inl f))) = let e = f.0 in cc
-number_sound limit source unclosed tables numeral x means fits error (inr (inr (inr f))) = let e = f.0 in cc
+number_sound : (limit : ℕ) (source : List ℕ) (unclosed : ℕ) (tables : Tables) (numeral : Token) (x : Rational) → MeansNumber (token_text source numeral) x → FitsLiteral limit x → (fault : SyntaxFault) → IsFaulty limit source (walk_of unclosed tables) (Number, numeral) fault → ⊥
+number_sound limit source unclosed tables numeral x means fits fault (deep e d) = cc
+number_sound limit source unclosed tables numeral x means fits fault (out_of_range e none) = none x means fits
+number_sound limit source unclosed tables numeral x means fits fault (many_names n d) = cc
+number_sound limit source unclosed tables numeral x means fits fault (many_labels e d) = cc
 
 -- a number was read, where it may stand
 pub number_gives : {limit : ℕ} {test : Terminal → Bool} {numeral : Token} (reader : Reader) (at behind : ℕ) (tables : Tables) (x : Rational) → seen_from reader at ≡ (Number, numeral) ∷ seen_from reader behind → test Number ≡ true →
@@ -125,15 +118,11 @@ number_gives {limit = limit} {numeral = numeral} reader at behind tables x there
 
 -- a number is out of range
 pub number_refused : {limit : ℕ} {test : Terminal → Bool} {numeral : Token} {e : SyntaxFaultOrMemory} (reader : Reader) (at behind : ℕ) (tables : Tables) → seen_from reader at ≡ (Number, numeral) ∷ seen_from reader behind → test Number ≡ true →
-    IsOutOfRange limit reader.source.now numeral e → Refuses limit reader.source.now (one test) (walk_of reader.unclosed tables) (seen_from reader at) e
-number_refused {limit = limit} reader at behind tables there h o = refuses_token (takes_next there h) (inr (inl (refl, refl, o.none_fits))) o.is
+    IsOutOfRange limit reader.source.now numeral e → Refuses limit reader.source.now (one test) tables (walk_of reader.unclosed tables) (seen_from reader at) e
+number_refused {limit = limit} reader at behind tables there h o = refuses_token (went_same tables) (takes_next there h) (out_of_range refl o.none_fits) o.is
 
 -- a number, as an expression
 pub number_got : {F : Type 0} {value : F → Rational} {limit : ℕ} (reader : Reader) (at behind : ℕ) {numeral : Token} (tables : Tables) (v : F) → IsNext (is Number) reader at numeral behind → IsValue limit value (token_text reader.source.now numeral) v →
     (e : Expr F) → view value e ≡ number_node (value v) → IsGot limit (IsMeant value reader.source.now number_in) (token Number) reader at tables tables e behind
-number_got {value = value} reader at behind {numeral = numeral} tables v n within e is = record {
-  tree = leaf (Number, numeral);
-  gives = number_gives reader at behind tables (value v) (exact n) refl within.0 within.1;
-  means = λ sense s. record { is = is ∙ ap number_node (sym (s.value (token_text reader.source.now numeral) (value v) within.0)) };
-  further = (let g = n.further in omega arith);
-}
+number_got {value = value} reader at behind {numeral = numeral} tables v n within e is = got_by (number_gives reader at behind tables (value v) (exact n) refl within.0 within.1)
+    (λ sense s. record { is = is ∙ ap number_node (sym (s.value (token_text reader.source.now numeral) (value v) within.0)) }) (let g = n.further in omega arith)

@@ -13,23 +13,25 @@ use Rattle.gms_ast.specs.declared.expression.LagOp.{LagOp}
 use Rattle.gms_ast.specs.Trees.{Tree as Syntax, Indices, no_index, label, set, lagged, Control as Over}
 use Rattle.gms_ast.specs.TreeView.{tree_step, index_step, control_step, tree_of, indices_of, index_tree}
 use Rattle.gms_grammar.specs.declared.terminal.Terminal.TheVariants.{Name, Suffix, Text, Sign, Circular, Comma}
-use Rattle.gms_grammar.specs.Grammar.{the, ◌·◌, opt, many, leaf, pair, left, right, none, some, more, node}
+use Rattle.gms_grammar.specs.Grammar.{the, ◌·◌, opt, many, leaf, pair, none, some, more, node}
 use Rattle.gms_grammar.specs.Reading.{leads}
 use Rattle.gms_grammar.specs.Terminals.{is, is_among}
 use Rattle.gms_grammar.specs.LookAhead.{may_begin}
 use Rattle.gms_grammar.specs.GamsGrammar.{Index, IndexList, Lag, productions, token, name, any_of, bracketed}
 use Rattle.gms_grammar.specs.GamsLookAhead.{look_ahead}
 use Rattle.gms_expressions.specs.declared.fault.SyntaxFaultOrMemory.{SyntaxFaultOrMemory}
+use Rattle.gms_expressions.specs.declared.fault.SyntaxFaultOrMemory.TheVariants.{Memory}
 use Rattle.gms_expressions.specs.declared.reader.Reader.{Reader}
 use Rattle.gms_expressions.specs.declared.reader.Tables.{Tables}
 use Rattle.gms_expressions.specs.ExpressionTrees.{index as index_in, indices as indices_in, more_indices, lag as lag_in_tree}
 use Rattle.gms_ast.specs.Numbers.{indices_in_numbers}
 use Rattle.gms_expressions.specs.Readings.{Seen, Derivation, GamsPart, Refuses, Sense, IsSense, IsGot, IsAnswer, IsNext, IsName, IsLabel, IsLag, IsIndex, AreIndices, seen_from, walk_of, kind_of}
 use Rattle.gms_expressions.proofs.TokenKinds.{leads_by_kind, same_test}
-use Rattle.gms_expressions.proofs.Steps.{Within, within_the, within_second, within_then, within_again, gives_both, gives_the, gives_left, gives_right, gives_none, gives_some, gives_no_more, refuses_the, refuses_right, refuses_second, refuses_some, refuses_again}
+use Rattle.gms_expressions.proofs.Steps.{got_by, Within, within_the, within_second, within_then, within_again, gives_both, gives_the, gives_left, gives_right, gives_none, gives_some, gives_no_more, refuses_the, refuses_right, refuses_second, refuses_some, refuses_again, refuses_memory}
+use Rattle.gms_expressions.proofs.Going.{went_by}
 use Rattle.gms_expressions.proofs.Nexts.{gives_next, leads_next, unled_next, earlier}
 use Rattle.gms_expressions.proofs.Grows.{some_led}
-use Rattle.gms_expressions.proofs.Eithers.{led_given}
+use Rattle.gms_grammar.proofs.Eithers.{led_given}
 use Rattle.gms_expressions.proofs.Chains.{in_sense}
 
 -- the indices that the reader makes
@@ -50,38 +52,28 @@ leads_lag ts = leads_by_kind (the Lag) ts refl ∙ same_test (may_begin look_ahe
 module _ {F : Type 0} (value : F → Number) {limit : ℕ} {reader : Reader} {at next : ℕ} {old middle : Tables} {n : ℕ} where
   -- a label
   pub label_got : IsGot limit (IsLabel reader.source.now) (token Text) reader at old middle n next → IsGot limit (IsIndex {F = F} value reader.source.now) (the Index) reader at old middle (Label n) next
-  label_got got = record {
-    tree = node (left got.tree);
-    gives = gives_the Index (gives_left (led_given got.gives) got.gives);
-    means = λ sense s rest. ap (indices_in_numbers value) (index_tree-Label n rest) ∙ ap (λ m. label m (indices_in_numbers value rest)) (got.means sense s);
-    further = got.further;
-  }
+  label_got got = got_by (gives_the Index (gives_left (led_given got.gives) got.gives)) (λ sense s rest. ap (indices_in_numbers value) (index_tree-Label n rest) ∙ ap (λ m. label m (indices_in_numbers value rest)) (got.means sense s)) got.further
 
   module _ {place : Place} where
     -- a set, without a lag
     pub set_got : leads productions look_ahead (token Text) (seen_from reader at) ≡ false → IsGot limit (IsName reader.source.now) name reader at old middle (n, place) next → leads productions look_ahead (any_of (Sign ∷ Circular ∷ [])) (seen_from reader next) ≡ false →
         IsGot limit (IsIndex {F = F} value reader.source.now) (the Index) reader at old middle (Set n None) next
-    set_got other got unled = record {
-      tree = node (right (pair got.tree none));
-      gives = gives_the Index (gives_right other (some_led (is_among (Name ∷ Suffix ∷ [])) (opt (the Lag)) (seen_from reader at) (sym (led_given got.gives)) refl) (gives_both got.gives (gives_none (leads_lag (seen_from reader next) ∙ unled))));
-      means = λ sense s rest. ap (indices_in_numbers value) (index_tree-alone n rest) ∙ ap (λ m. set m (indices_in_numbers value rest)) (got.means sense s).0;
-      further = got.further;
-    }
+    set_got other got unled = got_by
+        (gives_the Index (gives_right other (some_led (is_among (Name ∷ Suffix ∷ [])) (opt (the Lag)) (seen_from reader at) (sym (led_given got.gives)) refl) (gives_both got.gives (gives_none (leads_lag (seen_from reader next) ∙ unled)))))
+        (λ sense s rest. ap (indices_in_numbers value) (index_tree-alone n rest) ∙ ap (λ m. set m (indices_in_numbers value rest)) (got.means sense s).0) got.further
 
     -- a set, with a lag
     pub lagged_got : {new : Tables} {behind : ℕ} {lag : LagOp × Place × Box (Expr F) Global} → leads productions look_ahead (token Text) (seen_from reader at) ≡ false → IsGot limit (IsName reader.source.now) name reader at old middle (n, place) next →
         leads productions look_ahead (any_of (Sign ∷ Circular ∷ [])) (seen_from reader next) ≡ true → IsGot limit (IsLag value reader.source.now) (the Lag) reader next middle new lag behind → IsGot limit (IsIndex value reader.source.now) (the Index) reader at old new (Set n (Some lag)) behind
-    lagged_got {lag = lag} other got led lags = record {
-      tree = node (right (pair got.tree (some lags.tree)));
-      gives = gives_the Index (gives_right other (some_led (is_among (Name ∷ Suffix ∷ [])) (opt (the Lag)) (seen_from reader at) (sym (led_given got.gives)) refl) (gives_both got.gives (gives_some (leads_lag (seen_from reader next) ∙ led) lags.gives)));
-      means = λ sense s rest. ap (indices_in_numbers value) (index_tree-lagged n lag rest) ∙ lags.means sense s n (indices_in_numbers value rest)
-          ∙ ap (λ m. lag_in_tree reader.source.now sense.names sense.labels sense.value m lags.tree (indices_in_numbers value rest)) (got.means sense (earlier lags.gives s)).0;
-      further = (let f = got.further in let g = lags.further in omega arith);
-    }
+    lagged_got {lag = lag} other got led lags = got_by
+        (gives_the Index (gives_right other (some_led (is_among (Name ∷ Suffix ∷ [])) (opt (the Lag)) (seen_from reader at) (sym (led_given got.gives)) refl) (gives_both got.gives (gives_some (leads_lag (seen_from reader next) ∙ led) lags.gives))))
+        (λ sense s rest. ap (indices_in_numbers value) (index_tree-lagged n lag rest) ∙ lags.means sense s n (indices_in_numbers value rest)
+        ∙ ap (λ m. lag_in_tree reader.source.now sense.names sense.labels sense.value m lags.tree (indices_in_numbers value rest)) (got.means sense (earlier lags.gives s)).0)
+        (let f = got.further in let g = lags.further in omega arith)
 
     -- the lag of a set is refused
-    pub lag_refuses : {e : SyntaxFaultOrMemory} → leads productions look_ahead (token Text) (seen_from reader at) ≡ false → IsGot limit (IsName reader.source.now) name reader at old middle (n, place) next → leads productions look_ahead (any_of (Sign ∷ Circular ∷ [])) (seen_from reader next) ≡ true →
-        Refuses limit reader.source.now (the Lag) (walk_of reader.unclosed middle) (seen_from reader next) e → Refuses limit reader.source.now (the Index) (walk_of reader.unclosed old) (seen_from reader at) e
+    pub lag_refuses : {last : Tables} {e : SyntaxFaultOrMemory} → leads productions look_ahead (token Text) (seen_from reader at) ≡ false → IsGot limit (IsName reader.source.now) name reader at old middle (n, place) next → leads productions look_ahead (any_of (Sign ∷ Circular ∷ [])) (seen_from reader next) ≡ true →
+        Refuses limit reader.source.now (the Lag) last (walk_of reader.unclosed middle) (seen_from reader next) e → Refuses limit reader.source.now (the Index) last (walk_of reader.unclosed old) (seen_from reader at) e
     lag_refuses other got led r = refuses_the Index (refuses_right other (some_led (is_among (Name ∷ Suffix ∷ [])) (opt (the Lag)) (seen_from reader at) (sym (led_given got.gives)) refl) (refuses_second got.gives (refuses_some (leads_lag (seen_from reader next) ∙ led) r)))
 
 -- indices put before others
@@ -130,34 +122,25 @@ module _ {F : Type 0} {value : F → Number} {limit : ℕ} {reader : Reader} {st
   }
 
   pub indices_got : (v : Vec (IndexNode F) Global) → SomeIndices value limit v.items reader start old new at → leads productions look_ahead (token Comma) (seen_from reader at) ≡ false → IsGot limit (AreListed value reader.source.now) (the IndexList) reader start old new v at
-  indices_got v l unled = record {
-    tree = l.context none;
-    gives = l.within.gives none _ _ (gives_no_more (unled_next (is Comma) (the Index) (seen_from reader at) unled));
-    means = λ sense s. ap (indices_in_numbers value) (sym (put_before_all v.items)) ∙ sym (l.means sense s none no_index refl);
-    further = l.further;
-  }
+  indices_got v l unled = got_by (l.within.gives none _ _ (gives_no_more (unled_next (is Comma) (the Index) (seen_from reader at) unled)))
+      (λ sense s. ap (indices_in_numbers value) (sym (put_before_all v.items)) ∙ sym (l.means sense s none no_index refl)) l.further
 
-  pub indices_refuses : {items : List (IndexNode F)} → SomeIndices value limit items reader start old new at → {behind : ℕ} {t : Token} {e : SyntaxFaultOrMemory} → IsNext (is Comma) reader at t behind →
-      Refuses limit reader.source.now (the Index) (walk_of reader.unclosed new) (seen_from reader behind) e → Refuses limit reader.source.now (the IndexList) (walk_of reader.unclosed old) (seen_from reader start) e
-  indices_refuses l next r = l.within.refuses _ (refuses_again (leads_next (the Index) next) (refuses_second (gives_next new next refl) r))
+  pub indices_refuses : {items : List (IndexNode F)} → SomeIndices value limit items reader start old new at → {behind : ℕ} {t : Token} {last : Tables} {e : SyntaxFaultOrMemory} → IsNext (is Comma) reader at t behind →
+      Refuses limit reader.source.now (the Index) last (walk_of reader.unclosed new) (seen_from reader behind) e → Refuses limit reader.source.now (the IndexList) last (walk_of reader.unclosed old) (seen_from reader start) e
+  indices_refuses l next r = l.within.refuses _ _ (refuses_again (leads_next (the Index) next) (refuses_second (gives_next new next refl) r))
+
+  -- memory was wanting behind another index
+  pub indices_memory : {items : List (IndexNode F)} → SomeIndices value limit items reader start old new at → {behind after : ℕ} {t : Token} {last : Tables} {i : IndexNode F} {e : SyntaxFaultOrMemory} → IsNext (is Comma) reader at t behind →
+      IsGot limit (IsIndex value reader.source.now) (the Index) reader behind new last i after → e ≡ Memory → Refuses limit reader.source.now (the IndexList) last (walk_of reader.unclosed old) (seen_from reader start) e
+  indices_memory l next got is = l.within.refuses _ _ (refuses_memory (went_by got.gives) is)
 
 -- what was read or refused as a part that is there
 pub some_answer : {T : Type 0} (limit : ℕ) {Means : Sense → Derivation → T → Type 0} (p : GamsPart) (reader : Reader) (at : ℕ) (old new : Tables) (r : Result (T × ℕ) SyntaxFaultOrMemory) → leads productions look_ahead p (seen_from reader at) ≡ true →
     IsAnswer limit Means p reader at old new r → (Says : Sense → Derivation → T → Type 0) → ((sense : Sense) (tree : Derivation) (x : T) → Means sense tree x → Says sense (some tree) x) → IsAnswer limit Says (opt p) reader at old new r
-some_answer limit p reader at old new (Ok b) led got Says says = record {
-  tree = some got.tree;
-  gives = gives_some led got.gives;
-  means = λ sense s. says sense got.tree b.0 (got.means sense s);
-  further = got.further;
-}
+some_answer limit p reader at old new (Ok b) led got Says says = got_by (gives_some led got.gives) (λ sense s. says sense got.tree b.0 (got.means sense s)) got.further
 some_answer limit p reader at old new (Err e) led refuses Says says = refuses_some led refuses
 
 -- no indices are there
 pub no_indices : {F : Type 0} (value : F → Number) {limit : ℕ} {reader : Reader} {at : ℕ} {tables : Tables} (v : Vec (IndexNode F) Global) → v.items ≡ [] → leads productions look_ahead (bracketed (the IndexList)) (seen_from reader at) ≡ false →
     IsGot limit (AreIndices value reader.source.now) (opt (bracketed (the IndexList))) reader at tables tables v at
-no_indices value v is unled = record {
-  tree = none;
-  gives = gives_none unled;
-  means = λ sense s. ap (λ xs. indices_in_numbers value (indices_of (map index_tree xs))) is;
-  further = omega arith;
-}
+no_indices value v is unled = got_by (gives_none unled) (λ sense s. ap (λ xs. indices_in_numbers value (indices_of (map index_tree xs))) is) (omega arith)

@@ -1,5 +1,6 @@
 pub mod TokenKinds
 pub mod Walks
+pub mod Going
 pub mod Steps
 pub mod Nexts
 pub mod Loops
@@ -15,7 +16,6 @@ pub mod Singles
 pub mod Spelled
 pub mod Grows
 pub mod Lists
-pub mod Eithers
 pub mod Closings
 pub mod Constants
 pub mod Guarding

@@ -59,8 +59,8 @@ module _ {limit : ℕ} {reader : Reader} {start : ℕ} {old new : Tables} {at : 
   pub names_got : (v : Vec ℕ Global) → Names limit v.items reader start old new at → leads productions look_ahead (token Comma) (seen_from reader at) ≡ false → IsGot limit (AreNames reader.source.now) (the NameList) reader start old new v at
   names_got v l unled = loop_got l.looping (unled_next (is Comma) name (seen_from reader at) unled) (AreNames reader.source.now) v (λ sense tree h. sym (h ∙ append-nil v.items))
 
-  pub names_refuses : {items : List ℕ} → Names limit items reader start old new at → {behind : ℕ} {t : Token} {e : SyntaxFaultOrMemory} → IsNext (is Comma) reader at t behind → Refuses limit reader.source.now name (walk_of reader.unclosed new) (seen_from reader behind) e →
-      Refuses limit reader.source.now (the NameList) (walk_of reader.unclosed old) (seen_from reader start) e
+  pub names_refuses : {items : List ℕ} → Names limit items reader start old new at → {behind : ℕ} {t : Token} {last : Tables} {e : SyntaxFaultOrMemory} → IsNext (is Comma) reader at t behind → Refuses limit reader.source.now name last (walk_of reader.unclosed new) (seen_from reader behind) e →
+      Refuses limit reader.source.now (the NameList) last (walk_of reader.unclosed old) (seen_from reader start) e
   names_refuses l next r = loop_refuses l.looping (leads_next name next) (refuses_second (gives_next new next refl) r)
 
 -- some arguments were read

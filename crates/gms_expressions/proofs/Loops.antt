@@ -1,14 +1,16 @@
 -- A repetition, read in a loop.
-use Rattle.std.proofs.Common.{◌≡◌, ℕ, ◌≤◌, true, false, ap, ◌∙◌, arith}
+use Rattle.std.proofs.Common.{◌≡◌, ℕ, ◌≤◌, true, false, List, ap, ◌∙◌, arith}
 use Rattle.gms_grammar.specs.Grammar.{many, none, more}
 use Rattle.gms_grammar.specs.Reading.{leads}
 use Rattle.gms_grammar.specs.GamsGrammar.{productions}
 use Rattle.gms_grammar.specs.GamsLookAhead.{look_ahead}
 use Rattle.gms_expressions.specs.declared.fault.SyntaxFaultOrMemory.{SyntaxFaultOrMemory}
+use Rattle.gms_expressions.specs.declared.fault.SyntaxFaultOrMemory.TheVariants.{Memory}
 use Rattle.gms_expressions.specs.declared.reader.Reader.{Reader}
 use Rattle.gms_expressions.specs.declared.reader.Tables.{Tables}
-use Rattle.gms_expressions.specs.Readings.{Derivation, GamsPart, Gives, Refuses, Sense, IsSense, IsGot, seen_from, walk_of}
-use Rattle.gms_expressions.proofs.Steps.{Within, within_then, within_again, gives_no_more, refuses_again}
+use Rattle.gms_expressions.specs.Readings.{Seen, Derivation, GamsPart, Gives, Refuses, Sense, IsSense, IsGot, seen_from, walk_of}
+use Rattle.gms_expressions.proofs.Steps.{got_by, Within, within_then, within_again, gives_no_more, refuses_again, refuses_memory}
+use Rattle.gms_expressions.proofs.Going.{went_by}
 use Rattle.gms_expressions.proofs.Nexts.{earlier}
 
 -- A part ends with a repetition, of which so much was read. The whole is what is made of the rest.
@@ -34,14 +36,14 @@ module _ {Y Z : Type 0} {limit : ℕ} {part q : GamsPart} {whole : Sense → Der
   -- no more is to be read
   pub loop_got : Looping limit part q whole others made reader start old new at → leads productions look_ahead q (seen_from reader at) ≡ false → {T : Type 0} (Means : Sense → Derivation → T → Type 0) (x : T) →
       ((sense : Sense) (tree : Derivation) → whole sense tree ≡ made (others sense none) → Means sense tree x) → IsGot limit Means part reader start old new x at
-  loop_got l unled Means x means = record {
-    tree = l.context none;
-    gives = l.within.gives none _ _ (gives_no_more unled);
-    means = λ sense s. means sense (l.context none) (l.means sense s none);
-    further = l.further;
-  }
+  loop_got l unled Means x means = got_by (l.within.gives none _ _ (gives_no_more unled)) (λ sense s. means sense (l.context none) (l.means sense s none)) l.further
 
   -- the next is refused
-  pub loop_refuses : Looping limit part q whole others made reader start old new at → {e : SyntaxFaultOrMemory} → leads productions look_ahead q (seen_from reader at) ≡ true →
-      Refuses limit reader.source.now q (walk_of reader.unclosed new) (seen_from reader at) e → Refuses limit reader.source.now part (walk_of reader.unclosed old) (seen_from reader start) e
-  loop_refuses l led r = l.within.refuses _ (refuses_again led r)
+  pub loop_refuses : Looping limit part q whole others made reader start old new at → {last : Tables} {e : SyntaxFaultOrMemory} → leads productions look_ahead q (seen_from reader at) ≡ true →
+      Refuses limit reader.source.now q last (walk_of reader.unclosed new) (seen_from reader at) e → Refuses limit reader.source.now part last (walk_of reader.unclosed old) (seen_from reader start) e
+  loop_refuses l led r = l.within.refuses _ _ (refuses_again led r)
+
+  -- memory was wanting behind another
+  pub loop_memory : Looping limit part q whole others made reader start old new at → {p : GamsPart} {last : Tables} {ts rest : List Seen} {tree : Derivation} {e : SyntaxFaultOrMemory} →
+      Gives limit reader.source.now p (walk_of reader.unclosed new) ts tree (walk_of reader.unclosed last) rest → e ≡ Memory → Refuses limit reader.source.now part last (walk_of reader.unclosed old) (seen_from reader start) e
+  loop_memory l g is = l.within.refuses _ _ (refuses_memory (went_by g) is)

@@ -1,5 +1,5 @@
 -- Single tokens at places of a reader.
-use Rattle.std.proofs.Common.{◌≡◌, ℕ, ◌+◌, ◌<◌, ◌≤◌, Bool, true, false, ◌||◌, List, [], ◌∷◌, length, Some, refl, sym, ap, ◌∙◌, subst, arith, inl, inr, ◌-◌}
+use Rattle.std.proofs.Common.{◌≡◌, ℕ, ◌+◌, ◌<◌, ◌≤◌, Bool, true, List, ◌∷◌, length, Some, refl, sym, ap, ◌∙◌, subst, arith, ◌-◌}
 use Rattle.gms_grammar.specs.declared.terminal.Terminal.{Terminal}
 use Rattle.gms_grammar.specs.declared.terminal.Terminal.TheVariants.{LeftParen, RightParen}
 use Rattle.gms_grammar.specs.Grammar.{one, ◌·◌, leaf, pair, yield}
@@ -9,16 +9,18 @@ use Rattle.std.proofs.lemmas.Bool.{eqb-true}
 use Rattle.gms_grammar.specs.GamsGrammar.{productions, token, bracketed}
 use Rattle.gms_grammar.specs.GamsLookAhead.{look_ahead}
 use Rattle.gms_grammar.proofs.Basics.{or_left}
+pub use Rattle.gms_grammar.proofs.Eithers.{unled_next}
 use Rattle.gms_lex.specs.declared.token.Token.{Token}
 use Rattle.gms_labels.specs.Labels.{place_of}
-use Rattle.gms_expressions.specs.declared.fault.SyntaxError.{SyntaxError}
+use Rattle.gms_expressions.specs.declared.fault.SyntaxFault.{SyntaxFault}
 use Rattle.gms_expressions.specs.declared.fault.SyntaxFaultOrMemory.{SyntaxFaultOrMemory}
 use Rattle.gms_expressions.specs.declared.reader.Reader.{Reader}
 use Rattle.gms_expressions.specs.declared.reader.Tables.{Tables}
-use Rattle.gms_expressions.specs.Outcomes.{Walk, IsFaulty}
-use Rattle.gms_expressions.specs.Readings.{Seen, Derivation, GamsPart, Gives, Refuses, Sense, IsSense, IsNext, IsLacking, IsOpened, IsUnopened, seen_from, walk_of, kind_of}
+use Rattle.gms_expressions.specs.Outcomes.{Walk, IsFaulty, deep, out_of_range, many_names, many_labels}
+use Rattle.gms_expressions.specs.Readings.{Seen, Derivation, GamsPart, Gives, Went, Refuses, Sense, IsSense, IsNext, IsLacking, IsOpened, IsUnopened, seen_from, walk_of, kind_of}
 use Rattle.gms_expressions.proofs.TokenKinds.{is_plain, implies, also, same_number}
 use Rattle.gms_expressions.proofs.Walks.{plain_after, plain_sound, names_kept, labels_kept}
+use Rattle.gms_expressions.proofs.Going.{went_same}
 use Rattle.gms_expressions.proofs.Steps.{gives_one, gives_both, refuses_at, refuses_first, refuses_second}
 
 -- the kind of a token that is next
@@ -33,8 +35,11 @@ gives_next {limit = limit} {test = test} {reader = reader} {token = token} table
     gives_one n.is n.passes (plain_sound limit reader.source.now (walk_of reader.unclosed tables) n.kind token k) (sym (plain_after reader.source.now reader.unclosed tables n.kind token k))
 
 -- another token is due
-pub refuses_lacking : {limit : ℕ} {test : Terminal → Bool} {reader : Reader} {at : ℕ} {w : Walk} {e : SyntaxFaultOrMemory} → IsLacking test reader at e → Refuses limit reader.source.now (one test) w (seen_from reader at) e
-refuses_lacking l = refuses_at (refused l.not_led) l.is
+pub lacking_behind : {limit : ℕ} {test : Terminal → Bool} {reader : Reader} {at : ℕ} {tables : Tables} {w : Walk} {e : SyntaxFaultOrMemory} → Went w tables → IsLacking test reader at e → Refuses limit reader.source.now (one test) tables w (seen_from reader at) e
+lacking_behind went l = refuses_at went (refused l.not_led) l.is
+
+pub refuses_lacking : {limit : ℕ} {test : Terminal → Bool} {reader : Reader} {at unclosed : ℕ} {tables : Tables} {e : SyntaxFaultOrMemory} → IsLacking test reader at e → Refuses limit reader.source.now (one test) tables (walk_of unclosed tables) (seen_from reader at) e
+refuses_lacking {tables = tables} l = lacking_behind (went_same tables) l
 
 -- the next token leads into a part that begins with it
 pub leads_next : {test : Terminal → Bool} {reader : Reader} {at behind : ℕ} {token : Token} (q : GamsPart) → IsNext test reader at token behind → leads productions look_ahead (one test · q) (seen_from reader at) ≡ true
@@ -43,17 +48,12 @@ leads_next {test = test} q n = ap (leads productions look_ahead (one test · q))
 pub led_next : {test : Terminal → Bool} {reader : Reader} {at behind : ℕ} {token : Token} → IsNext test reader at token behind → leads productions look_ahead (one test) (seen_from reader at) ≡ true
 led_next {test = test} n = ap (leads productions look_ahead (one test)) n.is ∙ n.passes
 
--- only what the next token tells leads into such a part
-pub unled_next : (test : Terminal → Bool) (q : GamsPart) (ts : List Seen) → leads productions look_ahead (one test) ts ≡ false → leads productions look_ahead (one test · q) ts ≡ false
-unled_next test q [] h = refl
-unled_next test q (t ∷ ts) h = ap (λ b. b || false) h
-
 -- what is so of the sense of later tables is so of that of earlier ones
 pub earlier : {limit : ℕ} {source : List ℕ} {part : GamsPart} {unclosed : ℕ} {old new : Tables} {ts rest : List Seen} {tree : Derivation} {sense : Sense} →
     Gives limit source part (walk_of unclosed old) ts tree (walk_of unclosed new) rest → IsSense new sense → IsSense old sense
-earlier {source = source} {unclosed = unclosed} {old = old} {tree = tree} g s = record {
-  names = λ text n h. s.names text n (subst (λ (w : Walk). place_of w.names text ≡ Some n) (sym g.leaves) (names_kept source (walk_of unclosed old) (yield tree) text n h));
-  labels = λ text n h. s.labels text n (subst (λ (w : Walk). place_of w.labels text ≡ Some n) (sym g.leaves) (labels_kept source (walk_of unclosed old) (yield tree) text n h));
+earlier {source = source} {unclosed = unclosed} {old = old} {rest = rest} {tree = tree} g s = record {
+  names = λ text n h. s.names text n (subst (λ (w : Walk). place_of w.names text ≡ Some n) (sym g.leaves) (names_kept source (walk_of unclosed old) (yield tree) (kind_of rest) text n h));
+  labels = λ text n h. s.labels text n (subst (λ (w : Walk). place_of w.labels text ≡ Some n) (sym g.leaves) (labels_kept source (walk_of unclosed old) (yield tree) (kind_of rest) text n h));
   value = s.value;
 }
 
@@ -68,22 +68,22 @@ gives_open : {limit : ℕ} {reader : Reader} {at behind : ℕ} {inner : Reader} 
     Gives limit reader.source.now (one (is LeftParen)) (walk_of reader.unclosed tables) (seen_from reader at) (leaf (LeftParen, o.token)) (walk_of (reader.unclosed + 1) tables) (seen_from reader behind)
 gives_open {limit = limit} {reader = reader} tables o = gives_one (exact o.next) refl sound refl
   where
-    sound : (error : SyntaxError) → IsFaulty limit reader.source.now (walk_of reader.unclosed tables) (LeftParen, o.token) error → ⊥
-    sound error (inl f) = let room = o.room in absurd (omega (arith, f.1))
-    sound error (inr (inl f)) = let e = f.0 in cc
-    sound error (inr (inr (inl f))) = let e = f.0 in cc
-    sound error (inr (inr (inr f))) = let e = f.0 in cc
+    sound : (fault : SyntaxFault) → IsFaulty limit reader.source.now (walk_of reader.unclosed tables) (LeftParen, o.token) fault → ⊥
+    sound fault (deep e d) = let room = o.room in absurd (omega (arith, d))
+    sound fault (out_of_range e d) = cc
+    sound fault (many_names n d) = cc
+    sound fault (many_labels e d) = cc
 
 -- the parenthesis closes
 gives_close : {limit : ℕ} {reader : Reader} {at behind : ℕ} {token : Token} (tables : Tables) → IsNext (is RightParen) reader at token behind →
     Gives limit reader.source.now (one (is RightParen)) (walk_of (reader.unclosed + 1) tables) (seen_from reader at) (leaf (RightParen, token)) (walk_of reader.unclosed tables) (seen_from reader behind)
 gives_close {limit = limit} {reader = reader} {token = token} tables n = gives_one (exact n) refl sound (ap (λ k. walk_of k tables) (let e : reader.unclosed ≡ reader.unclosed + 1 - 1 = omega arith in e))
   where
-    sound : (error : SyntaxError) → IsFaulty limit reader.source.now (walk_of (reader.unclosed + 1) tables) (RightParen, token) error → ⊥
-    sound error (inl f) = let e = f.0 in cc
-    sound error (inr (inl f)) = let e = f.0 in cc
-    sound error (inr (inr (inl f))) = let e = f.0 in cc
-    sound error (inr (inr (inr f))) = let e = f.0 in cc
+    sound : (fault : SyntaxFault) → IsFaulty limit reader.source.now (walk_of (reader.unclosed + 1) tables) (RightParen, token) fault → ⊥
+    sound fault (deep e d) = cc
+    sound fault (out_of_range e d) = cc
+    sound fault (many_names n d) = cc
+    sound fault (many_labels e d) = cc
 
 module _ {limit : ℕ} {reader : Reader} {at start : ℕ} {inner : Reader} {p : GamsPart} {old : Tables} (o : IsOpened reader at inner start) where
   -- a part in parentheses
@@ -92,16 +92,16 @@ module _ {limit : ℕ} {reader : Reader} {at start : ℕ} {inner : Reader} {p : 
       Gives limit reader.source.now (bracketed p) (walk_of reader.unclosed old) (seen_from reader at) (pair (leaf (LeftParen, o.token)) (pair tree (leaf (RightParen, token)))) (walk_of reader.unclosed new) (seen_from reader behind)
   gives_bracketed {new = new} g n = gives_both (gives_open old o) (gives_both g (gives_close new n))
 
-  pub refuses_inside : {e : SyntaxFaultOrMemory} → Refuses limit reader.source.now p (walk_of (reader.unclosed + 1) old) (seen_from reader start) e → Refuses limit reader.source.now (bracketed p) (walk_of reader.unclosed old) (seen_from reader at) e
+  pub refuses_inside : {last : Tables} {e : SyntaxFaultOrMemory} → Refuses limit reader.source.now p last (walk_of (reader.unclosed + 1) old) (seen_from reader start) e → Refuses limit reader.source.now (bracketed p) last (walk_of reader.unclosed old) (seen_from reader at) e
   refuses_inside r = refuses_second (gives_open old o) (refuses_first r)
 
   pub refuses_unclosed : {new : Tables} {tree : Derivation} {next : ℕ} {e : SyntaxFaultOrMemory} →
       Gives limit reader.source.now p (walk_of (reader.unclosed + 1) old) (seen_from reader start) tree (walk_of (reader.unclosed + 1) new) (seen_from reader next) → IsLacking (is RightParen) reader next e →
-      Refuses limit reader.source.now (bracketed p) (walk_of reader.unclosed old) (seen_from reader at) e
+      Refuses limit reader.source.now (bracketed p) new (walk_of reader.unclosed old) (seen_from reader at) e
   refuses_unclosed g l = refuses_second (gives_open old o) (refuses_second g (refuses_lacking l))
 
 -- no parenthesis opens where one is due
-pub refuses_unopened : {limit : ℕ} {reader : Reader} {at : ℕ} {e : SyntaxFaultOrMemory} (p : GamsPart) (tables : Tables) → IsUnopened reader at e → Refuses limit reader.source.now (bracketed p) (walk_of reader.unclosed tables) (seen_from reader at) e
+pub refuses_unopened : {limit : ℕ} {reader : Reader} {at : ℕ} {e : SyntaxFaultOrMemory} (p : GamsPart) (tables : Tables) → IsUnopened reader at e → Refuses limit reader.source.now (bracketed p) tables (walk_of reader.unclosed tables) (seen_from reader at) e
 refuses_unopened {limit = limit} p tables u = refuses_first (u.refuses limit tables)
 
 -- each step of a loop over tokens leaves fewer

@@ -10,8 +10,9 @@ use Rattle.gms_grammar.specs.GamsGrammar.{Nonterminal}
 use Rattle.gms_expressions.specs.declared.fault.SyntaxFaultOrMemory.{SyntaxFaultOrMemory}
 use Rattle.gms_expressions.specs.declared.reader.Reader.{Reader}
 use Rattle.gms_expressions.specs.declared.reader.Tables.{Tables}
-use Rattle.gms_expressions.specs.Calls.{IsRead, IsRefusal, walk_from, tokens_from}
-use Rattle.gms_expressions.specs.Readings.{Derivation, Sense, IsAnswer}
+use Rattle.gms_expressions.specs.Calls.{IsRead, IsRefusal, GoesOn, walk_from, tokens_from}
+use Rattle.gms_expressions.specs.Readings.{Derivation, GamsPart, Sense, IsAnswer, Went, walk_of}
+use Rattle.gms_expressions.proofs.Going.{went_by}
 use Rattle.gms_expressions.proofs.Doors.{read_of, refusal_of}
 
 -- a list with one more is one longer
@@ -56,3 +57,14 @@ module _ {T : Type 0} (limit : ℕ) (Means : List ℕ → Sense → Derivation �
       (subst (λ (x : List (List ℕ)). IsSaid limit n Says at result reader.source.now reader.tokens.now reader.unclosed old.names old.labels x new_labels) (sym f)
       (subst (λ (x : List (List ℕ)). IsSaid limit n Says at result reader.source.now reader.tokens.now reader.unclosed old.names old.labels new.names x) (sym g)
       (said reader at old new result answer)))))))
+
+-- whatever a reader of the tokens of a source answers, its tables go on
+went : {T : Type 0} (limit : ℕ) (Means : Sense → Derivation → T → Type 0) (part : GamsPart) (reader : Reader) (at : ℕ) (old new : Tables) (result : Result (T × ℕ) SyntaxFaultOrMemory) → IsAnswer limit Means part reader at old new result → Went (walk_of reader.unclosed old) new
+went limit Means part reader at old new (Ok r) got = went_by got.gives
+went limit Means part reader at old new (Err e) refused = refused.went
+
+pub went_on : {T : Type 0} (limit : ℕ) (Means : Sense → Derivation → T → Type 0) (part : GamsPart) {old_names old_labels new_names new_labels : List (List ℕ)} (reader : Reader) (at : ℕ) (old new : Tables) (result : Result (T × ℕ) SyntaxFaultOrMemory) →
+    old.names ≡ old_names → old.labels ≡ old_labels → new_names ≡ new.names → new_labels ≡ new.labels → IsAnswer limit Means part reader at old new result → GoesOn old_names new_names × GoesOn old_labels new_labels
+went_on limit Means part {old_names} {old_labels} {new_names} {new_labels} reader at old new result a b c d answer =
+    let w = went limit Means part reader at old new result answer in
+    (subst (λ ns. GoesOn ns new_names) a (subst (λ ns. GoesOn old.names ns) (sym c) w.0), subst (λ ls. GoesOn ls new_labels) b (subst (λ ls. GoesOn old.labels ls) (sym d) w.1))

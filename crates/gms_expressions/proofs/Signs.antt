@@ -18,7 +18,7 @@ use Rattle.gms_expressions.specs.declared.reader.Tables.{Tables}
 use Rattle.gms_expressions.specs.ExpressionTrees.{with_sign, negated_by}
 use Rattle.gms_expressions.specs.Nodes.{view}
 use Rattle.gms_expressions.specs.Readings.{GamsPart, Meaning, Refuses, Sense, IsGot, IsMeant, IsSigned, IsNegated, IsNext, seen_from, walk_of}
-use Rattle.gms_expressions.proofs.Steps.{gives_both, gives_the, gives_left, gives_right, refuses_second}
+use Rattle.gms_expressions.proofs.Steps.{got_by, gives_both, gives_the, gives_left, gives_right, refuses_second}
 use Rattle.gms_expressions.proofs.TokenKinds.{is_plain, implies}
 use Rattle.gms_expressions.proofs.Nexts.{gives_next}
 use Rattle.gms_expressions.proofs.Chains.{in_sense}
@@ -37,69 +37,41 @@ module _ {F : Type 0} {value : F → Number} {limit : ℕ} {reader : Reader} {at
   pub signed_got : {minus : Bool} (s : IsSigned reader at minus start) (got : IsGot limit (IsMeant value reader.source.now inner) sub reader start old new operand next) →
       view value e ≡ cond minus (negated (view value operand)) (view value operand) → ((sense : Sense) → in_sense reader.source.now whole sense (pair s.tree got.tree) ≡ with_sign s.tree (in_sense reader.source.now inner sense got.tree)) →
       IsGot limit (IsMeant value reader.source.now whole) (opt (token Sign) · sub) reader at old new e next
-  signed_got s got is shape = record {
-    tree = pair s.tree got.tree;
-    gives = gives_both (s.gives limit old) got.gives;
-    means = λ sense k. record { is = is ∙ sym (s.means (view value operand)) ∙ ap (with_sign s.tree) (got.means sense k).is ∙ sym (shape sense) };
-    further = (let f = got.further in let g = s.further in omega arith);
-  }
+  signed_got s got is shape = got_by (gives_both (s.gives limit old) got.gives) (λ sense k. record { is = is ∙ sym (s.means (view value operand)) ∙ ap (with_sign s.tree) (got.means sense k).is ∙ sym (shape sense) })
+      (let f = got.further in let g = s.further in omega arith)
 
   -- behind `not`, or none
   pub negated_got : {not : Bool} (s : IsNegated reader at not start) (got : IsGot limit (IsMeant value reader.source.now inner) sub reader start old new operand next) →
       view value e ≡ cond not (not_so (view value operand)) (view value operand) → ((sense : Sense) → in_sense reader.source.now whole sense (pair s.tree got.tree) ≡ negated_by s.tree (in_sense reader.source.now inner sense got.tree)) →
       IsGot limit (IsMeant value reader.source.now whole) (opt (token Not) · sub) reader at old new e next
-  negated_got s got is shape = record {
-    tree = pair s.tree got.tree;
-    gives = gives_both (s.gives limit old) got.gives;
-    means = λ sense k. record { is = is ∙ sym (s.means (view value operand)) ∙ ap (negated_by s.tree) (got.means sense k).is ∙ sym (shape sense) };
-    further = (let f = got.further in let g = s.further in omega arith);
-  }
+  negated_got s got is shape = got_by (gives_both (s.gives limit old) got.gives) (λ sense k. record { is = is ∙ sym (s.means (view value operand)) ∙ ap (negated_by s.tree) (got.means sense k).is ∙ sym (shape sense) })
+      (let f = got.further in let g = s.further in omega arith)
 
-module _ {limit : ℕ} {reader : Reader} {at start : ℕ} {sub : GamsPart} {e : SyntaxFaultOrMemory} where
-  pub signed_refuses : {minus : Bool} (tables : Tables) → IsSigned reader at minus start → Refuses limit reader.source.now sub (walk_of reader.unclosed tables) (seen_from reader start) e →
-      Refuses limit reader.source.now (opt (token Sign) · sub) (walk_of reader.unclosed tables) (seen_from reader at) e
+module _ {limit : ℕ} {reader : Reader} {at start : ℕ} {sub : GamsPart} {last : Tables} {e : SyntaxFaultOrMemory} where
+  pub signed_refuses : {minus : Bool} (tables : Tables) → IsSigned reader at minus start → Refuses limit reader.source.now sub last (walk_of reader.unclosed tables) (seen_from reader start) e →
+      Refuses limit reader.source.now (opt (token Sign) · sub) last (walk_of reader.unclosed tables) (seen_from reader at) e
   signed_refuses tables s r = refuses_second (s.gives limit tables) r
 
-  pub negated_refuses : {not : Bool} (tables : Tables) → IsNegated reader at not start → Refuses limit reader.source.now sub (walk_of reader.unclosed tables) (seen_from reader start) e →
-      Refuses limit reader.source.now (opt (token Not) · sub) (walk_of reader.unclosed tables) (seen_from reader at) e
+  pub negated_refuses : {not : Bool} (tables : Tables) → IsNegated reader at not start → Refuses limit reader.source.now sub last (walk_of reader.unclosed tables) (seen_from reader start) e →
+      Refuses limit reader.source.now (opt (token Not) · sub) last (walk_of reader.unclosed tables) (seen_from reader at) e
   negated_refuses tables s r = refuses_second (s.gives limit tables) r
 
 module _ {F : Type 0} {value : F → Number} {limit : ℕ} {reader : Reader} {at : ℕ} {old new : Tables} {inner whole : Meaning (Syntax Number)} {e : Expr F} {next : ℕ} where
   -- what was read of a production is a nonterminal's
   pub got_the : (n : Nonterminal) (got : IsGot limit (IsMeant value reader.source.now inner) (productions n) reader at old new e next) → ((sense : Sense) → in_sense reader.source.now whole sense (node got.tree) ≡ in_sense reader.source.now inner sense got.tree) →
       IsGot limit (IsMeant value reader.source.now whole) (the n) reader at old new e next
-  got_the n got shape = record {
-    tree = node got.tree;
-    gives = gives_the n got.gives;
-    means = λ sense k. record { is = (got.means sense k).is ∙ sym (shape sense) };
-    further = got.further;
-  }
+  got_the n got shape = got_by (gives_the n got.gives) (λ sense k. record { is = (got.means sense k).is ∙ sym (shape sense) }) got.further
 
   -- what was read behind a token
   pub got_behind : {test : Terminal → Bool} {sub : GamsPart} {start : ℕ} {t : Token} (n : IsNext test reader at t start) → implies test is_plain ≡ true → (got : IsGot limit (IsMeant value reader.source.now inner) sub reader start old new e next) →
       ((sense : Sense) → in_sense reader.source.now whole sense (pair (leaf (n.kind, t)) got.tree) ≡ in_sense reader.source.now inner sense got.tree) → IsGot limit (IsMeant value reader.source.now whole) (one test · sub) reader at old new e next
-  got_behind {t = t} n plain got shape = record {
-    tree = pair (leaf (n.kind, t)) got.tree;
-    gives = gives_both (gives_next old n plain) got.gives;
-    means = λ sense k. record { is = (got.means sense k).is ∙ sym (shape sense) };
-    further = (let f = got.further in let g = n.further in omega arith);
-  }
+  got_behind {t = t} n plain got shape = got_by (gives_both (gives_next old n plain) got.gives) (λ sense k. record { is = (got.means sense k).is ∙ sym (shape sense) }) (let f = got.further in let g = n.further in omega arith)
 
   -- what was read of one alternative
   pub got_left : {p q : GamsPart} → leads productions look_ahead p (seen_from reader at) ≡ true → (got : IsGot limit (IsMeant value reader.source.now inner) p reader at old new e next) →
       ((sense : Sense) → in_sense reader.source.now whole sense (left got.tree) ≡ in_sense reader.source.now inner sense got.tree) → IsGot limit (IsMeant value reader.source.now whole) (p ∣ q) reader at old new e next
-  got_left led got shape = record {
-    tree = left got.tree;
-    gives = gives_left led got.gives;
-    means = λ sense k. record { is = (got.means sense k).is ∙ sym (shape sense) };
-    further = got.further;
-  }
+  got_left led got shape = got_by (gives_left led got.gives) (λ sense k. record { is = (got.means sense k).is ∙ sym (shape sense) }) got.further
 
   pub got_right : {p q : GamsPart} → leads productions look_ahead p (seen_from reader at) ≡ false → leads productions look_ahead q (seen_from reader at) ≡ true → (got : IsGot limit (IsMeant value reader.source.now inner) q reader at old new e next) →
       ((sense : Sense) → in_sense reader.source.now whole sense (right got.tree) ≡ in_sense reader.source.now inner sense got.tree) → IsGot limit (IsMeant value reader.source.now whole) (p ∣ q) reader at old new e next
-  got_right unled led got shape = record {
-    tree = right got.tree;
-    gives = gives_right unled led got.gives;
-    means = λ sense k. record { is = (got.means sense k).is ∙ sym (shape sense) };
-    further = got.further;
-  }
+  got_right unled led got shape = got_by (gives_right unled led got.gives) (λ sense k. record { is = (got.means sense k).is ∙ sym (shape sense) }) got.further

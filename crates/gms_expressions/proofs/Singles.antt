@@ -1,5 +1,5 @@
 -- What the steps over single tokens say.
-use Rattle.std.proofs.Common.{◌≡◌, ℕ, ◌≤◌, Bool, true, false, cond, List, [], ◌∷◌, refl, sym, ap, ◌∙◌, subst, arith, inl, inr, Err}
+use Rattle.std.proofs.Common.{◌≡◌, ℕ, ◌≤◌, Bool, true, false, cond, List, [], ◌∷◌, refl, sym, ap, ◌∙◌, subst, arith, Err}
 use Rattle.gq_number.specs.Number.{Number}
 use Rattle.gq_text.specs.declared.fault.NumberFault.{NumberFault}
 use Rattle.gq_text.specs.declared.fault.NumberFault.TheVariants.{Shape, Limit}
@@ -11,28 +11,25 @@ use Rattle.gms_ast.specs.declared.expression.Suffix.TheVariants as suffix
 use Rattle.gms_ast.specs.Trees.{negated}
 use Rattle.gms_lex.specs.declared.token.Token.{Token}
 use Rattle.gms_lex.specs.TokenTexts.{token_text}
-use Rattle.gms_grammar.specs.declared.terminal.Terminal.{Terminal}
 use Rattle.gms_grammar.specs.declared.terminal.Terminal.TheVariants.{LeftParen, Sign, Not, Dot, Suffix}
-use Rattle.gms_grammar.specs.Grammar.{one, the, opt, leaf, pair, none, some, node}
+use Rattle.gms_grammar.specs.Grammar.{the, opt, leaf, none, some}
 use Rattle.gms_grammar.specs.Reading.{leads}
 use Rattle.gms_grammar.specs.Terminals.{is, is_among}
 use Rattle.gms_grammar.specs.GamsGrammar.{Attribute, productions, token}
 use Rattle.gms_grammar.specs.GamsLookAhead.{look_ahead}
-use Rattle.gms_expressions.specs.declared.fault.SyntaxError.{SyntaxError}
+use Rattle.gms_expressions.specs.declared.fault.SyntaxFault.{SyntaxFault}
 use Rattle.gms_expressions.specs.declared.fault.SyntaxError.TheVariants.{Depth}
 use Rattle.gms_expressions.specs.declared.fault.SyntaxFaultOrMemory.{SyntaxFaultOrMemory}
 use Rattle.gms_expressions.specs.declared.fault.SyntaxFaultOrMemory.TheVariants.{Fault}
 use Rattle.gms_expressions.specs.declared.reader.Reader.{Reader}
 use Rattle.gms_expressions.specs.declared.reader.Tables.{Tables}
 use Rattle.gms_expressions.specs.ExpressionTrees.{is_minus, suffix_of}
-use Rattle.gms_expressions.specs.Outcomes.{Walk, IsFaulty}
+use Rattle.gms_expressions.specs.Outcomes.{Walk, IsFaulty, deep, out_of_range, many_names, many_labels}
 use Rattle.gms_expressions.specs.Readings.{Seen, Gives, Refuses, IsGot, IsNext, IsLacking, IsUnopened, IsSigned, IsNegated, IsSuffix, seen_from, walk_of, kind_of}
 use Rattle.gms_expressions.proofs.TokenKinds.{leads_by_kind, same_test}
-use Rattle.gms_expressions.proofs.Steps.{gives_one, gives_the, gives_both, gives_none, gives_some, refuses_the, refuses_second, refuses_some, refuses_token, takes_next}
-use Rattle.gms_expressions.proofs.Nexts.{gives_next, exact, refuses_lacking}
-
-led_next : {test : Terminal → Bool} {reader : Reader} {at behind : ℕ} {t : Token} → IsNext test reader at t behind → leads productions look_ahead (one test) (seen_from reader at) ≡ true
-led_next {test = test} n = ap (leads productions look_ahead (one test)) n.is ∙ n.passes
+use Rattle.gms_expressions.proofs.Steps.{got_by, gives_one, gives_the, gives_both, gives_none, gives_some, refuses_the, refuses_second, refuses_some, refuses_token, takes_next}
+use Rattle.gms_expressions.proofs.Nexts.{gives_next, led_next, exact, lacking_behind, refuses_lacking}
+use Rattle.gms_expressions.proofs.Going.{went_same}
 
 -- a sign, and none
 pub sign_read : {reader : Reader} {at behind : ℕ} {t : Token} (minus : Bool) → IsNext (is Sign) reader at t behind → minus ≡ is_minus t.kind → IsSigned reader at minus behind
@@ -63,7 +60,7 @@ pub unopened_lacking : {reader : Reader} {at : ℕ} {e : SyntaxFaultOrMemory} �
 unopened_lacking l = record { refuses = λ limit tables. refuses_lacking l }
 
 pub unopened_deep : {reader : Reader} {at behind : ℕ} {t : Token} {e : SyntaxFaultOrMemory} → IsNext (is LeftParen) reader at t behind → 100 ≤ reader.unclosed → e ≡ Fault (record { error = Depth; at = t.at }) → IsUnopened reader at e
-unopened_deep n deep is = record { refuses = λ limit tables. refuses_token (takes_next (exact n) refl) (inl (refl, deep, refl)) is }
+unopened_deep n many is = record { refuses = λ limit tables. refuses_token (went_same tables) (takes_next (exact n) refl) (deep refl many) is }
 
 -- the walk behind a dot
 dotted : ℕ → Tables → Walk
@@ -74,49 +71,41 @@ gives_dot : {limit : ℕ} {reader : Reader} {at behind : ℕ} {t : Token} (table
 unfolding dotted
 gives_dot {limit = limit} {reader = reader} {t = t} tables n = gives_one (exact n) refl sound refl
   where
-    sound : (error : SyntaxError) → IsFaulty limit reader.source.now (walk_of reader.unclosed tables) (Dot, t) error → ⊥
-    sound error (inl f) = let e = f.0 in cc
-    sound error (inr (inl f)) = let e = f.0 in cc
-    sound error (inr (inr (inl f))) = let e = f.0 in cc
-    sound error (inr (inr (inr f))) = let e = f.0 in cc
+    sound : (fault : SyntaxFault) → IsFaulty limit reader.source.now (walk_of reader.unclosed tables) (Dot, t) fault → ⊥
+    sound fault (deep e d) = cc
+    sound fault (out_of_range e d) = cc
+    sound fault (many_names n d) = cc
+    sound fault (many_labels e d) = cc
 
 gives_suffix : {limit : ℕ} {reader : Reader} {at behind : ℕ} {t : Token} (tables : Tables) → IsNext (is Suffix) reader at t behind →
     Gives limit reader.source.now (token Suffix) (dotted reader.unclosed tables) (seen_from reader at) (leaf (Suffix, t)) (walk_of reader.unclosed tables) (seen_from reader behind)
 unfolding dotted
 gives_suffix {limit = limit} {reader = reader} {t = t} tables n = gives_one (exact n) refl sound refl
   where
-    sound : (error : SyntaxError) → IsFaulty limit reader.source.now (dotted reader.unclosed tables) (Suffix, t) error → ⊥
-    sound error (inl f) = let e = f.0 in cc
-    sound error (inr (inl f)) = let e = f.0 in cc
-    sound error (inr (inr (inl f))) = let e = f.0 in cc
-    sound error (inr (inr (inr f))) = let e = f.0 in cc
+    sound : (fault : SyntaxFault) → IsFaulty limit reader.source.now (dotted reader.unclosed tables) (Suffix, t) fault → ⊥
+    sound fault (deep e d) = cc
+    sound fault (out_of_range e d) = cc
+    sound fault (many_names n d) = cc
+    sound fault (many_labels e d) = cc
 
-leads_attribute : (ts : List Seen) → leads productions look_ahead (the Attribute) ts ≡ leads productions look_ahead (token Dot) ts
+pub leads_attribute : (ts : List Seen) → leads productions look_ahead (the Attribute) ts ≡ leads productions look_ahead (token Dot) ts
 leads_attribute ts = leads_by_kind (the Attribute) ts refl ∙ same_test (is_among (Dot ∷ [])) (is Dot) refl (kind_of ts) ∙ sym (leads_by_kind (token Dot) ts refl)
 
 -- no suffix
 pub suffix_none : (limit : ℕ) (tables : Tables) (reader : Reader) (at : ℕ) → leads productions look_ahead (token Dot) (seen_from reader at) ≡ false → IsGot limit (IsSuffix reader.source.now) (opt (the Attribute)) reader at tables tables suffix.None at
-suffix_none limit tables reader at unled = record {
-  tree = none;
-  gives = gives_none (leads_attribute (seen_from reader at) ∙ unled);
-  means = λ sense s. refl;
-  further = omega arith;
-}
+suffix_none limit tables reader at unled = got_by (gives_none (leads_attribute (seen_from reader at) ∙ unled)) (λ sense s. refl) (omega arith)
 
 -- a suffix
 pub suffix_got : (limit : ℕ) (tables : Tables) {reader : Reader} {at middle behind : ℕ} {dot word : Token} (found : SuffixNode) → IsNext (is Dot) reader at dot middle → IsNext (is Suffix) reader middle word behind → found ≡ suffix_of (token_text reader.source.now word) →
     IsGot limit (IsSuffix reader.source.now) (opt (the Attribute)) reader at tables tables found behind
-suffix_got limit tables {reader = reader} {at = at} {dot = dot} {word = word} found n m is = record {
-  tree = some (node (pair (leaf (Dot, dot)) (leaf (Suffix, word))));
-  gives = gives_some (leads_attribute (seen_from reader at) ∙ led_next n) (gives_the Attribute (gives_both (gives_dot tables n) (gives_suffix tables m)));
-  means = λ sense s. is;
-  further = (let g = n.further in let h = m.further in omega arith);
-}
+suffix_got limit tables {reader = reader} {at = at} {dot = dot} {word = word} found n m is = got_by (gives_some (leads_attribute (seen_from reader at) ∙ led_next n) (gives_the Attribute (gives_both (gives_dot tables n) (gives_suffix tables m))))
+    (λ sense s. is) (let g = n.further in let h = m.further in omega arith)
 
 -- no suffix behind a dot
 pub suffix_refused : (limit : ℕ) (tables : Tables) {reader : Reader} {at middle : ℕ} {dot : Token} {e : SyntaxFaultOrMemory} → IsNext (is Dot) reader at dot middle → IsLacking (is Suffix) reader middle e →
-    Refuses limit reader.source.now (opt (the Attribute)) (walk_of reader.unclosed tables) (seen_from reader at) e
-suffix_refused limit tables {reader = reader} {at = at} n l = refuses_some (leads_attribute (seen_from reader at) ∙ led_next n) (refuses_the Attribute (refuses_second (gives_dot tables n) (refuses_lacking l)))
+    Refuses limit reader.source.now (opt (the Attribute)) tables (walk_of reader.unclosed tables) (seen_from reader at) e
+unfolding dotted
+suffix_refused limit tables {reader = reader} {at = at} n l = refuses_some (leads_attribute (seen_from reader at) ∙ led_next n) (refuses_the Attribute (refuses_second (gives_dot tables n) (lacking_behind (went_same tables) l)))
 
 -- a number that was not read fits no literal
 pub none_fits : {F : Type 0} (limit : ℕ) (value : F → Number) (text : List ℕ) (e : NumberFault) → Reads {F = F} limit value text (Err e) → (x : Number) → MeansNumber text x → FitsLiteral limit x → ⊥

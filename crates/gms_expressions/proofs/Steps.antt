@@ -1,154 +1,95 @@
--- How what was read of parts, or why they were refused, makes up that of larger parts.
-use Rattle.std.proofs.Common.{◌≡◌, ℕ, Bool, true, false, List, [], ◌∷◌, ◌++◌, refl, sym, ap, ◌∙◌, subst, inl, inr, append_assoc}
+-- How what was read of parts, or why they were refused, makes up that of larger parts, by the rule of faults of expressions.
+use Rattle.std.proofs.Common.{◌≡◌, ℕ, ◌≤◌, Bool, true, false, List, [], ◌∷◌}
 use Rattle.gms_grammar.specs.declared.terminal.Terminal.{Terminal}
-use Rattle.gms_grammar.specs.Grammar.{one, the, ◌·◌, ◌∣◌, opt, many, leaf, pair, left, right, none, some, more, node, yield}
-use Rattle.gms_grammar.specs.Reading.{read, stuck, leads, Reads, Takes, taken, entered, entered_stuck, both, first_stuck, second_stuck, in_left, in_left_stuck, in_right, in_right_stuck, left_out, there, there_stuck, no_more, again, again_stuck, later_stuck, takes_one, takes_the, takes_first, takes_second, takes_left, takes_right, takes_opt, takes_many, takes_later}
+use Rattle.gms_grammar.specs.Grammar.{one, the, ◌·◌, ◌∣◌, opt, many, leaf, pair, more, node}
+use Rattle.gms_grammar.specs.Reading.{stuck, leads, Reads, Takes}
 use Rattle.gms_grammar.specs.GamsGrammar.{Nonterminal, productions}
 use Rattle.gms_grammar.specs.GamsLookAhead.{look_ahead}
-use Rattle.gms_expressions.specs.declared.fault.SyntaxError.{SyntaxError}
+use Rattle.gms_grammar.proofs.Rules as steps
+use Rattle.gms_grammar.proofs.Eithers as eithers
+pub use Rattle.gms_grammar.proofs.Rules.{gives_both, gives_the, gives_left, gives_right, gives_none, gives_some, gives_no_more, gives_again, takes_next}
 use Rattle.gms_expressions.specs.declared.fault.SyntaxFault.{SyntaxFault}
 use Rattle.gms_expressions.specs.declared.fault.SyntaxFaultOrMemory.{SyntaxFaultOrMemory}
 use Rattle.gms_expressions.specs.declared.fault.SyntaxFaultOrMemory.TheVariants.{Fault, Memory}
-use Rattle.gms_expressions.specs.Outcomes.{Walk, walk_after, walk_behind, AreSound, IsFaulty, unexpected_error, next_place}
-use Rattle.gms_expressions.specs.Readings.{Seen, Derivation, GamsPart, Gives, IsStuck, IsWrong, Refuses}
-use Rattle.gms_expressions.proofs.Walks.{walk_append, sound_append}
-
-module _ {limit : ℕ} {source : List ℕ} where
-  -- what is sound behind a part is sound behind its tokens
-  onward : {p : GamsPart} {w v : Walk} {ts rest : List Seen} {a : Derivation} → Gives limit source p w ts a v rest → (u : List Seen) → AreSound limit source v u → AreSound limit source w (yield a ++ u)
-  onward {w = w} {a = a} g u h = sound_append limit source w (yield a) u g.are_sound (subst (λ x. AreSound limit source x u) g.leaves h)
-
-  walk_on : {p : GamsPart} {w v : Walk} {ts rest : List Seen} {a : Derivation} → Gives limit source p w ts a v rest → (u : List Seen) → walk_behind source v u ≡ walk_behind source w (yield a ++ u)
-  walk_on {w = w} {a = a} g u = ap (λ x. walk_behind source x u) g.leaves ∙ sym (walk_append source w (yield a) u)
-
-  -- parts that were read
-  pub gives_both : {p q : GamsPart} {w v x : Walk} {ts between rest : List Seen} {a b : Derivation} →
-      Gives limit source p w ts a v between → Gives limit source q v between b x rest → Gives limit source (p · q) w ts (pair a b) x rest
-  gives_both {b = b} g h = record { reads = both g.reads h.reads; are_sound = onward g (yield b) h.are_sound; leaves = h.leaves ∙ walk_on g (yield b) }
-
-  pub gives_the : (n : Nonterminal) {w v : Walk} {ts rest : List Seen} {a : Derivation} → Gives limit source (productions n) w ts a v rest → Gives limit source (the n) w ts (node a) v rest
-  gives_the n g = record { reads = entered g.reads; are_sound = g.are_sound; leaves = g.leaves }
-
-  pub gives_left : {p q : GamsPart} {w v : Walk} {ts rest : List Seen} {a : Derivation} → leads productions look_ahead p ts ≡ true → Gives limit source p w ts a v rest → Gives limit source (p ∣ q) w ts (left a) v rest
-  gives_left h g = record { reads = in_left h g.reads; are_sound = g.are_sound; leaves = g.leaves }
-
-  pub gives_right : {p q : GamsPart} {w v : Walk} {ts rest : List Seen} {a : Derivation} → leads productions look_ahead p ts ≡ false → leads productions look_ahead q ts ≡ true → Gives limit source q w ts a v rest → Gives limit source (p ∣ q) w ts (right a) v rest
-  gives_right h k g = record { reads = in_right h k g.reads; are_sound = g.are_sound; leaves = g.leaves }
-
-  pub gives_none : {p : GamsPart} {w : Walk} {ts : List Seen} → leads productions look_ahead p ts ≡ false → Gives limit source (opt p) w ts none w ts
-  gives_none h = record { reads = left_out h; are_sound = tt; leaves = refl }
-
-  pub gives_some : {p : GamsPart} {w v : Walk} {ts rest : List Seen} {a : Derivation} → leads productions look_ahead p ts ≡ true → Gives limit source p w ts a v rest → Gives limit source (opt p) w ts (some a) v rest
-  gives_some h g = record { reads = there h g.reads; are_sound = g.are_sound; leaves = g.leaves }
-
-  pub gives_no_more : {p : GamsPart} {w : Walk} {ts : List Seen} → leads productions look_ahead p ts ≡ false → Gives limit source (many p) w ts none w ts
-  gives_no_more h = record { reads = no_more h; are_sound = tt; leaves = refl }
-
-  pub gives_again : {p : GamsPart} {w v x : Walk} {ts between rest : List Seen} {a b : Derivation} → leads productions look_ahead p ts ≡ true →
-      Gives limit source p w ts a v between → Gives limit source (many p) v between b x rest → Gives limit source (many p) w ts (more a b) x rest
-  gives_again {b = b} l g h = record { reads = again l g.reads h.reads; are_sound = onward g (yield b) h.are_sound; leaves = h.leaves ∙ walk_on g (yield b) }
-
-  -- parts that were refused: each cause is handed on
-  pub by_cause : {p q : GamsPart} {w v : Walk} {ts us : List Seen} {e : SyntaxFaultOrMemory} →
-      Refuses limit source p w ts e →
-      ((fault : SyntaxFault) → IsStuck limit source p w ts fault → IsStuck limit source q v us fault) →
-      ((fault : SyntaxFault) → IsWrong limit source p w ts fault → IsWrong limit source q v us fault) → Refuses limit source q v us e
-  by_cause r f g = record { why = λ fault is. elim (r.why fault is) [ inl s ↦ inl (f fault s) | inr s ↦ inr (g fault s) ] }
-
-  -- a token is wrong, or unexpected, within a larger part that goes over the same tokens
-  pub wrong_as : {p q : GamsPart} {w : Walk} {ts : List Seen} {fault : SyntaxFault} → (s : IsWrong limit source p w ts fault) → Takes productions look_ahead q ts (s.before ++ s.token ∷ []) s.behind → IsWrong limit source q w ts fault
-  wrong_as s t = record { before = s.before; token = s.token; behind = s.behind; takes = t; are_sound = s.are_sound; is_faulty = s.is_faulty; at = s.at }
-
-  pub stuck_as : {p q : GamsPart} {w : Walk} {ts : List Seen} {fault : SyntaxFault} → (s : IsStuck limit source p w ts fault) → Reads productions look_ahead q ts (stuck s.front s.rest) → IsStuck limit source q w ts fault
-  stuck_as s r = record { front = s.front; rest = s.rest; reads = r; are_sound = s.are_sound; error = s.error; at = s.at }
-
-  -- the same behind a part
-  wrong_behind : {p q r : GamsPart} {w v : Walk} {ts between : List Seen} {a : Derivation} {fault : SyntaxFault} → Gives limit source p w ts a v between → (s : IsWrong limit source q v between fault) →
-      Takes productions look_ahead r ts (yield a ++ (s.before ++ s.token ∷ [])) s.behind → IsWrong limit source r w ts fault
-  wrong_behind {r = r} {ts = ts} {a = a} {fault = fault} g s t = record {
-    before = yield a ++ s.before;
-    token = s.token;
-    behind = s.behind;
-    takes = subst (λ x. Takes productions look_ahead r ts x s.behind) (sym (append_assoc (yield a) s.before (s.token ∷ []))) t;
-    are_sound = onward g s.before s.are_sound;
-    is_faulty = subst (λ x. IsFaulty limit source x s.token fault.error) (walk_on g s.before) s.is_faulty;
-    at = s.at;
-  }
-
-  stuck_behind : {p q r : GamsPart} {w v : Walk} {ts between : List Seen} {a : Derivation} {fault : SyntaxFault} → Gives limit source p w ts a v between → (s : IsStuck limit source q v between fault) →
-      Reads productions look_ahead r ts (stuck (yield a ++ s.front) s.rest) → IsStuck limit source r w ts fault
-  stuck_behind {a = a} g s r = record { front = yield a ++ s.front; rest = s.rest; reads = r; are_sound = onward g s.front s.are_sound; error = s.error; at = s.at }
-
-  pub refuses_first : {p q : GamsPart} {w : Walk} {ts : List Seen} {e : SyntaxFaultOrMemory} → Refuses limit source p w ts e → Refuses limit source (p · q) w ts e
-  refuses_first r = by_cause r (λ fault s. stuck_as s (first_stuck s.reads)) (λ fault s. wrong_as s (takes_first s.takes))
-
-  pub refuses_second : {p q : GamsPart} {w v : Walk} {ts between : List Seen} {a : Derivation} {e : SyntaxFaultOrMemory} → Gives limit source p w ts a v between → Refuses limit source q v between e → Refuses limit source (p · q) w ts e
-  refuses_second g r = by_cause r (λ fault s. stuck_behind g s (second_stuck g.reads s.reads)) (λ fault s. wrong_behind g s (takes_second g.reads s.takes))
-
-  pub refuses_the : (n : Nonterminal) {w : Walk} {ts : List Seen} {e : SyntaxFaultOrMemory} → Refuses limit source (productions n) w ts e → Refuses limit source (the n) w ts e
-  refuses_the n r = by_cause r (λ fault s. stuck_as s (entered_stuck s.reads)) (λ fault s. wrong_as s (takes_the s.takes))
-
-  pub refuses_left : {p q : GamsPart} {w : Walk} {ts : List Seen} {e : SyntaxFaultOrMemory} → leads productions look_ahead p ts ≡ true → Refuses limit source p w ts e → Refuses limit source (p ∣ q) w ts e
-  refuses_left h r = by_cause r (λ fault s. stuck_as s (in_left_stuck h s.reads)) (λ fault s. wrong_as s (takes_left s.takes))
-
-  pub refuses_right : {p q : GamsPart} {w : Walk} {ts : List Seen} {e : SyntaxFaultOrMemory} → leads productions look_ahead p ts ≡ false → leads productions look_ahead q ts ≡ true → Refuses limit source q w ts e → Refuses limit source (p ∣ q) w ts e
-  refuses_right h k r = by_cause r (λ fault s. stuck_as s (in_right_stuck h k s.reads)) (λ fault s. wrong_as s (takes_right s.takes))
-
-  pub refuses_some : {p : GamsPart} {w : Walk} {ts : List Seen} {e : SyntaxFaultOrMemory} → leads productions look_ahead p ts ≡ true → Refuses limit source p w ts e → Refuses limit source (opt p) w ts e
-  refuses_some h r = by_cause r (λ fault s. stuck_as s (there_stuck h s.reads)) (λ fault s. wrong_as s (takes_opt s.takes))
-
-  pub refuses_again : {p : GamsPart} {w : Walk} {ts : List Seen} {e : SyntaxFaultOrMemory} → leads productions look_ahead p ts ≡ true → Refuses limit source p w ts e → Refuses limit source (many p) w ts e
-  refuses_again h r = by_cause r (λ fault s. stuck_as s (again_stuck h s.reads)) (λ fault s. wrong_as s (takes_many s.takes))
-
-  pub refuses_later : {p : GamsPart} {w v : Walk} {ts between : List Seen} {a : Derivation} {e : SyntaxFaultOrMemory} → leads productions look_ahead p ts ≡ true → Gives limit source p w ts a v between → Refuses limit source (many p) v between e → Refuses limit source (many p) w ts e
-  refuses_later l g r = by_cause r (λ fault s. stuck_behind g s (later_stuck l g.reads s.reads)) (λ fault s. wrong_behind g s (takes_later g.reads s.takes))
-
-  -- nothing of a part was read, since the next token is unexpected
-  pub refuses_at : {p : GamsPart} {w : Walk} {ts : List Seen} {e : SyntaxFaultOrMemory} → Reads productions look_ahead p ts (stuck [] ts) →
-      e ≡ Fault (record { error = unexpected_error ts; at = next_place source ts }) → Refuses limit source p w ts e
-  refuses_at {ts = ts} r is = record {
-    why = λ fault k.
-        let same : fault ≡ record { error = unexpected_error ts; at = next_place source ts } = cc in
-        inl (record { front = []; rest = ts; reads = r; are_sound = tt; error = ap (λ f. f.error) same; at = ap (λ f. f.at) same });
-  }
-
-  -- the first token has an error
-  pub refuses_token : {p : GamsPart} {w : Walk} {ts rest : List Seen} {token : Seen} {error : SyntaxError} {e : SyntaxFaultOrMemory} → Takes productions look_ahead p ts (token ∷ []) rest →
-      IsFaulty limit source w token error → e ≡ Fault (record { error = error; at = token.1.at }) → Refuses limit source p w ts e
-  refuses_token {w = w} {rest = rest} {token = token} {error = error} t f is = record {
-    why = λ fault k.
-        let same : fault ≡ record { error = error; at = token.1.at } = cc in
-        inr (record { before = []; token = token; behind = rest; takes = t; are_sound = tt; is_faulty = subst (λ (x : SyntaxError). IsFaulty limit source w token x) (sym (ap (λ f. f.error) same)) f; at = ap (λ f. f.at) same });
-  }
-
-  -- want of memory
-  pub refuses_memory : {p : GamsPart} {w : Walk} {ts : List Seen} {e : SyntaxFaultOrMemory} → e ≡ Memory → Refuses limit source p w ts e
-  refuses_memory h = record { why = λ fault is. cc }
-
-  -- one token was read
-  pub gives_one : {test : Terminal → Bool} {w v : Walk} {ts rest : List Seen} {token : Seen} → ts ≡ token ∷ rest → test token.0 ≡ true →
-      ((error : SyntaxError) → IsFaulty limit source w token error → ⊥) → v ≡ walk_after source w token → Gives limit source (one test) w ts (leaf token) v rest
-  gives_one {test = test} {rest = rest} {token = token} is h sound l =
-      record { reads = subst (λ u. Reads productions look_ahead (one test) u (read (leaf token) rest)) (sym is) (taken h); are_sound = (sound, tt); leaves = l }
-
--- one token was gone over
-pub takes_next : {test : Terminal → Bool} {ts rest : List Seen} {token : Seen} → ts ≡ token ∷ rest → test token.0 ≡ true → Takes productions look_ahead (one test) ts (token ∷ []) rest
-takes_next {test = test} {rest = rest} {token = token} is h = subst (λ u. Takes productions look_ahead (one test) u (token ∷ []) rest) (sym is) (takes_one h)
+use Rattle.gms_expressions.specs.Outcomes.{Walk, syntax_rule, walk_after, IsFaulty, unexpected}
+use Rattle.gms_expressions.specs.declared.reader.Reader.{Reader}
+use Rattle.gms_expressions.specs.declared.reader.Tables.{Tables}
+use Rattle.gms_expressions.specs.Readings.{Seen, Derivation, GamsPart, Gives, Went, Refuses, Sense, IsSense, IsGot, seen_from, walk_of}
+use Rattle.gms_expressions.proofs.Going.{went_then}
 
 -- where a part is to be read within a larger one, and the tree around its tree
 pub record Within (limit : ℕ) (source : List ℕ) (part : GamsPart) (w : Walk) (ts : List Seen) (inner : GamsPart) (v : Walk) (rest : List Seen) (context : Derivation → Derivation) : Type 0 where
-  pub gives : (a : Derivation) (x : Walk) (behind : List Seen) → Gives limit source inner v rest a x behind → Gives limit source part w ts (context a) x behind
-  pub refuses : (e : SyntaxFaultOrMemory) → Refuses limit source inner v rest e → Refuses limit source part w ts e
+  pub gives : (a : Derivation) (x : Walk) (last : List Seen) → Gives limit source inner v rest a x last → Gives limit source part w ts (context a) x last
+  pub refuses : (tables : Tables) (e : SyntaxFaultOrMemory) → Refuses limit source inner tables v rest e → Refuses limit source part tables w ts e
+
+-- a fault that is told is the one that was told
+told_once : {found : SyntaxFault} {e : SyntaxFaultOrMemory} → e ≡ Fault found → (fault : SyntaxFault) → e ≡ Fault fault → found ≡ fault
+told_once is fault k = cc
 
 module _ {limit : ℕ} {source : List ℕ} where
-  pub within_the : (n : Nonterminal) {w : Walk} {ts : List Seen} → Within limit source (the n) w ts (productions n) w ts node
-  within_the n = record { gives = λ a x behind g. gives_the n g; refuses = λ e r. refuses_the n r }
+  -- one token was read
+  pub gives_one : {test : Terminal → Bool} {w v : Walk} {ts rest : List Seen} {token : Seen} → ts ≡ token ∷ rest → test token.0 ≡ true →
+      ((fault : SyntaxFault) → IsFaulty limit source w token fault → ⊥) → v ≡ walk_after source w token → Gives limit source (one test) w ts (leaf token) v rest
+  gives_one is h sound l = steps.gives_one {rules = syntax_rule} {key = (limit, source)} is h sound l
 
-  pub within_second : {p q : GamsPart} {w v : Walk} {ts between : List Seen} {a : Derivation} → Gives limit source p w ts a v between → Within limit source (p · q) w ts q v between (λ b. pair a b)
-  within_second g = record { gives = λ a x behind h. gives_both g h; refuses = λ e r. refuses_second g r }
+  -- nothing of a part was read, since the next token is unexpected
+  pub refuses_at : {p : GamsPart} {tables : Tables} {w : Walk} {ts : List Seen} {e : SyntaxFaultOrMemory} → Went w tables → Reads productions look_ahead p ts (stuck [] ts) → e ≡ Fault (unexpected source ts) → Refuses limit source p tables w ts e
+  refuses_at went r is = record { why = steps.refuses_at {rules = syntax_rule} {key = (limit, source)} r (told_once is); went = went }
+
+  -- the first token has a fault
+  pub refuses_token : {p : GamsPart} {tables : Tables} {w : Walk} {ts rest : List Seen} {token : Seen} {found : SyntaxFault} {e : SyntaxFaultOrMemory} → Went w tables → Takes productions look_ahead p ts (token ∷ []) rest →
+      IsFaulty limit source w token found → e ≡ Fault found → Refuses limit source p tables w ts e
+  refuses_token went t f is = record { why = steps.refuses_token {rules = syntax_rule} {key = (limit, source)} t f (told_once is); went = went }
+
+  -- want of memory
+  pub refuses_memory : {p : GamsPart} {tables : Tables} {w : Walk} {ts : List Seen} {e : SyntaxFaultOrMemory} → Went w tables → e ≡ Memory → Refuses limit source p tables w ts e
+  refuses_memory {e = e} went h = record { why = record { why = λ fault k. let told : e ≡ Fault fault = k in cc }; went = went }
+
+  -- what a part refuses, a larger one does
+  pub refuses_the : (n : Nonterminal) {tables : Tables} {w : Walk} {ts : List Seen} {e : SyntaxFaultOrMemory} → Refuses limit source (productions n) tables w ts e → Refuses limit source (the n) tables w ts e
+  refuses_the n r = record { why = steps.refuses_the n r.why; went = r.went }
+
+  module _ {p : GamsPart} {tables : Tables} {w : Walk} {ts : List Seen} {e : SyntaxFaultOrMemory} where
+    pub refuses_first : {q : GamsPart} → Refuses limit source p tables w ts e → Refuses limit source (p · q) tables w ts e
+    refuses_first r = record { why = steps.refuses_first r.why; went = r.went }
+
+    pub refuses_left : {q : GamsPart} → leads productions look_ahead p ts ≡ true → Refuses limit source p tables w ts e → Refuses limit source (p ∣ q) tables w ts e
+    refuses_left h r = record { why = steps.refuses_left h r.why; went = r.went }
+
+    pub refuses_right : {q : GamsPart} → leads productions look_ahead q ts ≡ false → leads productions look_ahead p ts ≡ true → Refuses limit source p tables w ts e → Refuses limit source (q ∣ p) tables w ts e
+    refuses_right h k r = record { why = steps.refuses_right h k r.why; went = r.went }
+
+    pub refuses_some : leads productions look_ahead p ts ≡ true → Refuses limit source p tables w ts e → Refuses limit source (opt p) tables w ts e
+    refuses_some h r = record { why = steps.refuses_some h r.why; went = r.went }
+
+    pub refuses_again : leads productions look_ahead p ts ≡ true → Refuses limit source p tables w ts e → Refuses limit source (many p) tables w ts e
+    refuses_again h r = record { why = steps.refuses_again h r.why; went = r.went }
+
+  module _ {test : Terminal → Bool} {tables : Tables} {w : Walk} {ts : List Seen} {e : SyntaxFaultOrMemory} where
+    pub refuses_either : {q : GamsPart} → leads productions look_ahead q ts ≡ false → Refuses limit source (one test) tables w ts e → Refuses limit source (one test ∣ q) tables w ts e
+    refuses_either h r = record { why = eithers.refuses_either h r.why; went = r.went }
+
+    pub refuses_or : {p q : GamsPart} → leads productions look_ahead p ts ≡ false → Refuses limit source (one test) tables w ts e → Refuses limit source (p ∣ one test · q) tables w ts e
+    refuses_or h r = record { why = eithers.refuses_or h r.why; went = r.went }
+
+  module _ {p : GamsPart} {w v : Walk} {ts between : List Seen} {a : Derivation} (g : Gives limit source p w ts a v between) where
+    pub refuses_second : {q : GamsPart} {tables : Tables} {e : SyntaxFaultOrMemory} → Refuses limit source q tables v between e → Refuses limit source (p · q) tables w ts e
+    refuses_second r = record { why = steps.refuses_second g r.why; went = went_then g r.went }
+
+    -- a part that is read within another
+    pub within_second : {q : GamsPart} → Within limit source (p · q) w ts q v between (λ b. pair a b)
+    within_second = record { gives = λ b x last h. gives_both g h; refuses = λ tables e r. refuses_second r }
 
   pub within_again : {p : GamsPart} {w v : Walk} {ts between : List Seen} {a : Derivation} → leads productions look_ahead p ts ≡ true → Gives limit source p w ts a v between → Within limit source (many p) w ts (many p) v between (λ b. more a b)
-  within_again l g = record { gives = λ a x behind h. gives_again l g h; refuses = λ e r. refuses_later l g r }
+  within_again l g = record { gives = λ b x last h. gives_again l g h; refuses = λ tables e r. record { why = steps.refuses_later l g r.why; went = went_then g r.went } }
+
+  pub within_the : (n : Nonterminal) {w : Walk} {ts : List Seen} → Within limit source (the n) w ts (productions n) w ts node
+  within_the n = record { gives = λ a x last g. gives_the n g; refuses = λ tables e r. refuses_the n r }
 
   pub within_then : {p q s : GamsPart} {w v x : Walk} {ts us vs : List Seen} {c d : Derivation → Derivation} → Within limit source p w ts q v us c → Within limit source q v us s x vs d → Within limit source p w ts s x vs (λ b. c (d b))
-  within_then {d = d} h k = record { gives = λ a y behind g. h.gives (d a) y behind (k.gives a y behind g); refuses = λ e r. h.refuses e (k.refuses e r) }
+  within_then {d = d} h k = record { gives = λ a y last g. h.gives (d a) y last (k.gives a y last g); refuses = λ tables e r. h.refuses tables e (k.refuses tables e r) }
+
+-- A part was read at a place: what its tokens give, what was read of it means, and the place behind it.
+pub got_by : {T : Type 0} {limit : ℕ} {Means : Sense → Derivation → T → Type 0} {part : GamsPart} {reader : Reader} {at : ℕ} {old new : Tables} {x : T} {behind : ℕ} {tree : Derivation} →
+    Gives limit reader.source.now part (walk_of reader.unclosed old) (seen_from reader at) tree (walk_of reader.unclosed new) (seen_from reader behind) → ((sense : Sense) → IsSense new sense → Means sense tree x) → at ≤ behind → IsGot limit Means part reader at old new x behind
+got_by {tree = tree} gives means further = record { tree = tree; gives = gives; means = means; further = further }

@@ -14,13 +14,14 @@ use Rattle.gms_grammar.specs.GamsLookAhead.{look_ahead}
 use Rattle.gms_expressions.specs.declared.reader.Reader.{Reader}
 use Rattle.gms_expressions.specs.declared.reader.Tables.{Tables}
 use Rattle.gms_expressions.specs.declared.fault.SyntaxFaultOrMemory.{SyntaxFaultOrMemory}
+use Rattle.gms_expressions.specs.declared.fault.SyntaxFaultOrMemory.TheVariants.{Memory}
 use Rattle.gms_expressions.specs.ExpressionTrees.{or_alone, with_sign, place_in, sum_of, terms, product_of, guarded_of, guards, primary, condition}
 use Rattle.gms_expressions.specs.Outcomes.{next_place}
 use Rattle.gms_expressions.specs.Nodes.{view}
-use Rattle.gms_expressions.specs.Readings.{Seen, IsGot, IsMeant, IsSigned, Refuses, seen_from, walk_of, kind_of}
+use Rattle.gms_expressions.specs.Readings.{Seen, Derivation, GamsPart, Gives, IsGot, IsMeant, IsSigned, Refuses, seen_from, walk_of, kind_of}
 use Rattle.gms_expressions.proofs.TokenKinds.{leads_by_kind, same_test}
 use Rattle.gms_expressions.proofs.Steps.{within_the, within_second, within_then, gives_both}
-use Rattle.gms_expressions.proofs.Loops.{Looping, loop_on, loop_got, loop_refuses}
+use Rattle.gms_expressions.proofs.Loops.{Looping, loop_on, loop_got, loop_refuses, loop_memory}
 use Rattle.gms_expressions.proofs.Chains.{ChainFirst, in_sense, place_read, parts_before, parts_before_push, parts_before_all, or_some}
 
 module _ {F : Type 0} {value : F → Number} {limit : ℕ} {reader : Reader} {at : ℕ} {old new : Tables} where
@@ -29,7 +30,7 @@ module _ {F : Type 0} {value : F → Number} {limit : ℕ} {reader : Reader} {at
       view value first ≡ cond minus (negated (view value operand)) (view value operand) → place ≡ next_place reader.source.now (seen_from reader at) →
       ChainFirst limit (the Sum) (token Sign · the Product) sum_of terms sum_node (signed place false) (view value first) reader at old new next
   sum_first {operand = operand} {place = place} first s got is there =
-      let from : place_in (pair s.tree got.tree) ≡ place = place_read {p = opt (token Sign) · the Product} refl (gives_both (s.gives limit old) got.gives) ∙ sym there in
+      let from : place_in (pair s.tree got.tree) ≡ place = place_read (opt (token Sign) · the Product) refl (gives_both (s.gives limit old) got.gives) ∙ sym there in
       record {
         looping = record {
           context = λ b. node (pair s.tree (pair got.tree b));
@@ -89,6 +90,11 @@ module _ {F : Type 0} {value : F → Number} {limit : ℕ} {reader : Reader} {st
   })
 
 -- the next condition is refused
-pub guards_refuses : {limit : ℕ} {operand : Syntax Number} {views : List (Mark × Syntax Number)} {reader : Reader} {start : ℕ} {old new : Tables} {at : ℕ} {e : SyntaxFaultOrMemory} → Guards limit operand views reader start old new at → leads productions look_ahead (token Dollar) (seen_from reader at) ≡ true →
-    Refuses limit reader.source.now (the Condition) (walk_of reader.unclosed new) (seen_from reader at) e → Refuses limit reader.source.now (the Guarded) (walk_of reader.unclosed old) (seen_from reader start) e
+pub guards_refuses : {limit : ℕ} {operand : Syntax Number} {views : List (Mark × Syntax Number)} {reader : Reader} {start : ℕ} {old new last : Tables} {at : ℕ} {e : SyntaxFaultOrMemory} → Guards limit operand views reader start old new at → leads productions look_ahead (token Dollar) (seen_from reader at) ≡ true →
+    Refuses limit reader.source.now (the Condition) last (walk_of reader.unclosed new) (seen_from reader at) e → Refuses limit reader.source.now (the Guarded) last (walk_of reader.unclosed old) (seen_from reader start) e
 guards_refuses {reader = reader} {at = at} l led r = loop_refuses l.looping (leads_condition (seen_from reader at) ∙ led) r
+
+-- memory was wanting behind another condition
+pub guards_memory : {limit : ℕ} {operand : Syntax Number} {views : List (Mark × Syntax Number)} {reader : Reader} {start : ℕ} {old new last : Tables} {at : ℕ} {e : SyntaxFaultOrMemory} → Guards limit operand views reader start old new at → {p : GamsPart} {ts rest : List Seen} {tree : Derivation} →
+    Gives limit reader.source.now p (walk_of reader.unclosed new) ts tree (walk_of reader.unclosed last) rest → e ≡ Memory → Refuses limit reader.source.now (the Guarded) last (walk_of reader.unclosed old) (seen_from reader start) e
+guards_memory l g h = loop_memory l.looping g h

@@ -19,7 +19,7 @@ is_plain kind = not (is_among (LeftParen ∷ RightParen ∷ Name ∷ Suffix ∷ 
 abbrev pub implies : (Terminal → Bool) → (Terminal → Bool) → Bool
 implies test other = every terminals (λ kind. not (test kind) || other kind)
 
-implied : (a b : Bool) → (not a || b) ≡ true → a ≡ true → b ≡ true
+pub implied : (a b : Bool) → (not a || b) ≡ true → a ≡ true → b ≡ true
 implied true b h k = h
 implied false b h k = cc
 

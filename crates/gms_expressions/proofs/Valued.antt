@@ -2,11 +2,11 @@
 use Rattle.std.proofs.Common.{◌≡◌, ℕ, ◌+◌, ◌<◌, ◌==◌, ◌⊎◌, Bool, true, false, cond, List, [], ◌∷◌, ◌++◌, length, take, drop, refl, sym, ap, ap₂, ◌∙◌, subst, arith, inl, inr, ℤ, pos, neg_ℤ}
 use Rattle.std.specs.List.{prefix_len}
 use Rattle.std.specs.Char.{is_ascii_digit}
+use Rattle.std.proofs.lemmas.List.{append-nil}
 use Rattle.std.proofs.lemmas.Bool.Decides.{eqb_tells}
-use Rattle.gq_number.specs.Number.{Number}
 use Rattle.gq_text.specs.Numeral.{AreDigits, spelled}
 use Rattle.gq_text.specs.Decimal.{Decimal, number_of, IsSomeDigits, IsSigned, IsExponent, MeansNumber}
-use Rattle.gq_text.specs.Parts.{BeginsNoDigit, SplitsDigits, IsTail, Divides, SplitsSign, exponent_of}
+use Rattle.gq_text.specs.Parts.{BeginsNoDigit, SplitsDigits, Divides, SplitsSign, exponent_of}
 use Rattle.gq_text.proofs.Splits.{counted_digits, all_in_front, signed_digits as only_digits, IsSigned_from, Divides-from, Spells-from, one_division}
 use Rattle.gq_text.proofs.Readings.{no_digits, no_power}
 use Rattle.gms_expressions.specs.Valuations.{IsValuation, front_digits, behind_digits, point_digits, behind_point, signed_digits, exponent_in, number_in}
@@ -15,98 +15,12 @@ use Rattle.gms_expressions.specs.Valuations.{IsValuation, front_digits, behind_d
 abbrev pub Told : {X : Type 0} → (X → Type 0) → Type 0
 Told {X} P = ((x : X) × P x) ⊎ ((x : X) → ¬ P x)
 
-append_nil : (xs : List ℕ) → xs ++ [] ≡ xs
-append_nil [] = refl
-append_nil (x ∷ xs) = ap (λ (l : List ℕ). x ∷ l) (append_nil xs)
-
 -- ---- exponents
-
--- a sign in front, if there is one
-sign_of : (text : List ℕ) → (negative : Bool) × (digits : List ℕ) × SplitsSign text negative digits
-sign_of [] = (false, [], inr (inr (refl, refl, tt, tt)))
-sign_of (b ∷ bs) =
-    elim (eqb_tells b 45) [
-      | inl minus ↦ (true, bs, inl (ap (λ (z : ℕ). z ∷ bs) minus.1, refl))
-      | inr other ↦ elim (eqb_tells b 43) [
-        | inl plus ↦ (false, bs, inr (inl (ap (λ (z : ℕ). z ∷ bs) plus.1, refl)))
-        | inr none ↦ (false, b ∷ bs, inr (inr (refl, refl, other.1, none.1)))
-      ]
-    ]
 
 digits_told : (text digits rest : List ℕ) → SplitsDigits text digits rest → IsSomeDigits text ⊎ (¬ IsSomeDigits text)
 digits_told text [] rest p = inr (λ h. let front = all_in_front text [] rest p h.0 in let none : 0 ≡ length text = ap length front.0 in absurd (omega (arith, h.1)))
-digits_told text (b ∷ bs) [] p = inl (subst (λ l. IsSomeDigits l) (sym (p.text_is ∙ append_nil (b ∷ bs))) (p.are_digits, omega arith))
+digits_told text (b ∷ bs) [] p = inl (subst (λ l. IsSomeDigits l) (sym (p.text_is ∙ append-nil (b ∷ bs))) (p.are_digits, omega arith))
 digits_told text (b ∷ bs) (c ∷ cs) p = inr (λ h. let front = all_in_front text (b ∷ bs) (c ∷ cs) p h.0 in let none : length (c ∷ cs) ≡ 0 = ap length front.1 in absurd (omega arith))
-
-signed_told : (text : List ℕ) → Told (IsSigned text)
-signed_told text =
-    let s = sign_of text in
-    elim (digits_told s.1 (take (prefix_len is_ascii_digit s.1) s.1) (drop (prefix_len is_ascii_digit s.1) s.1) (counted_digits s.1)) [
-      | inl h ↦ inl (exponent_of s.0 s.1, IsSigned_from text s.1 s.0 s.2 h)
-      | inr none ↦ inr (λ e h. none (only_digits text s.1 s.0 e h s.2).0)
-    ]
-
-mark_told : (b : ℕ) → ((b ≡ 101) ⊎ (b ≡ 69)) ⊎ (¬ ((b ≡ 101) ⊎ (b ≡ 69)))
-mark_told b =
-    elim (eqb_tells b 101) [
-      | inl small ↦ inl (inl small.1)
-      | inr other ↦ elim (eqb_tells b 69) [
-        | inl large ↦ inl (inr large.1)
-        | inr none ↦ inr (λ h. elim h [ inl small ↦ other.1 small | inr large ↦ none.1 large ])
-      ]
-    ]
-
-exponent_told : (text : List ℕ) → Told (IsExponent text)
-exponent_told [] = inl (pos 0, refl)
-exponent_told (mark ∷ text) =
-    elim (mark_told mark) [
-      | inl m ↦ elim (signed_told text) [ inl s ↦ inl (s.0, (m, s.1)) | inr none ↦ inr (λ e h. none e h.1) ]
-      | inr other ↦ inr (λ e h. other h.0)
-    ]
-
--- ---- decimals
-
--- what stands behind the digits in front
-record Tail (tail : List ℕ) : Type 0 where
-  behind : List ℕ
-  rest : List ℕ
-  is_tail : IsTail tail behind rest
-  are_digits : AreDigits behind
-  all : BeginsNoDigit rest
-
-tail_of : (tail : List ℕ) → BeginsNoDigit tail → Tail tail
-tail_of [] stops = record { behind = []; rest = []; is_tail = inr (refl, refl, tt); are_digits = tt; all = tt }
-tail_of (b ∷ bs) stops =
-    elim (eqb_tells b 46) [
-      | inl dot ↦ let d = counted_digits bs in record {
-        behind = take (prefix_len is_ascii_digit bs) bs;
-        rest = drop (prefix_len is_ascii_digit bs) bs;
-        is_tail = inl (ap (λ (z : ℕ). z ∷ bs) dot.1 ∙ ap (λ (l : List ℕ). 46 ∷ l) d.text_is);
-        are_digits = d.are_digits;
-        all = d.all;
-      }
-      | inr other ↦ record { behind = []; rest = b ∷ bs; is_tail = inr (refl, refl, other.1); are_digits = tt; all = stops }
-    ]
-
-with_power : (text before behind rest : List ℕ) → Divides text before behind rest → 0 < length before + length behind → Told (IsExponent rest) → Told (MeansNumber text)
-with_power text before behind rest p some (inl e) =
-    let d : Decimal = record { before = before; behind = behind; exponent = e.0 } in
-    inl (number_of d, (d, Spells-from text rest d p some e.1, refl))
-with_power text before behind rest p some (inr none) = inr (λ x. no_power text before behind rest x p none)
-
-divided_told : (text before behind rest : List ℕ) → Divides text before behind rest → Told (MeansNumber text)
-divided_told text [] [] rest p = inr (λ x. no_digits text [] [] rest x p refl refl)
-divided_told text [] (c ∷ cs) rest p = with_power text [] (c ∷ cs) rest p (omega arith) (exponent_told rest)
-divided_told text (b ∷ bs) behind rest p = with_power text (b ∷ bs) behind rest p (omega arith) (exponent_told rest)
-
-pub number_told : (text : List ℕ) → Told (MeansNumber text)
-number_told text =
-    let front = counted_digits text in
-    let tail = tail_of (drop (prefix_len is_ascii_digit text) text) front.all in
-    divided_told text (take (prefix_len is_ascii_digit text) text) tail.behind tail.rest
-    (record { tail = drop (prefix_len is_ascii_digit text) text; text_is = front.text_is; before_digits = front.are_digits; behind_digits = tail.are_digits; tail_is = tail.is_tail; all = tail.all })
-
--- ---- values
 
 -- a text with a sign in front or none, and its whole number
 record SignTold (text : List ℕ) : Type 0 where
@@ -141,9 +55,33 @@ sign_told (b ∷ bs) =
       ]
     ]
 
-exponent_is : (text : List ℕ) (e : ℤ) → IsExponent text e → exponent_in text ≡ e
-exponent_is [] e h = sym h
-exponent_is (mark ∷ text) e h = let s = sign_told text in s.number ∙ sym (only_digits text s.digits s.negative e h.1 s.splits).1
+signed_told : (text : List ℕ) → Told (IsSigned text)
+signed_told text =
+    let s = sign_told text in
+    elim (digits_told s.digits (take (prefix_len is_ascii_digit s.digits) s.digits) (drop (prefix_len is_ascii_digit s.digits) s.digits) (counted_digits s.digits)) [
+      | inl h ↦ inl (exponent_of s.negative s.digits, IsSigned_from text s.digits s.negative s.splits h)
+      | inr none ↦ inr (λ e h. none (only_digits text s.digits s.negative e h s.splits).0)
+    ]
+
+mark_told : (b : ℕ) → ((b ≡ 101) ⊎ (b ≡ 69)) ⊎ (¬ ((b ≡ 101) ⊎ (b ≡ 69)))
+mark_told b =
+    elim (eqb_tells b 101) [
+      | inl small ↦ inl (inl small.1)
+      | inr other ↦ elim (eqb_tells b 69) [
+        | inl large ↦ inl (inr large.1)
+        | inr none ↦ inr (λ h. elim h [ inl small ↦ other.1 small | inr large ↦ none.1 large ])
+      ]
+    ]
+
+exponent_told : (text : List ℕ) → Told (IsExponent text)
+exponent_told [] = inl (pos 0, refl)
+exponent_told (mark ∷ text) =
+    elim (mark_told mark) [
+      | inl m ↦ elim (signed_told text) [ inl s ↦ inl (s.0, (m, s.1)) | inr none ↦ inr (λ e h. none e h.1) ]
+      | inr other ↦ inr (λ e h. other h.0)
+    ]
+
+-- ---- decimals
 
 -- the digits around a point that a text begins with, and what stands behind them
 divides : (text : List ℕ) → Divides text (front_digits text) (point_digits (behind_digits text)) (behind_point (behind_digits text))
@@ -167,6 +105,26 @@ divides text =
         go true e (inr other) = absurd cc
         go false e (inl dot) = absurd cc
         go false e (inr other) = record { tail = b ∷ bs; text_is = is; before_digits = are; behind_digits = tt; tail_is = inr (refl, refl, other.1); all = all }
+
+with_power : (text before behind rest : List ℕ) → Divides text before behind rest → 0 < length before + length behind → Told (IsExponent rest) → Told (MeansNumber text)
+with_power text before behind rest p some (inl e) =
+    let d : Decimal = record { before = before; behind = behind; exponent = e.0 } in
+    inl (number_of d, (d, Spells-from text rest d p some e.1, refl))
+with_power text before behind rest p some (inr none) = inr (λ x. no_power text before behind rest x p none)
+
+divided_told : (text before behind rest : List ℕ) → Divides text before behind rest → Told (MeansNumber text)
+divided_told text [] [] rest p = inr (λ x. no_digits text [] [] rest x p refl refl)
+divided_told text [] (c ∷ cs) rest p = with_power text [] (c ∷ cs) rest p (omega arith) (exponent_told rest)
+divided_told text (b ∷ bs) behind rest p = with_power text (b ∷ bs) behind rest p (omega arith) (exponent_told rest)
+
+pub number_told : (text : List ℕ) → Told (MeansNumber text)
+number_told text = divided_told text (front_digits text) (point_digits (behind_digits text)) (behind_point (behind_digits text)) (divides text)
+
+-- ---- values
+
+exponent_is : (text : List ℕ) (e : ℤ) → IsExponent text e → exponent_in text ≡ e
+exponent_is [] e h = sym h
+exponent_is (mark ∷ text) e h = let s = sign_told text in s.number ∙ sym (only_digits text s.digits s.negative e h.1 s.splits).1
 
 pub number_in_is : IsValuation number_in
 unfolding number_in

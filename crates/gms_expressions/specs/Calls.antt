@@ -1,5 +1,5 @@
 -- What the calls for parts of expressions answer.
-use Rattle.std.specs.Prelude.{◌≡◌, ℕ, false, List, drop, Some}
+use Rattle.std.specs.Prelude.{◌≡◌, ℕ, false, List, ◌++◌, drop, Some}
 use Rattle.gms_labels.specs.Labels.{place_of}
 use Rattle.gq_number.specs.Number.{Number}
 use Rattle.gms_lex.specs.declared.token.Token.{Token}
@@ -18,6 +18,10 @@ walk_from unclosed names labels = record { open_count = unclosed; names = names;
 -- the tokens of a source from a place on, as the grammar sees them
 abbrev pub tokens_from : List ℕ → List Token → ℕ → List (Terminal × Token)
 tokens_from source tokens at = seen source (drop at tokens)
+
+-- a list goes on with others
+abbrev pub GoesOn : List (List ℕ) → List (List ℕ) → Type 0
+GoesOn before after = (more : List (List ℕ)) × (after ≡ before ++ more)
 
 -- texts keep their places in a later table
 abbrev pub Keeps : List (List ℕ) → List (List ℕ) → Type 0

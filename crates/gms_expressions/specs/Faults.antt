@@ -1,5 +1,5 @@
--- Syntax errors and their numbers (GAMS User's Guide, "GAMS Output", compilation errors).
-use Rattle.std.specs.Prelude.{ℕ}
+-- Syntax errors, their numbers and names (GAMS User's Guide, "GAMS Output", compilation errors).
+use Rattle.std.specs.Prelude.{ℕ, List, codes}
 use Rattle.gms_labels.specs.declared.place.Place.{Place}
 use Rattle.gms_labels.specs.declared.fault.LabelFault.{LabelFault}
 use Rattle.gms_labels.specs.declared.fault.LabelFault.TheVariants as label_fault
@@ -10,11 +10,19 @@ use Rattle.gms_expressions.specs.declared.fault.SyntaxFaultOrMemory.TheVariants.
 
 -- the number of a syntax error
 abbrev pub error_code : SyntaxError → ℕ
-error_code Expected = 1
-error_code Depth = 2
-error_code Number = 3
-error_code NotInProfile = 4
-error_code TooManyLabels = 5
+error_code Expected = 11
+error_code Depth = 12
+error_code Number = 13
+error_code NotInProfile = 14
+error_code TooManyLabels = 15
+
+-- the name of a syntax error
+abbrev pub error_name : SyntaxError → List ℕ
+error_name Expected = codes "Expected"
+error_name Depth = codes "Depth"
+error_name Number = codes "Number"
+error_name NotInProfile = codes "NotInProfile"
+error_name TooManyLabels = codes "TooManyLabels"
 
 -- the refusal of a name or a label at a place that was not entered
 abbrev pub not_entered : LabelFault → Place → SyntaxFaultOrMemory

@@ -1,6 +1,6 @@
 -- What reading a part of an expression answers: the longest part with its tree, or its first fault (GAMS User's Guide, "GAMS Output",
 -- compilation errors).
-use Rattle.std.specs.Prelude.{◌≡◌, ◌⊎◌, ℕ, ◌+◌, ◌-◌, ◌≤◌, Bool, true, not, ◌&&◌, if◌then◌else◌, List, [], ◌∷◌, ◌++◌, length, map, ⊤}
+use Rattle.std.specs.Prelude.{◌≡◌, ℕ, ◌+◌, ◌-◌, ◌≤◌, Bool, true, not, ◌&&◌, if◌then◌else◌, List, [], ◌∷◌, length, map}
 use Rattle.gms_labels.specs.declared.place.Place.{Place}
 use Rattle.gms_labels.specs.Labels.{entered, IsFullFor}
 use Rattle.gms_lex.specs.declared.token.Token.{Token}
@@ -14,9 +14,13 @@ use Rattle.gms_grammar.specs.declared.terminal.Terminal.TheVariants as terminal
 use Rattle.gms_grammar.specs.Grammar.{the, Tree, yield, IsTree, Derives, Stops}
 use Rattle.gms_grammar.specs.Terminals.{is, is_among}
 use Rattle.gms_grammar.specs.GamsGrammar.{Nonterminal, productions}
+use Rattle.gms_grammar.specs.Rules as rules
+use Rattle.gms_grammar.specs.Rules.{Rule, kind_of, left_by, AreSound}
 use Rattle.gms_expressions.specs.declared.fault.SyntaxError.{SyntaxError}
 use Rattle.gms_expressions.specs.declared.fault.SyntaxError.TheVariants.{Expected, Depth, Number as OutOfRange, NotInProfile, TooManyLabels}
 use Rattle.gms_expressions.specs.declared.fault.SyntaxFault.{SyntaxFault}
+use Rattle.gms_expressions.specs.declared.fault.SyntaxFaultOrMemory.{SyntaxFaultOrMemory}
+use Rattle.gms_expressions.specs.declared.fault.SyntaxFaultOrMemory.TheVariants.{Fault}
 use Rattle.gms_expressions.specs.Words.{terminal_of}
 use Rattle.gms_expressions.specs.ExpressionTrees.{unquoted}
 
@@ -51,15 +55,9 @@ walk_after source walk token =
       dotted = is terminal.Dot token.0;
     }
 
--- what tokens leave
-abbrev pub walk_behind : List ℕ → Walk → List (Terminal × Token) → Walk
-walk_behind source walk [] = walk
-walk_behind source walk (token ∷ tokens) = walk_behind source (walk_after source walk token) tokens
-
--- the kind of the first of the tokens, or of what stands behind them
-abbrev pub kind_ahead : List (Terminal × Token) → Terminal → Terminal
-kind_ahead [] ahead = ahead
-kind_ahead (token ∷ tokens) ahead = token.0
+-- what tokens leave; which one stands behind them is no matter in expressions
+abbrev pub walk_behind : List ℕ → Walk → List (Terminal × Token) → Terminal → Walk
+walk_behind source walk tokens ahead = left_by (λ walk token ahead. walk_after source walk token) walk tokens ahead
 
 -- where the next of the tokens stands, or the end of the source
 abbrev pub next_place : List ℕ → List (Terminal × Token) → Place
@@ -71,48 +69,39 @@ abbrev pub unexpected_error : List (Terminal × Token) → SyntaxError
 unexpected_error [] = Expected
 unexpected_error (token ∷ tokens) = if is terminal.NotInProfile token.0 then NotInProfile else Expected
 
+-- the fault of a token that is unexpected
+abbrev pub unexpected : List ℕ → List (Terminal × Token) → SyntaxFault
+unexpected source rest = record { error = unexpected_error rest; at = next_place source rest }
+
+-- A token that the grammar expects has a fault: it opens a 101st parenthesis, it is a number out of range, or it is a new name or label
+-- for which there is no room.
+pub data IsFaulty (limit : ℕ) (source : List ℕ) (walk : Walk) (token : Terminal × Token) : SyntaxFault → Type 0 where
+  deep : token.0 ≡ terminal.LeftParen → 100 ≤ walk.open_count → IsFaulty limit source walk token (record { error = Depth; at = token.1.at })
+  out_of_range : token.0 ≡ terminal.Number → ((x : Number) → MeansNumber (token_text source token.1) x → FitsLiteral limit x → ⊥) →
+      IsFaulty limit source walk token (record { error = OutOfRange; at = token.1.at })
+  many_names : is_name walk token.0 ≡ true → IsFullFor walk.names (token_text source token.1) →
+      IsFaulty limit source walk token (record { error = TooManyLabels; at = token.1.at })
+  many_labels : token.0 ≡ terminal.Text → IsFullFor walk.labels (unquoted (token_text source token.1)) →
+      IsFaulty limit source walk token (record { error = TooManyLabels; at = token.1.at })
+
+-- the rule of faults in the expressions of a source, by the limit of its numbers
+abbrev pub syntax_rule : ℕ × List ℕ → Rule Token Walk SyntaxFault SyntaxFaultOrMemory
+syntax_rule key = record {
+  after = λ walk token ahead. walk_after key.1 walk token;
+  Faulty = λ walk token ahead fault. IsFaulty key.0 key.1 walk token fault;
+  unexpected = unexpected key.1;
+  told = Fault;
+}
+
 module _ (limit : ℕ) (source : List ℕ) where
-  -- a token that the grammar expects has an error: it opens a 101st parenthesis, it is a number out of range, or it is a new name or
-  -- label for which there is no room
-  abbrev pub IsFaulty : Walk → Terminal × Token → SyntaxError → Type 0
-  IsFaulty walk token error =
-      ((token.0 ≡ terminal.LeftParen) × (100 ≤ walk.open_count) × (error ≡ Depth))
-      ⊎ (((token.0 ≡ terminal.Number) × (error ≡ OutOfRange) × ((x : Number) → MeansNumber (token_text source token.1) x → FitsLiteral limit x → ⊥))
-      ⊎ (((is_name walk token.0 ≡ true) × (error ≡ TooManyLabels) × IsFullFor walk.names (token_text source token.1))
-      ⊎ ((token.0 ≡ terminal.Text) × (error ≡ TooManyLabels) × IsFullFor walk.labels (unquoted (token_text source token.1)))))
-
-  -- none of the tokens has an error
-  abbrev pub AreSound : Walk → List (Terminal × Token) → Type 0
-  AreSound walk [] = ⊤
-  AreSound walk (token ∷ tokens) = ((error : SyntaxError) → IsFaulty walk token error → ⊥) × AreSound (walk_after source walk token) tokens
-
   -- The longest part that begins the tokens, which is one and has no faulty token, and what is behind it.
   pub record IsPart (n : Nonterminal) (walk behind : Walk) (tokens rest : List (Terminal × Token)) (tree : Tree (Terminal × Token)) : Type 0 where
     pub is_tree : IsTree productions (the n) tree
     pub stops : Stops productions (the n) tokens (yield tree) rest
-    pub are_sound : AreSound walk (yield tree)
-    pub leaves : behind ≡ walk_behind source walk (yield tree)
+    pub are_sound : AreSound (syntax_rule (limit, source)) walk (yield tree) (kind_of rest)
+    pub leaves : behind ≡ walk_behind source walk (yield tree) (kind_of rest)
 
-  -- The first faulty one of the tokens that begin a part.
-  pub record IsFirstFaulty (walk : Walk) (front : List (Terminal × Token)) (fault : SyntaxFault) : Type 0 where
-    pub before : List (Terminal × Token)
-    pub token : Terminal × Token
-    pub behind : List (Terminal × Token)
-    pub parts : front ≡ before ++ token ∷ behind
-    pub are_sound : AreSound walk before
-    pub is_faulty : IsFaulty (walk_behind source walk before) token fault.error
-    pub at : fault.at ≡ token.1.at
-
-  -- The token behind those that begin a part is unexpected, and none of them is faulty.
-  pub record IsUnexpected (n : Nonterminal) (walk : Walk) (front rest : List (Terminal × Token)) (fault : SyntaxFault) : Type 0 where
-    pub is_none : Derives productions (the n) front → ⊥
-    pub are_sound : AreSound walk front
-    pub error : fault.error ≡ unexpected_error rest
-    pub at : fault.at ≡ next_place source rest
-
-  -- The tokens begin no part, or a faulty one: this is the first fault.
-  pub record IsRefused (n : Nonterminal) (walk : Walk) (tokens : List (Terminal × Token)) (fault : SyntaxFault) : Type 0 where
-    pub front : List (Terminal × Token)
-    pub rest : List (Terminal × Token)
-    pub stops : Stops productions (the n) tokens front rest
-    pub cause : IsFirstFaulty walk front fault ⊎ IsUnexpected n walk front rest fault
+  -- The tokens begin no part, or a faulty one: this is the first fault. At the front where they cease to begin one it is the next token
+  -- that is unexpected, if the front is no part.
+  abbrev pub IsRefused : Nonterminal → Walk → List (Terminal × Token) → SyntaxFault → Type 0
+  IsRefused n walk tokens fault = rules.IsRefused syntax_rule (limit, source) (λ front rest. Derives productions (the n) front → ⊥) n walk tokens fault

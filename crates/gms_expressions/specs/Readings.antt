@@ -1,6 +1,6 @@
 -- What the functions of a reader say to each other: which part of the grammar they read at a place in the tokens, and what it means, or
 -- why it is refused. A reader by the table goes by one token, as gms_grammar states it.
-use Rattle.std.specs.Prelude.{◌≡◌, ◌⊎◌, ℕ, ◌+◌, ◌<◌, ◌≤◌, Bool, true, false, if◌then◌else◌, List, [], ◌∷◌, ◌++◌, length, drop, map, Some, Vec, Box, Result, MatchResult, All}
+use Rattle.std.specs.Prelude.{◌≡◌, ℕ, ◌+◌, ◌<◌, ◌≤◌, Bool, true, false, if◌then◌else◌, List, ◌∷◌, length, drop, map, Some, Vec, Box, Result, MatchResult, All}
 use Rattle.std.specs.Borrow.{MutBor}
 use Rattle.std.specs.declared.alloc.Global.{Global}
 use Rattle.gms_labels.specs.declared.place.Place.{Place}
@@ -20,14 +20,15 @@ use Rattle.gms_ast.specs.declared.program.Target.{Target as TargetNode}
 use Rattle.gms_ast.specs.Trees.{Tree as Syntax, reference, negated, not_so, Indices, lagged}
 use Rattle.gms_ast.specs.TreeView.{parts_of, indices_of, index_tree, control_tree}
 use Rattle.gms_grammar.specs.declared.terminal.Terminal.{Terminal}
-use Rattle.gms_grammar.specs.declared.terminal.Terminal.TheVariants.{LeftParen, Sign, Not, End}
-use Rattle.gms_grammar.specs.Grammar.{Part, one, the, opt, Tree, yield}
-use Rattle.gms_grammar.specs.Reading.{read, stuck, leads, Reads, Takes}
+use Rattle.gms_grammar.specs.declared.terminal.Terminal.TheVariants.{LeftParen, Sign, Not}
+use Rattle.gms_grammar.specs.Grammar.{Part, one, the, opt, Tree}
+use Rattle.gms_grammar.specs.Reading.{leads}
 use Rattle.gms_grammar.specs.Terminals.{is}
 use Rattle.gms_grammar.specs.GamsGrammar.{Nonterminal, Expression, Condition, productions, token}
 use Rattle.gms_grammar.specs.GamsLookAhead.{look_ahead}
+use Rattle.gms_grammar.specs.Rules as rules
+pub use Rattle.gms_grammar.specs.Rules.{kind_of}
 use Rattle.gms_expressions.specs.declared.fault.SyntaxError.TheVariants.{Number as OutOfRange}
-use Rattle.gms_expressions.specs.declared.fault.SyntaxFault.{SyntaxFault}
 use Rattle.gms_expressions.specs.declared.fault.SyntaxFaultOrMemory.{SyntaxFaultOrMemory}
 use Rattle.gms_expressions.specs.declared.fault.SyntaxFaultOrMemory.TheVariants.{Fault}
 use Rattle.gms_expressions.specs.declared.reader.Reader.{Reader}
@@ -36,7 +37,8 @@ use Rattle.gms_expressions.specs.declared.grammar.Inner.{Inner}
 use Rattle.gms_expressions.specs.declared.grammar.Inner.TheVariants as inner_part
 use Rattle.gms_expressions.specs.ExpressionTrees.{expression, condition, control, bracketed_arguments, optional_indices, target as target_of, index as index_of, lag as lag_of, suffix_in, name_in, label_in, names_in, sets_in, token_of, with_sign, negated_by}
 use Rattle.gms_expressions.specs.Words.{terminal_of}
-use Rattle.gms_expressions.specs.Outcomes.{kind_ahead, Walk, walk_behind, seen, AreSound, IsFaulty, unexpected_error, next_place}
+use Rattle.gms_expressions.specs.Outcomes.{Walk, syntax_rule, seen, unexpected}
+use Rattle.gms_expressions.specs.Calls.{GoesOn}
 use Rattle.gms_ast.specs.Numbers.{indices_in_numbers, control_in_numbers}
 use Rattle.gms_expressions.specs.Valuations.{IsValuation}
 use Rattle.gms_expressions.specs.Nodes.{view, plain_views}
@@ -54,34 +56,17 @@ abbrev pub GamsPart : Type 0
 GamsPart = Part Terminal Nonterminal
 
 -- a part was read: its tree, and what its tokens leave
-pub record Gives (limit : ℕ) (source : List ℕ) (part : GamsPart) (walk : Walk) (tokens : List Seen) (tree : Derivation) (behind : Walk) (rest : List Seen) : Type 0 where
-  pub reads : Reads productions look_ahead part tokens (read tree rest)
-  pub are_sound : AreSound limit source walk (yield tree)
-  pub leaves : behind ≡ walk_behind source walk (yield tree)
+abbrev pub Gives : ℕ → List ℕ → GamsPart → Walk → List Seen → Derivation → Walk → List Seen → Type 0
+Gives limit source part walk tokens tree behind rest = rules.Gives syntax_rule (limit, source) part walk tokens tree behind rest
 
--- within a part the next token is unexpected, and none before it has an error
-pub record IsStuck (limit : ℕ) (source : List ℕ) (part : GamsPart) (walk : Walk) (tokens : List Seen) (fault : SyntaxFault) : Type 0 where
-  pub front : List Seen
-  pub rest : List Seen
-  pub reads : Reads productions look_ahead part tokens (stuck front rest)
-  pub are_sound : AreSound limit source walk front
-  pub error : fault.error ≡ unexpected_error rest
-  pub at : fault.at ≡ next_place source rest
+-- the tables go on from the names and labels that tokens had left
+abbrev pub Went : Walk → Tables → Type 0
+Went walk tables = GoesOn walk.names tables.names × GoesOn walk.labels tables.labels
 
--- within a part a token has an error, and none before it has one
-pub record IsWrong (limit : ℕ) (source : List ℕ) (part : GamsPart) (walk : Walk) (tokens : List Seen) (fault : SyntaxFault) : Type 0 where
-  pub before : List Seen
-  pub token : Seen
-  pub behind : List Seen
-  pub takes : Takes productions look_ahead part tokens (before ++ token ∷ []) behind
-  pub are_sound : AreSound limit source walk before
-  pub is_faulty : IsFaulty limit source (walk_behind source walk before) token fault.error
-  pub at : fault.at ≡ token.1.at
-
--- why a part was not read; want of memory has no cause in it
-pub record Refuses (limit : ℕ) (source : List ℕ) (part : GamsPart) (walk : Walk) (tokens : List Seen) (refusal : SyntaxFaultOrMemory) : Type 0 where
-  pub why : (fault : SyntaxFault) → refusal ≡ Fault fault →
-      IsStuck limit source part walk tokens fault ⊎ IsWrong limit source part walk tokens fault
+-- Why a part was not read, and the tables then; want of memory has no cause in it.
+pub record Refuses (limit : ℕ) (source : List ℕ) (part : GamsPart) (tables : Tables) (walk : Walk) (tokens : List Seen) (refusal : SyntaxFaultOrMemory) : Type 0 where
+  pub why : rules.Refuses syntax_rule (limit, source) part walk tokens refusal
+  pub went : Went walk tables
 
 -- the names, the labels and the numbers that the words of a program have in the end
 pub record Sense : Type 0 where
@@ -99,10 +84,6 @@ pub record IsSense (tables : Tables) (sense : Sense) : Type 0 where
 abbrev pub seen_from : Reader → ℕ → List Seen
 seen_from reader at = seen reader.source.now (drop at reader.tokens.now)
 
--- the kind of the first of the tokens, or the end
-abbrev pub kind_of : List Seen → Terminal
-kind_of tokens = kind_ahead tokens End
-
 -- so many parentheses are open, and these are the tables
 abbrev pub walk_of : ℕ → Tables → Walk
 walk_of unclosed tables = record { open_count = unclosed; names = tables.names; labels = tables.labels; dotted = false }
@@ -118,7 +99,7 @@ pub record IsGot {T : Type 0} (limit : ℕ) (Means : Sense → Derivation → T 
 abbrev pub IsAnswer : {T : Type 0} → ℕ → (Sense → Derivation → T → Type 0) → GamsPart → Reader → ℕ → Tables → Tables → Result (T × ℕ) SyntaxFaultOrMemory → Type 0
 IsAnswer limit Means part reader at old new result =
     MatchResult result (λ r. IsGot limit Means part reader at old new r.0 r.1)
-    (λ e. Refuses limit reader.source.now part (walk_of reader.unclosed old) (seen_from reader at) e)
+    (λ e. Refuses limit reader.source.now part new (walk_of reader.unclosed old) (seen_from reader at) e)
 
 -- what a derivation means in a source, by its names, its labels and the numbers of its texts
 abbrev pub Meaning : Type 0 → Type 0
@@ -150,7 +131,7 @@ pub record IsNext (test : Terminal → Bool) (reader : Reader) (at : ℕ) (token
 
 -- the refusal of a token that is unexpected
 abbrev pub unexpected_at : Reader → ℕ → SyntaxFaultOrMemory
-unexpected_at reader at = Fault (record { error = unexpected_error (seen_from reader at); at = next_place reader.source.now (seen_from reader at) })
+unexpected_at reader at = Fault (unexpected reader.source.now (seen_from reader at))
 
 -- the next token does not pass a test, and this is its refusal
 pub record IsLacking (test : Terminal → Bool) (reader : Reader) (at : ℕ) (refusal : SyntaxFaultOrMemory) : Type 0 where
@@ -182,7 +163,7 @@ pub record IsOpened (reader : Reader) (at : ℕ) (inner : Reader) (behind : ℕ)
 
 -- no parenthesis opens, or it is one too many
 pub record IsUnopened (reader : Reader) (at : ℕ) (refusal : SyntaxFaultOrMemory) : Type 0 where
-  pub refuses : (limit : ℕ) (tables : Tables) → Refuses limit reader.source.now (token LeftParen) (walk_of reader.unclosed tables) (seen_from reader at) refusal
+  pub refuses : (limit : ℕ) (tables : Tables) → Refuses limit reader.source.now (token LeftParen) tables (walk_of reader.unclosed tables) (seen_from reader at) refusal
 
 -- perhaps a sign was read
 pub record IsSigned (reader : Reader) (at : ℕ) (minus : Bool) (behind : ℕ) : Type 0 where

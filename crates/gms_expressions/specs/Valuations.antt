@@ -4,7 +4,7 @@ use Rattle.std.specs.List.{prefix_len}
 use Rattle.std.specs.Char.{is_ascii_digit}
 use Rattle.gq_number.specs.Number.{Number}
 use Rattle.gq_text.specs.Numeral.{spelled}
-use Rattle.gq_text.specs.Decimal.{Decimal, number_of, MeansNumber}
+use Rattle.gq_text.specs.Decimal.{number_of, MeansNumber}
 
 -- each text that means a number has that number
 abbrev pub IsValuation : (List ℕ → Number) → Type 0

@@ -3,49 +3,56 @@ ghost use Rattle.std.specs.Prelude.{◌≡◌};
 ghost use Rattle.gms_labels.specs.declared.fault.LabelFault.TheVariants as label_fault;
 ghost use Rattle.gms_expressions.specs.declared.fault.SyntaxError.TheVariants.{TooManyLabels};
 ghost use Rattle.gms_expressions.specs.declared.fault.SyntaxFaultOrMemory.TheVariants.{Fault, Memory};
-ghost use Rattle.gms_expressions.specs.Faults.{error_code, not_entered};
+ghost use Rattle.gms_expressions.specs.Faults.{error_code, error_name, not_entered};
 
 use gms_labels::{LabelFault, Place};
 use std::alloc::{AllocError, AllocFailed};
-use thiserror::Error;
 
 /// A syntax error, by its cause.
-#[derive(Clone, Copy, Debug, PartialEq, Eq, Error)]
+#[derive(Clone, Copy, PartialEq, Eq)]
 pub enum SyntaxError {
     /// The tokens before it begin a part, and with it they begin none.
-    #[error("another token is expected")]
     Expected,
     /// It opens a parenthesis, and 100 are open.
-    #[error("too many parentheses are open")]
     Depth,
     /// It is a number out of range.
-    #[error("the number is out of range")]
     Number,
     /// It is a word of a statement or a value that the language leaves out.
-    #[error("the language leaves this out")]
     NotInProfile,
     /// It is a new name or label, and its table is full.
-    #[error("there are too many names or labels")]
     TooManyLabels,
 }
 
 impl SyntaxError {
-    /// The number of this error.
+    /// The number of this error in a listing.
     pub fn code(self) -> u8
         ensures { result ≡ error_code self }
     {
         match self {
-            SyntaxError::Expected => 1,
-            SyntaxError::Depth => 2,
-            SyntaxError::Number => 3,
-            SyntaxError::NotInProfile => 4,
-            SyntaxError::TooManyLabels => 5,
+            SyntaxError::Expected => 11,
+            SyntaxError::Depth => 12,
+            SyntaxError::Number => 13,
+            SyntaxError::NotInProfile => 14,
+            SyntaxError::TooManyLabels => 15,
+        }
+    }
+
+    /// The name of this error in a listing.
+    pub fn name(self) -> &'static str
+        ensures { result.now ≡ error_name self }
+    {
+        match self {
+            SyntaxError::Expected => "Expected",
+            SyntaxError::Depth => "Depth",
+            SyntaxError::Number => "Number",
+            SyntaxError::NotInProfile => "NotInProfile",
+            SyntaxError::TooManyLabels => "TooManyLabels",
         }
     }
 }
 
 /// A syntax error and its place.
-#[derive(Clone, Copy, Debug, PartialEq, Eq)]
+#[derive(Clone, Copy)]
 pub struct SyntaxFault {
     /// The error.
     pub error: SyntaxError,
@@ -54,7 +61,7 @@ pub struct SyntaxFault {
 }
 
 /// A syntax fault, or want of memory.
-#[derive(Clone, Copy, Debug, PartialEq, Eq)]
+#[derive(Clone, Copy)]
 pub enum SyntaxFaultOrMemory {
     /// A growth found no memory.
     Memory,

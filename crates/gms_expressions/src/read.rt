@@ -6,7 +6,7 @@ ghost use Rattle.gms_ast.specs.TreeView.{tree_of, control_tree, indices_of, inde
 ghost use Rattle.gms_grammar.specs.GamsGrammar.{Expression, Primary, Control as ControlPart, Target as TargetPart};
 ghost use Rattle.gms_expressions.specs.ExpressionTrees as trees;
 ghost use Rattle.gms_ast.specs.Numbers.{in_numbers, indices_in_numbers, control_in_numbers};
-ghost use Rattle.gms_expressions.specs.Calls.{walk_from, tokens_from, IsRead, IsRefusal};
+ghost use Rattle.gms_expressions.specs.Calls.{walk_from, tokens_from, IsRead, IsRefusal, GoesOn};
 ghost use Rattle.gms_expressions.specs.Readings.{IsReady};
 
 use crate::fault::SyntaxFaultOrMemory;
@@ -63,7 +63,8 @@ impl Tables {
     }
 }
 
-/// The longest expression that begins at a token, and the place of the token behind it.
+/// The longest expression that begins at a token, and the place of the token behind it. Whatever is answered, the names and the labels go on
+/// from what they were: new ones stand behind the others.
 pub fn expression<F: ExactField>(
     alloc: Global,
     source: &[u8],
@@ -76,12 +77,13 @@ pub fn expression<F: ExactField>(
     requires tokens { IsTokens source.now tokens.now }
     requires from { from < length tokens.now }
     requires few { unclosed ≤ 100 }
-    ensures { MatchResult result
+    ensures read { MatchResult result
         (λ r. IsRead F.limit source.now Expression
         (λ all_names all_labels value tree part. in_numbers F.value (tree_of part) ≡ trees.expression source.now all_names all_labels value tree)
         (walk_from unclosed names.old labels.old) (walk_from unclosed names.new labels.new)
         (tokens_from source.now tokens.now from) (tokens_from source.now tokens.now r.1) r.0)
         (λ e. IsRefusal F.limit source.now Expression (walk_from unclosed names.old labels.old) (tokens_from source.now tokens.now from) e) }
+    ensures goes_on { GoesOn names.old names.new × GoesOn labels.old labels.new }
 {
     let mut tables = Tables::taken(alloc, names, labels);
     let read = nested(
@@ -95,7 +97,8 @@ pub fn expression<F: ExactField>(
     read
 }
 
-/// The longest operand that begins at a token, and the place of the token behind it.
+/// The longest operand that begins at a token, and the place of the token behind it. Whatever is answered, the names and the labels go on
+/// from what they were: new ones stand behind the others.
 pub fn primary<F: ExactField>(
     alloc: Global,
     source: &[u8],
@@ -108,12 +111,13 @@ pub fn primary<F: ExactField>(
     requires tokens { IsTokens source.now tokens.now }
     requires from { from < length tokens.now }
     requires few { unclosed ≤ 100 }
-    ensures { MatchResult result
+    ensures read { MatchResult result
         (λ r. IsRead F.limit source.now Primary
         (λ all_names all_labels value tree part. in_numbers F.value (tree_of part) ≡ trees.primary source.now all_names all_labels value tree)
         (walk_from unclosed names.old labels.old) (walk_from unclosed names.new labels.new)
         (tokens_from source.now tokens.now from) (tokens_from source.now tokens.now r.1) r.0)
         (λ e. IsRefusal F.limit source.now Primary (walk_from unclosed names.old labels.old) (tokens_from source.now tokens.now from) e) }
+    ensures goes_on { GoesOn names.old names.new × GoesOn labels.old labels.new }
 {
     let mut tables = Tables::taken(alloc, names, labels);
     let grammar = Grammar {
@@ -126,7 +130,8 @@ pub fn primary<F: ExactField>(
     read
 }
 
-/// The longest control that begins at a token, and the place of the token behind it.
+/// The longest control that begins at a token, and the place of the token behind it. Whatever is answered, the names and the labels go on
+/// from what they were: new ones stand behind the others.
 pub fn control<F: ExactField>(
     alloc: Global,
     source: &[u8],
@@ -139,12 +144,13 @@ pub fn control<F: ExactField>(
     requires tokens { IsTokens source.now tokens.now }
     requires from { from < length tokens.now }
     requires few { unclosed ≤ 100 }
-    ensures { MatchResult result
+    ensures read { MatchResult result
         (λ r. IsRead F.limit source.now ControlPart
         (λ all_names all_labels value tree part. control_in_numbers F.value (control_tree part) ≡ trees.control source.now all_names all_labels value tree)
         (walk_from unclosed names.old labels.old) (walk_from unclosed names.new labels.new)
         (tokens_from source.now tokens.now from) (tokens_from source.now tokens.now r.1) r.0)
         (λ e. IsRefusal F.limit source.now ControlPart (walk_from unclosed names.old labels.old) (tokens_from source.now tokens.now from) e) }
+    ensures goes_on { GoesOn names.old names.new × GoesOn labels.old labels.new }
 {
     let mut tables = Tables::taken(alloc, names, labels);
     let grammar = Grammar {
@@ -157,7 +163,8 @@ pub fn control<F: ExactField>(
     read
 }
 
-/// The longest target that begins at a token, and the place of the token behind it.
+/// The longest target that begins at a token, and the place of the token behind it. Whatever is answered, the names and the labels go on
+/// from what they were: new ones stand behind the others.
 pub fn target<F: ExactField>(
     alloc: Global,
     source: &[u8],
@@ -170,12 +177,13 @@ pub fn target<F: ExactField>(
     requires tokens { IsTokens source.now tokens.now }
     requires from { from < length tokens.now }
     requires few { unclosed ≤ 100 }
-    ensures { MatchResult result
+    ensures read { MatchResult result
         (λ r. IsRead F.limit source.now TargetPart
         (λ all_names all_labels value tree part. reference part.at part.name part.suffix (indices_in_numbers F.value (indices_of (map index_tree part.indices))) ≡ trees.target source.now all_names all_labels value tree)
         (walk_from unclosed names.old labels.old) (walk_from unclosed names.new labels.new)
         (tokens_from source.now tokens.now from) (tokens_from source.now tokens.now r.1) r.0)
         (λ e. IsRefusal F.limit source.now TargetPart (walk_from unclosed names.old labels.old) (tokens_from source.now tokens.now from) e) }
+    ensures goes_on { GoesOn names.old names.new × GoesOn labels.old labels.new }
 {
     let mut tables = Tables::taken(alloc, names, labels);
     let grammar = Grammar {

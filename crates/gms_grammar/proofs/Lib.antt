@@ -9,6 +9,11 @@ pub mod Decided
 pub mod Total
 pub mod Stopping
 pub mod Language
+pub mod Orders
+pub mod Rules
+pub mod FirstFaults
+pub mod Eithers
+pub mod Deriving
 pub mod Plain
 pub mod PlainProgram
 pub mod PlainNamed

@@ -1,7 +1,7 @@
 -- Tokens cease to begin anything at one place.
 use Rattle.std.proofs.Common.{◌≡◌, List, [], ◌∷◌, ◌++◌, refl, sym, ap, subst, ◌∙◌, append_assoc}
 use Rattle.gms_grammar.specs.Grammar.{Part, IsUnexpected, Begins, Stops}
-use Rattle.gms_grammar.proofs.Basics.{behind_same}
+use Rattle.gms_grammar.proofs.Basics.{behind_same, end_nil}
 
 -- How two fronts of the same list compare: they are the same, or one is longer.
 data Compared {T : Type 0} (front other : List T) : Type 0 where
@@ -37,12 +37,12 @@ module _ {C N D : Type 0} (production : N → Part C N) where
       }
 
   -- a front does not stop where a longer one begins something
-  not_shorter : (part : Part C N) (tokens front rest other behind : List (C × D)) (x : C × D) (w : List (C × D)) → Stops production part tokens front rest → Stops production part tokens other behind → other ≡ front ++ (x ∷ w) → ⊥
-  not_shorter part tokens front rest other behind x w s t e =
-      go rest s.ends (behind_same front rest ((x ∷ w) ++ behind) (sym s.parts ∙ t.parts ∙ ap (λ u. u ++ behind) e ∙ append_assoc front (x ∷ w) behind))
+  not_shorter : (part : Part C N) (tokens front rest other behind : List (C × D)) (x : C × D) (w : List (C × D)) → Stops production part tokens front rest → tokens ≡ other ++ behind → Begins production part other → other ≡ front ++ (x ∷ w) → ⊥
+  not_shorter part tokens front rest other behind x w s parts b e =
+      go rest s.ends (behind_same front rest ((x ∷ w) ++ behind) (sym s.parts ∙ parts ∙ ap (λ u. u ++ behind) e ∙ append_assoc front (x ∷ w) behind))
     where
       begins : Begins production part (front ++ (x ∷ []))
-      begins = begins_less part (front ++ (x ∷ [])) w (subst (λ u. Begins production part u) (e ∙ sym (append_assoc front (x ∷ []) w)) t.begins)
+      begins = begins_less part (front ++ (x ∷ [])) w (subst (λ u. Begins production part u) (e ∙ sym (append_assoc front (x ∷ []) w)) b)
 
       go : (rest : List (C × D)) → IsUnexpected production part front rest → rest ≡ x ∷ (w ++ behind) → ⊥
       go [] u h = cc
@@ -50,11 +50,20 @@ module _ {C N D : Type 0} (production : N → Part C N) where
           let equal : x ≡ y = cc in
           u (subst (λ z. Begins production part (front ++ (z ∷ []))) equal begins)
 
+  -- what begins a part is no longer than the front at which tokens cease to begin it
+  pub front_begins : (part : Part C N) (tokens front rest other behind : List (C × D)) → Stops production part tokens front rest → tokens ≡ other ++ behind → Begins production part other → (more : List (C × D)) × (front ≡ other ++ more)
+  front_begins part tokens front rest other behind s e b = go (compare front rest other behind (sym s.parts ∙ e))
+    where
+      go : Compared front other → (more : List (C × D)) × (front ≡ other ++ more)
+      go (same h) = ([], h ∙ sym (end_nil other))
+      go (shorter x w h) = absurd (not_shorter part tokens front rest other behind x w s e b h)
+      go (longer x w h) = (x ∷ w, h)
+
   -- tokens stop at one place
   pub stops_once : (part : Part C N) (tokens front rest other behind : List (C × D)) → Stops production part tokens front rest → Stops production part tokens other behind → front ≡ other
   stops_once part tokens front rest other behind s t = go (compare front rest other behind (sym s.parts ∙ t.parts))
     where
       go : Compared front other → front ≡ other
       go (same h) = h
-      go (shorter x w h) = absurd (not_shorter part tokens front rest other behind x w s t h)
-      go (longer x w h) = absurd (not_shorter part tokens other behind front rest x w t s h)
+      go (shorter x w h) = absurd (not_shorter part tokens front rest other behind x w s t.parts t.begins h)
+      go (longer x w h) = absurd (not_shorter part tokens other behind front rest x w t s.parts s.begins h)

@@ -5,3 +5,4 @@ pub mod Terminals
 pub mod GamsGrammar
 pub mod GamsLookAhead
 pub mod PlainGrammar
+pub mod Rules

@@ -13,9 +13,16 @@ const ROOM: usize = 4096;
 /// Bytes that are still to be written, at most 4,096 of them. Their room is taken when the spool is made.
 ///
 /// What stands in the output of a host, followed by what is pending, is the text that was put so far.
-#[derive(Debug, Drop)]
+#[derive(Debug)]
 pub struct Spool {
     pending: Vec<u8>,
+}
+
+// Written out, so that it is proved here alone, and not in each crate that lets one go.
+impl Drop for Spool {
+    fn drop(self) {
+        let Self { pending: _ } = self;
+    }
 }
 
 impl Model for Spool {

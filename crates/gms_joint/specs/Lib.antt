@@ -1,1 +1,4 @@
 pub mod JointRun
+pub mod Labels
+pub mod LastStates
+pub mod Reached

@@ -1,6 +1,8 @@
-//! Floor 5, the run. Runs that go on where another ended.
+//! Floor 5, the run. Laws of whole runs: of those that go on where another ended, and of those of accepted programs.
 #![tactic(auto)]
 
+mod accepted;
 mod laws;
 
+pub use accepted::{label_laws, last_laws, linear_laws, run_laws};
 pub use laws::joint_laws;

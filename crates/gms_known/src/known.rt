@@ -25,7 +25,6 @@ use std::marker::Model;
 /// equations of the models.
 ///
 /// Names are numbers in the program's table. A name that the program does not have is not declared.
-#[derive(Drop)]
 pub struct Known<F: ExactField> {
     store: Store<F>,
     order: Order,
@@ -33,6 +32,20 @@ pub struct Known<F: ExactField> {
     unordered: Marks,
     defined: Marks,
     models: Models,
+}
+
+// Written out, so that it is proved here alone, and not in each crate that lets one go.
+impl<F: ExactField> Drop for Known<F> {
+    fn drop(self) {
+        let Self {
+            store: _,
+            order: _,
+            dynamic: _,
+            unordered: _,
+            defined: _,
+            models: _,
+        } = self;
+    }
 }
 
 impl<F: ExactField> Model for Known<F> {

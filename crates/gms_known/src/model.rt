@@ -9,12 +9,21 @@ use crate::marks::Marks;
 use std::alloc::{AllocError, Global};
 
 /// The equations of a model.
-#[derive(Drop)]
 pub enum Equations {
     /// So many of the first that are declared.
     All(usize),
     /// These.
     Listed(Vec<u32>),
+}
+
+// Written out, so that it is proved here alone, and not in each crate that lets one go.
+impl Drop for Equations {
+    fn drop(self) {
+        match self {
+            Self::All(_) => {}
+            Self::Listed(_) => {}
+        }
+    }
 }
 
 impl Equations {
@@ -41,7 +50,6 @@ fn first_of(equations: &[u32], count: usize) -> &[u32]
 }
 
 /// A model that is declared.
-#[derive(Drop)]
 pub struct Model {
     /// The name, by its number.
     pub name: u32,
@@ -51,8 +59,18 @@ pub struct Model {
     pub defined: usize,
 }
 
+// Written out, so that it is proved here alone, and not in each crate that lets one go.
+impl Drop for Model {
+    fn drop(self) {
+        let Self {
+            name: _,
+            equations: _,
+            defined: _,
+        } = self;
+    }
+}
+
 /// The models of a program, and the equations that are declared, in order.
-#[derive(Drop)]
 pub struct Models {
     /// The names that are declared as equations, in order.
     pub equations: Vec<u32>,
@@ -60,6 +78,17 @@ pub struct Models {
     pub models: Vec<Model>,
     /// By the number of a name: the place of its first model, plus 1; 0 where it is none.
     pub places: Vec<usize>,
+}
+
+// Written out, so that it is proved here alone, and not in each crate that lets one go.
+impl Drop for Models {
+    fn drop(self) {
+        let Self {
+            equations: _,
+            models: _,
+            places: _,
+        } = self;
+    }
 }
 
 impl Models {

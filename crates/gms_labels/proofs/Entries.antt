@@ -1,106 +1,61 @@
--- A table's entries and the texts that they keep: what a look-up by the key finds, and what one more entry adds.
-use Rattle.std.proofs.Common.{◌≡◌, ℕ, ◌+◌, ◌<◌, ◌≤◌, Bool, true, false, cond, not, suc, List, [], ◌∷◌, ◌++◌, length, map, get_or, Option, Some, None, position, refl, sym, ap, ◌∙◌, arith, String, Vec, string_bytes}
+-- A table's tree and the texts that it keeps: what one more text adds to both.
+use Rattle.std.proofs.Common.{◌≡◌, ℕ, ◌+◌, ◌<◌, ◌≤◌, Bool, true, false, cond, List, [], ◌∷◌, ◌++◌, length, map, get_or, Option, Some, None, position, refl, sym, ap, ◌∙◌, arith, String, Vec, string_bytes}
 use Rattle.std.specs.declared.alloc.Global.{Global}
 use Rattle.std.specs.Str.{bytes_eq}
-use Rattle.std.specs.List.{IsDistinct, position_or_len}
-use Rattle.std.specs.Map.{lookup}
-use Rattle.indexmap.specs.IndexMap.{IndexMap, insert_entry}
-use Rattle.indexmap.proofs.CallerLemmas.{insert_entry-new}
-use Rattle.std.proofs.lemmas.List.{length-map, get_or-map, length_push, map_push}
-use Rattle.std.proofs.lemmas.List.Elements.{All-push, All-same}
-use Rattle.std.proofs.lemmas.Map.Keys.{apart_from_distinct}
-use Rattle.gms_labels.specs.Labels.{folded, place_of, AreDistinct, AreLabels}
-use Rattle.gms_labels.specs.Table.{Entry, texts_of, keys_of, IsKept}
-use Rattle.gms_labels.proofs.Places.{position-map, position_none}
+use Rattle.std.specs.BTreeMap.{BTreeMap, Updates}
+use Rattle.std.specs.Cmp.{eq_by_cmp_equiv}
+use Rattle.std.specs.Cmp.Lexicographic.{slice_cmp, nat_list_cmp_total, nat_list_eq_equiv}
+use Rattle.std.specs.Map.{KeepsOthers, IsKeyTest, AreApart, lookup}
+use Rattle.std.specs.Ordering.{nat_cmp, is_eq, eq_by_cmp}
+use Rattle.std.proofs.lemmas.List.{length-map, length_push, get_or-map}
+use Rattle.std.proofs.lemmas.List.Elements.{All-push}
+use Rattle.std.proofs.lemmas.List.Quantifiers.{all_pairs_push}
+use Rattle.std.proofs.lemmas.List.Sums.{prefix_len-le-length}
+use Rattle.std.proofs.lemmas.Map.Text.{is_eq-slice_cmp}
+use Rattle.std.proofs.lemmas.Slice.Eq.{bytes_eq-Decides}
+use Rattle.gms_labels.specs.Labels.{folded, is_same, place_of, AreDistinct, AreLabels}
+use Rattle.gms_labels.specs.Table.{at_bytes, place_by, IsKept}
+use Rattle.gms_labels.proofs.Places.{position-push_kept, position-push_new, position-push_other, position_misses, is_same_sym}
 
--- the keys of the entries, as vectors
-abbrev pub vectors_of : List Entry → List (Vec ℕ Global)
-vectors_of entries = map (λ entry. entry.0) entries
+-- where a key is other bytes than the one that a change was made at, its test fails there
+apart : (bytes other key : List ℕ) → bytes_eq bytes other ≡ false → is_eq (slice_cmp nat_cmp bytes key) ≡ true → is_eq (slice_cmp nat_cmp other key) ≡ false
+apart bytes other key differ same =
+    let at : bytes_eq bytes key ≡ true = sym (is_eq-slice_cmp bytes key) ∙ same in
+    is_eq-slice_cmp other key ∙ nat_list_eq_equiv.symm other key ∙ sym (nat_list_eq_equiv.congr bytes key other at) ∙ differ
 
--- the items of the vectors are the keys
-items-vectors_of : (entries : List Entry) → map (λ key. key.items) (vectors_of entries) ≡ keys_of entries
-items-vectors_of [] = refl
-items-vectors_of (entry ∷ entries) = ap (λ keys. entry.0.items ∷ keys) (items-vectors_of entries)
+-- what is found by another key stays
+others-stay : (key : Vec ℕ Global) (old new : List (Vec ℕ Global × ℕ)) (other : List ℕ) → KeepsOthers (eq_by_cmp (λ (x y : Vec ℕ Global). slice_cmp nat_cmp x.items y.items)) (λ k. is_eq (slice_cmp nat_cmp key.items k.items)) old new → bytes_eq key.items other ≡ false → lookup (λ k. is_eq (slice_cmp nat_cmp other k.items)) new ≡ lookup (λ k. is_eq (slice_cmp nat_cmp other k.items)) old
+unfolding KeepsOthers
+others-stay key old new other keeps differ =
+    keeps (λ k. is_eq (slice_cmp nat_cmp other k.items)) (λ x y. (eq_by_cmp_equiv nat_list_cmp_total).congr other x.items y.items) (λ k. apart key.items other k.items differ)
 
--- a look-up by the text in lower case finds the place of the text
-pub place-by_key : (entries : List Entry) (text : List ℕ) → IsKept entries → position (λ key. bytes_eq (folded text) key.items) (vectors_of entries) ≡ place_of (texts_of entries) text
-place-by_key entries text kept =
-    sym (position-map (bytes_eq (folded text)) (λ (key : Vec ℕ Global). key.items) (vectors_of entries))
-    ∙ ap (position (bytes_eq (folded text))) (items-vectors_of entries ∙ kept.keyed)
-    ∙ position-map (bytes_eq (folded text)) folded (texts_of entries)
-
--- as many texts as entries
-length-texts_of : (entries : List Entry) → length (texts_of entries) ≡ length entries
-length-texts_of entries = length-map entries (λ entry. string_bytes entry.1)
-
--- the key at a place is the text there in lower case
-key-at : (entries : List Entry) (e : Entry) → keys_of entries ≡ map folded (texts_of entries) → (n : ℕ) (d : List ℕ) → n < length entries → (get_or (vectors_of entries) n e.0).items ≡ folded (get_or (texts_of entries) n d)
-key-at entries e keyed n d l =
-    ap (λ key. key.items) (get_or-map (λ (entry : Entry). entry.0) entries n e e.0 l)
-    ∙ sym (get_or-map (λ (entry : Entry). entry.0.items) entries n e (folded d) l)
-    ∙ ap (λ keys. get_or keys n (folded d)) keyed
-    ∙ get_or-map folded (texts_of entries) n d (folded d) (omega (arith, length-texts_of entries))
-
--- where no two keys are equal no two texts are one label
-AreDistinct-texts_of : (entries : List Entry) → keys_of entries ≡ map folded (texts_of entries) → IsDistinct (λ a b. bytes_eq a.items b.items) (vectors_of entries) → AreDistinct (texts_of entries)
-AreDistinct-texts_of [] keyed distinct = λ i j d below within. absurd (omega arith)
-AreDistinct-texts_of (entry ∷ entries) keyed distinct = by (entry ∷ entries) entry keyed distinct
-  where
-    by : (entries : List Entry) (e : Entry) → keys_of entries ≡ map folded (texts_of entries) → IsDistinct (λ a b. bytes_eq a.items b.items) (vectors_of entries) → AreDistinct (texts_of entries)
-    by entries e keyed distinct i j d below within =
-        let l : j < length entries = omega (arith, length-texts_of entries) in
-        let at_i = key-at entries e keyed i d (omega arith) in
-        let at_j = key-at entries e keyed j d l in
-        let apart = apart_from_distinct (λ a b. bytes_eq a.items b.items) (vectors_of entries) i j e.0 distinct below (omega (arith, length-map entries (λ (entry : Entry). entry.0))) in
-        cc
-
--- the texts of the entries and one more are labels, where no two keys are equal
-AreLabels-push : (entries : List Entry) (entry : Entry) → AreLabels (texts_of entries) → AreDistinct (texts_of (entries ++ entry ∷ [])) → length entries < 65536 → length (string_bytes entry.1) ≤ 63 → AreLabels (texts_of (entries ++ entry ∷ []))
-AreLabels-push entries entry labels distinct room short = record {
-  distinct = distinct;
-  few = omega (arith, length-texts_of (entries ++ entry ∷ []), length_push entries entry);
-  short = All-same (λ text. length text ≤ 63) _ _ (map_push (λ (entry : Entry). string_bytes entry.1) entries entry) (All-push (λ text. length text ≤ 63) (texts_of entries) (string_bytes entry.1) labels.short short);
+-- one more text, with its place in the tree
+pub IsKept-push : (texts : List (List ℕ)) (old new : BTreeMap (Vec ℕ Global) ℕ) (key : Vec ℕ Global) (text : List ℕ) (place : ℕ) → IsKept texts old → place_of texts text ≡ None → length texts < 65536 → length text ≤ 63 → key.items ≡ folded text → place ≡ length texts → Updates (λ (x y : Vec ℕ Global). slice_cmp nat_cmp x.items y.items) old new key (Some place) → IsKept (texts ++ text ∷ []) new
+IsKept-push texts old new key text place kept none room short is last updates = record {
+  labels = record {
+    distinct = all_pairs_push (λ a b. is_same a b ≡ false) texts text kept.labels.distinct (λ k d l. unlike k d l (is_same (get_or texts k d) text) refl);
+    few = omega (arith, length_push texts text);
+    short = All-push (λ t. length t ≤ 63) texts text kept.labels.short short;
+  };
+  placed = λ bytes. by bytes (bytes_eq key.items bytes) refl;
 }
-
--- one more entry, for a text in lower case and as it is written
-IsKept-push : (entries : List Entry) (entry : Entry) → IsKept entries → entry.0.items ≡ folded (string_bytes entry.1) → length entries < 65536 → length (string_bytes entry.1) ≤ 63 → IsDistinct (λ a b. bytes_eq a.items b.items) (vectors_of (entries ++ entry ∷ [])) → IsKept (entries ++ entry ∷ [])
-IsKept-push entries entry kept key room short unique =
-    let keyed : keys_of (entries ++ entry ∷ []) ≡ map folded (texts_of (entries ++ entry ∷ [])) = map_push (λ (entry : Entry). entry.0.items) entries entry ∙ grind (arith, kept.keyed, key, map_push (λ (entry : Entry). string_bytes entry.1) entries entry, map_push folded (texts_of entries) (string_bytes entry.1)) in
-    record { keyed = keyed; labels = AreLabels-push entries entry kept.labels (AreDistinct-texts_of (entries ++ entry ∷ []) keyed unique) room short }
-
--- where a key has no place among the keys, a look-up by it finds nothing
-lookup-absent : (test : Vec ℕ Global → Bool) (entries : List Entry) → position test (vectors_of entries) ≡ None → lookup test entries ≡ None
-lookup-absent test entries none = by entries (position_none test (vectors_of entries) none)
   where
-    by : (entries : List Entry) → position_or_len test (vectors_of entries) ≡ length (vectors_of entries) → lookup test entries ≡ None
-    by [] _ = refl
-    by (entry ∷ entries) passed =
-        elim (test entry.0) as (λ b. cond (not b) (1 + position_or_len test (vectors_of entries)) 0 ≡ suc (length (vectors_of entries)) → cond b (Some entry.1) (lookup test entries) ≡ None) [
-          | true ↦ λ h. absurd (omega arith)
-          | false ↦ λ h. by entries (omega arith)
-        ] passed
+    unlike : (k : ℕ) (d : List ℕ) → k < length texts → (b : Bool) → is_same (get_or texts k d) text ≡ b → b ≡ false
+    unlike k d l false _ = refl
+    unlike k d l true same =
+        let misses : is_same text (get_or texts k d) ≡ false = position_misses (is_same text) texts none k d l in
+        let meets : is_same text (get_or texts k d) ≡ true = is_same_sym (get_or texts k d) text same in
+        absurd cc
 
--- what a look-up by the text in lower case answers is the place of the text
-pub found-place : (entries : List Entry) (query text : List ℕ) (answer : Option ℕ) → IsKept entries → query ≡ folded text → answer ≡ position (λ key. bytes_eq query key.items) (vectors_of entries) → answer ≡ place_of (texts_of entries) text
-found-place entries query text answer kept is found = (rw is at found) ∙ place-by_key entries text kept
+    by : (bytes : List ℕ) (b : Bool) → bytes_eq key.items bytes ≡ b → at_bytes new bytes ≡ place_by (texts ++ text ∷ []) bytes
+    by bytes true same =
+        let e : folded text ≡ bytes = sym is ∙ (bytes_eq-Decides key.items bytes).0 same in
+        rw (← e) (ap (at_bytes new) (sym is) ∙ updates.1 ∙ ap Some last ∙ sym (position-push_new (is_same text) texts text none ((bytes_eq-Decides (folded text) (folded text)).1 refl)))
+    by bytes false differ =
+        let other : bytes_eq bytes (folded text) ≡ false = ap (bytes_eq bytes) (sym is) ∙ nat_list_eq_equiv.symm bytes key.items ∙ differ in
+        others-stay key old.entries new.entries bytes updates.3 differ ∙ kept.placed bytes ∙ sym (position-push_other (λ t. bytes_eq bytes (folded t)) texts text other)
 
--- what a table adds for a new text: one entry at the end
-entries-new : {S : Type 0} (table : IndexMap (Vec ℕ Global) (String Global) S) (key : Vec ℕ Global) (written : String Global) (text : List ℕ) → IsKept table.entries → key.items ≡ folded text → place_of (texts_of table.entries) text ≡ None → insert_entry (λ a b. bytes_eq a.items b.items) table.entries key written ≡ table.entries ++ (key, written) ∷ []
-entries-new table key written text kept is none =
-    insert_entry-new (λ a b. bytes_eq a.items b.items) table key written (lookup-absent (λ k. bytes_eq key.items k.items) table.entries (rw is (place-by_key table.entries text kept ∙ none)))
-
--- What stands after a new text was entered in a table that showed `texts`.
-pub record IsAppended (after : List Entry) (texts : List (List ℕ)) (text : List ℕ) : Type 0 where
-  -- the entries are kept as those of a table are
-  pub kept : IsKept after
-  -- and show the old texts and the new one
-  pub shows : texts_of after ≡ texts ++ text ∷ []
-
-pub IsAppended-new : {S : Type 0} (table : IndexMap (Vec ℕ Global) (String Global) S) (after : List Entry) (texts : List (List ℕ)) (key : Vec ℕ Global) (written : String Global) (text : List ℕ) → IsKept table.entries → texts_of table.entries ≡ texts → place_of texts text ≡ None → length texts < 65536 → length text ≤ 63 → key.items ≡ folded text → string_bytes written ≡ text → after ≡ insert_entry (λ a b. bytes_eq a.items b.items) table.entries key written → IsDistinct (λ a b. bytes_eq a.items b.items) (vectors_of after) → IsAppended after texts text
-IsAppended-new table after texts key written text kept view none room short is wrote inserted unique =
-    let new : place_of (texts_of table.entries) text ≡ None = rw view none in
-    let e : after ≡ table.entries ++ (key, written) ∷ [] = inserted ∙ entries-new table key written text kept is new in
-    rw e (record {
-      kept = IsKept-push table.entries (key, written) kept (rw wrote is) (omega (arith, length-texts_of table.entries, ap length view)) (rw wrote short) (rw e at unique);
-      shows = map_push (λ (entry : Entry). string_bytes entry.1) table.entries (key, written) ∙ rw (view, wrote) refl;
-    })
+-- the text at a place, as it is kept there
+pub read-at : (texts : List (String Global)) (n : ℕ) (written : String Global) (text : List ℕ) → n < length (map string_bytes texts) → written ≡ get_or texts n written → text ≡ string_bytes written → get_or (map string_bytes texts) n [] ≡ text
+read-at texts n written text l is at =
+    get_or-map string_bytes texts n written [] (omega (arith, length-map texts string_bytes)) ∙ ap string_bytes (sym is) ∙ sym at

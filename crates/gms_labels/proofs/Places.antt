@@ -1,15 +1,13 @@
 -- Laws of places: what holds of the place of a text in a list, and what entering a text does to places.
-use Rattle.std.proofs.Common.{◌≡◌, ℕ, ◌+◌, ◌<◌, ◌≤◌, Bool, true, false, cond, ltb, not, List, [], ◌∷◌, ◌++◌, length, map, get_or, Option, Some, None, position, is_some, IsSome, refl, sym, ap, ◌∙◌, arith, inl, inr}
+use Rattle.std.proofs.Common.{◌≡◌, ℕ, zero, suc, ◌+◌, ◌<◌, Bool, true, false, cond, ltb, not, List, [], ◌∷◌, ◌++◌, length, map, get_or, Option, Some, None, position, is_some, IsSome, IfSome, refl, sym, ap, ◌∙◌, arith}
 use Rattle.std.specs.List.{position_or_len}
-use Rattle.std.specs.Prelude.{slice_get}
-use Rattle.std.proofs.lemmas.List.{length-map, length_push}
+use Rattle.std.proofs.lemmas.List.{length_push}
 use Rattle.std.proofs.lemmas.List.Folds.{position_or_len_push}
 use Rattle.std.proofs.lemmas.List.Sums.{prefix_len-le-length, position_or_len_is}
 use Rattle.std.proofs.lemmas.List.Quantifiers.{position-Some}
-use Rattle.std.proofs.lemmas.Option.{get_or_from_slice_get, slice_get_cases}
 use Rattle.std.proofs.lemmas.Bool.Decides.{nat_tests}
 use Rattle.std.proofs.lemmas.Slice.Eq.{bytes_eq-Decides}
-use Rattle.gms_labels.specs.Labels.{folded, is_same, place_of, entered, AreDistinct, AreLabels}
+use Rattle.gms_labels.specs.Labels.{folded, is_same, place_of, entered, AreDistinct}
 
 module _ {X : Type 0} (p : X → Bool) where
   -- a place that is answered is the first that passes
@@ -43,13 +41,23 @@ module _ {X : Type 0} (p : X → Bool) where
   position-push_new xs y e passes =
       position_from (xs ++ y ∷ []) (length xs) (omega (arith, length_push xs y)) (grind (arith, nat_tests, passes, position_none xs e, position_or_len_push p xs y))
 
--- the place in a list of images is the place of the first whose image passes
-pub position-map : {X Y : Type 0} (p : Y → Bool) (f : X → Y) (xs : List X) → position p (map f xs) ≡ position (λ x. p (f x)) xs
-position-map p f xs = grind (arith, first-map p f xs, length-map xs f)
-  where
-    first-map : {X Y : Type 0} (p : Y → Bool) (f : X → Y) (xs : List X) → position_or_len p (map f xs) ≡ position_or_len (λ x. p (f x)) xs
-    first-map p f [] = refl
-    first-map p f (x ∷ xs) = ap (λ n. cond (not (p (f x))) (1 + n) 0) (first-map p f xs)
+  -- a new element that does not pass changes no place
+  pub position-push_other : (xs : List X) (y : X) → p y ≡ false → position p (xs ++ y ∷ []) ≡ position p xs
+  position-push_other xs y fails =
+      grind (arith, nat_tests, fails, position_or_len_push p xs y, length_push xs y, prefix_len-le-length (λ x. not (p x)) xs)
+
+  passed-misses : (xs : List X) (k : ℕ) (d : X) → position_or_len p xs ≡ length xs → k < length xs → p (get_or xs k d) ≡ false
+  passed-misses [] k d passed l = absurd (omega arith)
+  passed-misses (x ∷ xs) k d passed l = by (passed-misses xs) (p x) refl k passed l
+    where
+      by : ((k : ℕ) (d : X) → position_or_len p xs ≡ length xs → k < length xs → p (get_or xs k d) ≡ false) → (b : Bool) → p x ≡ b → (k : ℕ) → cond (not b) (1 + position_or_len p xs) 0 ≡ suc (length xs) → k < suc (length xs) → p (get_or (x ∷ xs) k d) ≡ false
+      by rest true e k passed l = absurd (omega arith)
+      by rest false e zero passed l = e
+      by rest false e (suc k) passed l = rest k d (omega arith) (omega arith)
+
+  -- where no place is answered no element passes
+  pub position_misses : (xs : List X) → position p xs ≡ None → (k : ℕ) (d : X) → k < length xs → p (get_or xs k d) ≡ false
+  position_misses xs none k d l = passed-misses xs k d (position_none xs none) l
 
 -- a text is the same label as itself
 pub is_same_refl : (text : List ℕ) → is_same text text ≡ true
@@ -102,20 +110,7 @@ pub place_of-reads : (texts : List (List ℕ)) (text : List ℕ) (n : ℕ) → p
 place_of-reads texts text n e =
     let at = position-Some (is_same text) texts n [] e in (at.0, at.1)
 
--- a place that has a text is a place of the list
-within-at : (texts : List (List ℕ)) (n : ℕ) (text : List ℕ) → slice_get texts n ≡ Some text → n < length texts
-within-at texts n text at =
-    let cases = (slice_get_cases texts n).1 in
-    elim cases [ inl found ↦ found.1 | inr past ↦ absurd (let none : slice_get texts n ≡ None = past.1 in cc) ]
-
--- the place of the text at a place is that place
-pub place_of-at : (texts : List (List ℕ)) (n : ℕ) (text : List ℕ) → AreLabels texts → slice_get texts n ≡ Some text → place_of texts text ≡ Some n
-place_of-at texts n text labels at =
-    let read : get_or texts n [] ≡ text = get_or_from_slice_get texts n text [] at in
-    place_of-unique texts text n labels.distinct (within-at texts n text at) (rw read (is_same_refl text))
-
--- the text at a place is short
-pub short-at : (texts : List (List ℕ)) (n : ℕ) (text : List ℕ) → AreLabels texts → slice_get texts n ≡ Some text → length text ≤ 63
-short-at texts n text labels at =
-    let read : get_or texts n [] ≡ text = get_or_from_slice_get texts n text [] at in
-    rw read at (labels.short n [] (within-at texts n text at))
+-- a place that is answered is a place of the list
+pub place_of-within : (texts : List (List ℕ)) (text : List ℕ) (answer : Option ℕ) → answer ≡ place_of texts text → IfSome answer (λ n. n < length texts)
+place_of-within texts text None e = tt
+place_of-within texts text (Some n) e = (place_of-reads texts text n (sym e)).0

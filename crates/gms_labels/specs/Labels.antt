@@ -3,6 +3,14 @@ use Rattle.std.specs.Prelude.{◌≡◌, ℕ, ◌≤◌, Bool, false, List, [], 
 use Rattle.std.specs.Char.{to_ascii_lowercase}
 use Rattle.std.specs.Str.{str_eq_ignore_ascii_case}
 
+-- how many bytes a label may have
+abbrev pub longest : ℕ
+longest = 63
+
+-- how many labels a table may have
+abbrev pub most_labels : ℕ
+most_labels = 65536
+
 -- a text with its ASCII letters in lower case
 abbrev pub folded : List ℕ → List ℕ
 folded text = map to_ascii_lowercase text
@@ -21,7 +29,7 @@ entered texts text = if is_some (place_of texts text) then texts else texts ++ t
 
 -- the text is new, and the list has as many texts as a table may have
 abbrev pub IsFullFor : List (List ℕ) → List ℕ → Type 0
-IsFullFor texts text = (place_of texts text ≡ None) × (length texts ≡ 65536)
+IsFullFor texts text = (place_of texts text ≡ None) × (length texts ≡ most_labels)
 
 -- no two texts of the list are one label
 abbrev pub AreDistinct : List (List ℕ) → Type 0
@@ -31,7 +39,7 @@ AreDistinct texts = AllPairs (λ a b. is_same a b ≡ false) texts
 pub record AreLabels (texts : List (List ℕ)) : Type 0 where
   -- no two are one label
   pub distinct : AreDistinct texts
-  -- there are at most 65,536
-  pub few : length texts ≤ 65536
-  -- each has at most 63 bytes
-  pub short : All (λ text. length text ≤ 63) texts
+  -- there are no more than a table may have
+  pub few : length texts ≤ most_labels
+  -- none is longer than a label may be
+  pub short : All (λ text. length text ≤ longest) texts

@@ -1,6 +1,6 @@
 //! A text in lower case, in a buffer that needs no memory.
 ghost use Rattle.std.specs.Prelude.{◌≡◌, ◌≤◌, length};
-ghost use Rattle.gms_labels.specs.Labels.{folded};
+ghost use Rattle.gms_labels.specs.Labels.{longest, folded};
 
 use crate::labels::MOST_BYTES;
 use std::marker::Model;
@@ -25,7 +25,7 @@ impl Model for Folded {
 impl Folded {
     /// The text in lower case.
     pub fn new(text: &str) -> Folded
-        requires { length text.now ≤ MOST_BYTES }
+        requires { length text.now ≤ longest }
         ensures { result ≡ folded text.now }
     {
         let len = text.len();

@@ -1,11 +1,11 @@
 //! The table of labels.
 ghost use Rattle.std.specs.Prelude.{◌≡◌, ◌<◌, ◌≤◌, ◌↔◌, ℕ, List, [], length, slice_get, IsSome, IfSome, IsOk, IfOk, OnOk, OnErr, IsErrOf, IsTrue, IsOkUnless, ◌∷◌, ◌++◌};
-ghost use Rattle.gms_labels.specs.Labels.{place_of, entered, IsFullFor, AreLabels};
+ghost use Rattle.gms_labels.specs.Labels.{longest, most_labels, place_of, entered, IsFullFor, AreLabels};
 
 use crate::fault::LabelFault;
 use crate::folded::Folded;
-use indexmap::IndexMap;
 use std::alloc::Global;
+use std::collections::BTreeMap;
 use std::marker::Model;
 
 /// How many labels a table has at most.
@@ -17,21 +17,32 @@ pub const MOST_BYTES: usize = 63;
 /// A table of labels: texts that differ when letter case is ignored, each named by its place, in the order in
 /// which they were entered.
 ///
-/// A text keeps the case in which it was first written. Only the case of ASCII letters is ignored.
-#[derive(Drop)]
+/// A text keeps the case in which it was first written. Only the case of ASCII letters is ignored. A search goes down
+/// a tree, so its time grows with the logarithm of the number of labels, whatever the labels are.
 pub struct Labels {
-    texts: IndexMap<Vec<u8>, String>,
+    texts: Vec<String>,
+    places: BTreeMap<Vec<u8>, u32>,
+}
+
+// Written out, so that it is proved here alone, and not in each crate that lets one go.
+impl Drop for Labels {
+    fn drop(self) {
+        let Self {
+            texts: _,
+            places: _,
+        } = self;
+    }
 }
 
 impl Model for Labels {
-    ghost use Rattle.std.specs.Prelude.{List, ℕ};
-    ghost use Rattle.gms_labels.specs.Table.{texts_of, IsKept};
+    ghost use Rattle.std.specs.Prelude.{List, ℕ, map, string_bytes};
+    ghost use Rattle.gms_labels.specs.Table.{IsKept};
 
     ghost Value = { List (List ℕ) };
 
-    ghost view = { λ l. texts_of l.texts.entries };
+    ghost view = { λ l. map string_bytes l.texts.items };
 
-    ghost invariant = { λ l. IsKept l.texts.entries };
+    ghost invariant = { λ l. IsKept (map string_bytes l.texts.items) l.places };
 }
 
 impl Labels {
@@ -40,7 +51,8 @@ impl Labels {
         ensures { result ≡ [] }
     {
         Labels {
-            texts: IndexMap::new(alloc),
+            texts: Vec::new(alloc),
+            places: BTreeMap::new(alloc),
         }
     }
 
@@ -64,7 +76,7 @@ impl Labels {
     /// `Full` comes exactly where the text is new and the table has 65,536 labels. After `Full`, and after want of
     /// memory, the table is as it was.
     pub fn enter(&mut self, alloc: Global, text: &str) -> Result<u32, LabelFault>
-        requires { length text.now ≤ MOST_BYTES }
+        requires { length text.now ≤ longest }
         // The text has the place that is answered, and a new one stands last.
         ensures ok { OnOk result (self.new ≡ entered self.old text.now) }
         ensures place { IfOk result (λ n. place_of self.new text.now ≡ Some n) }
@@ -91,41 +103,43 @@ impl Labels {
 
     /// Enters a text that is new, where there is room for it.
     fn append(&mut self, alloc: Global, text: &str) -> Result<(), LabelFault>
-        requires short { length text.now ≤ MOST_BYTES }
+        requires short { length text.now ≤ longest }
         requires new { place_of self.old text.now ≡ None }
-        requires room { length self.old < MOST_LABELS }
+        requires room { length self.old < most_labels }
         ensures ok { OnOk result (self.new ≡ self.old ++ text.now ∷ []) }
         ensures err { OnErr result (self.new ≡ self.old) }
         ensures memory { IsOkUnless result LabelFault.Memory }
         ensures labels { OnOk result (AreLabels self.new) }
     {
+        let place = self.len();
         let folded = Folded::new(text);
         let key = Vec::from_slice(alloc, folded.as_slice())?;
         let written = String::from_str(alloc, text)?;
-        self.texts.insert(key, written)?;
+        // room first, so that nothing can fail once the tree has the key
+        self.texts.reserve(1)?;
+        self.places.insert(key, place)?;
+        self.texts.push(written)?;
         Ok(())
     }
 
     /// The place of a text, letter case ignored. `None` exactly where it is not there.
     pub fn find(&self, text: &str) -> Option<u32>
-        requires { length text.now ≤ MOST_BYTES }
+        requires { length text.now ≤ longest }
         ensures place { result ≡ place_of self.now text.now }
         ensures within { IfSome result (λ n. n < length self.now) }
         ensures labels { AreLabels self.now }
     {
         let folded = Folded::new(text);
-        let place = self.texts.get_index_of(folded.as_slice())?;
-        Some(place as u32)
+        self.places.get(folded.as_slice()).copied()
     }
 
     /// The text at a place, as it was first written.
     pub fn text(&self, n: u32) -> &str
         requires { n < length self.now }
         ensures value { slice_get self.now n ≡ Some result.now }
-        ensures short { length result.now ≤ MOST_BYTES }
+        ensures short { length result.now ≤ longest }
         ensures place { place_of self.now result.now ≡ Some n }
     {
-        let (_, written) = self.texts.get_index(n as usize).unwrap();
-        written.as_str()
+        self.texts[n as usize].as_str()
     }
 }

@@ -4,8 +4,10 @@
 mod fault;
 mod folded;
 mod labels;
+mod laws;
 mod place;
 
 pub use fault::LabelFault;
 pub use labels::{Labels, MOST_BYTES, MOST_LABELS};
+pub use laws::limit_laws;
 pub use place::Place;

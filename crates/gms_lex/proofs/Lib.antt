@@ -8,3 +8,8 @@ pub mod PlacedLemmas
 pub mod ReadingLemmas
 pub mod SolidLemmas
 pub mod TableLemmas
+pub mod FrontLemmas
+pub mod NumberLemmas
+pub mod SymbolLemmas
+pub mod LongestLemmas
+pub mod ApartLemmas

@@ -1,22 +1,23 @@
 -- Places of a source come in the order of its bytes.
-use Rattle.std.proofs.Common.{◌≡◌, inl, inr, ℕ, ◌+◌, ◌-◌, ◌*◌, ◌/◌, ◌==◌, ◌<◌, ◌≤◌, Bool, true, false, if◌then◌else◌, List, [], ◌∷◌, length, take, drop, fold, refl, sym, ap, ◌∙◌, subst, arith}
+use Rattle.std.proofs.Common.{◌≡◌, inl, inr, ℕ, ◌+◌, ◌-◌, ◌==◌, ◌<◌, ◌≤◌, Bool, true, false, if◌then◌else◌, List, [], ◌∷◌, length, take, drop, fold, refl, sym, ap, ◌∙◌, subst, arith}
 use Rattle.std.proofs.lemmas.List.Sums.{fold-append}
 use Rattle.std.proofs.Math.Seq.{take-add}
 use Rattle.std.proofs.lemmas.List.{length-drop, length-take-le}
 use Rattle.gms_labels.specs.declared.place.Place.{Place}
+use Rattle.gms_lexemes.specs.Columns.{column_after}
+use Rattle.gms_lexemes.proofs.ColumnLemmas.{column_after-bounds}
 use Rattle.gms_lex.specs.Places.{IsEarlier, place_after, place_behind, place_of, source_start}
 
 -- the place of a byte further on
 pub place_of-add : (source : List ℕ) (n k : ℕ) → place_behind (place_of source n) (take k (drop n source)) ≡ place_of source (n + k)
 place_of-add source n k = sym (fold-append place_after source_start (take n source) (take k (drop n source))) ∙ ap (fold place_after source_start) (sym (take-add n k source))
 
-behind_by : (at : Place) (feed tab : Bool) → IsEarlier at (if feed then record { line = at.line + 1; column = 1 } else (if tab then record { line = at.line; column = (at.column + 7) / 8 * 8 + 1 } else record { line = at.line; column = at.column + 1 }))
-behind_by at true tab = inl (omega arith)
-behind_by at false true = inr (refl, omega arith)
-behind_by at false false = inr (refl, omega arith)
+behind_by : (at : Place) (feed : Bool) (column : ℕ) → at.column < column → IsEarlier at (if feed then record { line = at.line + 1; column = 1 } else record { line = at.line; column = column })
+behind_by at true column further = inl (omega arith)
+behind_by at false column further = inr (refl, further)
 
 earlier_behind : (at : Place) (b : ℕ) → IsEarlier at (place_after at b)
-earlier_behind at b = behind_by at (b == 10) (b == 9)
+earlier_behind at b = behind_by at (b == 10) (column_after at.column b) (column_after-bounds at.column b).0
 
 earlier_trans : (p q r : Place) → IsEarlier p q → IsEarlier q r → IsEarlier p r
 earlier_trans p q r (inl a) (inl b) = inl (omega arith)

@@ -6,3 +6,6 @@ pub mod Places
 pub mod Tokens
 pub mod Readings
 pub mod TokenTexts
+pub mod Spellings
+pub mod Longest
+pub mod Apart

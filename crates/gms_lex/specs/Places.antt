@@ -1,15 +1,16 @@
 -- Places in a source: lines and columns, each counted from 1.
-use Rattle.std.specs.Prelude.{◌≡◌, ◌⊎◌, ℕ, ◌<◌, ◌+◌, ◌*◌, ◌/◌, ◌==◌, if◌then◌else◌, List, take, fold}
+use Rattle.std.specs.Prelude.{◌≡◌, ◌⊎◌, ℕ, ◌<◌, ◌+◌, ◌==◌, if◌then◌else◌, List, take, fold}
 use Rattle.gms_labels.specs.declared.place.Place.{Place}
+use Rattle.gms_lexemes.specs.Columns.{column_after}
 
 -- where a source begins
 abbrev pub source_start : Place
 source_start = record { line = 1; column = 1 }
 
--- The place behind a byte. A line feed goes to the next line, and a tab to the next column that is one more than a multiple of 8.
+-- The place behind a byte. A line feed goes to the next line.
 abbrev pub place_after : Place → ℕ → Place
 place_after at b =
-    if b == 10 then record { line = at.line + 1; column = 1 } else (if b == 9 then record { line = at.line; column = (at.column + 7) / 8 * 8 + 1 } else record { line = at.line; column = at.column + 1 })
+    if b == 10 then record { line = at.line + 1; column = 1 } else record { line = at.line; column = column_after at.column b }
 
 -- the place behind these bytes
 abbrev pub place_behind : Place → List ℕ → Place

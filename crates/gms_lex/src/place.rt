@@ -4,6 +4,7 @@ ghost use Rattle.gms_lex.specs.Places.{place_after, place_behind, place_of};
 ghost use Rattle.gms_lex.specs.Tokens.{most_bytes};
 
 use gms_labels::Place;
+use gms_lexemes::column_after;
 
 /// Where a source begins.
 pub(crate) const SOURCE_START: Place = Place { line: 1, column: 1 };
@@ -19,13 +20,9 @@ fn place_after(at: Place, byte: u8) -> Place
             line: at.line + 1,
             column: 1,
         },
-        b'\t' => Place {
-            line: at.line,
-            column: (at.column + 7) / 8 * 8 + 1,
-        },
         _ => Place {
             line: at.line,
-            column: at.column + 1,
+            column: column_after(at.column, byte),
         },
     }
 }

@@ -1,1 +1,3 @@
+pub mod ColumnLemmas
+pub mod StretchLemmas
 pub mod WithinLemmas

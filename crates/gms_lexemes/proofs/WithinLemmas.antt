@@ -18,9 +18,11 @@ use Rattle.gms_lexemes.specs.Bytes.{is_name_byte, is_label_byte, is_quote, is_te
 use Rattle.gms_lexemes.specs.Numbers.{begins_number, begins_dot, digit_count, point_length, sign_length, exponent_length, decimal_length, number_length}
 use Rattle.gms_lexemes.specs.Symbols.{written, symbols, begins_with, symbol_at}
 use Rattle.gms_lexemes.specs.Shapes.{Read, lexeme, misread, longest_label, bounded, symbol_of, symbol, quoted_length, is_closed, is_label, quoted, code_token, label_token, remark, IsWithin}
-use Rattle.gms_lexemes.specs.declared.table.Spot.{Spot}
-use Rattle.gms_lexemes.specs.declared.table.Spot.TheVariants.{LabelStart}
-use Rattle.gms_lexemes.specs.TableLines.{ends_table, spot_after, table_length, table_bytes, table_line}
+use Rattle.gms_lexemes.specs.declared.stretch.Separator.TheVariants.{Semicolon}
+use Rattle.gms_lexemes.specs.declared.stretch.Stand.TheVariants.{First}
+use Rattle.gms_lexemes.specs.Stretches.{is_separator}
+use Rattle.gms_lexemes.specs.TableLines.{table_bytes, table_line}
+use Rattle.gms_lexemes.proofs.StretchLemmas.{stretch_length-le}
 
 -- a choice is within the text where both sides are
 pub if_within : (text : List ℕ) (b : Bool) (x y : Read) → (b ≡ true → IsWithin text x) → (b ≡ false → IsWithin text y) → IsWithin text (if b then x else y)
@@ -201,10 +203,6 @@ pub table_line_within : (n : ℕ) (text : List ℕ) → 0 < n → n ≤ length t
 table_line_within n text some le = if_within text (nat_lt (prefix_len is_plain (take n text)) n) _ _
     (λ h. omega (arith, prefix_len-le-length is_plain (take n text), length-take-le n text le)) (λ _. (some, le))
 
-table_length_le : (spot : Spot) (line : List ℕ) → table_length spot line ≤ length line
-table_length_le spot [] = omega arith
-table_length_le spot (b ∷ rest) = if_at_most (ends_table spot b) 0 (1 + table_length (spot_after spot b rest) rest) (suc (length rest)) (omega arith) (omega (arith, table_length_le (spot_after spot b rest) rest))
-
 -- a line of a table is a part of the line
 pub table_bytes_le : (line : List ℕ) → table_bytes line ≤ length line
-table_bytes_le line = table_length_le LabelStart line
+table_bytes_le line = stretch_length-le (is_separator Semicolon) First line

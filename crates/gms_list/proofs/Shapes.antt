@@ -132,6 +132,10 @@ statuses made solver model level a b c pivots most e f g h =
     pieces : (p d l k n a b o c : List ℕ) → p ++ (d ++ (l ++ (k ++ (n ++ (a ++ (b ++ (o ++ (c ++ n)))))))) ≡ (p ++ d ++ l ++ k ++ n) ++ (a ++ (b ++ (o ++ c ++ n)))
     pieces p d l k n a b o c = simp append_assoc
 
+-- the line of a status
+pub status_line : (made word text a : List ℕ) (n m : ℕ) → made ≡ word ++ (decimal n ++ (codes " " ++ (text ++ codes "\n"))) → n ≡ m → text ≡ a → made ≡ line_of (word ++ decimal m ++ codes " " ++ a)
+status_line made word text a n m e f g = rw (e, f, g) (simp append_assoc)
+
 -- an error with its place
 pub error_line : (made begins name a : List ℕ) (code row column k : ℕ) → made ≡ begins ++ (decimal code ++ (codes " " ++ (name ++ (codes " at line " ++ (decimal row ++ (codes " column " ++ (decimal column ++ codes "\n"))))))) → code ≡ k → name ≡ a →
     made ≡ line_of (begins ++ decimal k ++ codes " " ++ a ++ (codes " at line " ++ decimal row ++ codes " column " ++ decimal column))

@@ -6,13 +6,38 @@ use Rattle.gq_number.specs.Number.{Number}
 use Rattle.lp_core.specs.declared.answer.Answer.{Answer}
 use Rattle.lp_core.specs.declared.program.Row.{Row}
 use Rattle.lp_core.specs.Numbers.{lp_numbers, row_numbers, column_numbers, end_numbers, entries_numbers, answer_numbers}
+use Rattle.gms_store.specs.declared.status.SolveStatus.{SolveStatus}
+use Rattle.gms_store.specs.Statuses.{model_number, model_text, solver_number, solver_text}
+use Rattle.gms_event.specs.Endings.{solve_status}
+use Rattle.lp_core.specs.declared.answer.End.{End}
+use Rattle.lp_core.specs.declared.answer.End.TheVariants.{Optimal, Infeasible, Unbounded, Interrupted, Refused}
 use Rattle.gms_list.specs.declared.solution.Solution.{Solution as OwnSolution}
 use Rattle.gms_list.specs.declared.solves.Solved.{Solved as OwnSolved}
 use Rattle.gms_list.specs.Amounts.{line_of}
-use Rattle.gms_list.specs.SolveText.{Solution, amount, solver_status_text, model_status_text, head_text, rows_listing, columns_listing, summary_text, solution_text, solution_of, proof_text, solve_text}
+use Rattle.gms_list.specs.SolveText.{Solution, amount, head_text, rows_listing, columns_listing, solver_status_text, model_status_text, summary_text, solution_text, solution_of, proof_text, solve_text}
 use Rattle.gms_list.specs.Walks.{solution_in, solved_in, status_lines}
 use Rattle.gms_list.proofs.Shapes.{statuses, summary_lines}
 use Rattle.gms_list.proofs.Walks.{Walked, walk}
+
+-- the numbers of an end count as it does
+status-numbers : {F : Type 0} (value : F → Number) (end : End F) → solve_status (end_numbers value end) ≡ solve_status end
+status-numbers value (Optimal levels row_levels duals reduced) = refl
+status-numbers value (Unbounded levels row_levels ray) = refl
+status-numbers value (Infeasible duals crossed) = refl
+status-numbers value (Interrupted phase levels row_levels) = refl
+status-numbers value (Refused name) = refl
+
+-- the line of the solver's status, of an end that counts so
+pub solver_line_of : {F : Type 0} (value : F → Number) (end : End F) (made : List ℕ) (status : SolveStatus) → status ≡ solve_status end →
+    made ≡ line_of (codes "SOLVER STATUS " ++ decimal (solver_number status) ++ codes " " ++ solver_text status) → made ≡ line_of (solver_status_text (end_numbers value end))
+solver_line_of value end made status is e =
+    e ∙ ap (λ (s : SolveStatus). line_of (codes "SOLVER STATUS " ++ decimal (solver_number s) ++ codes " " ++ solver_text s)) (is ∙ sym (status-numbers value end))
+
+-- the line of the model's status, likewise
+pub model_line_of : {F : Type 0} (value : F → Number) (end : End F) (made : List ℕ) (status : SolveStatus) → status ≡ solve_status end →
+    made ≡ line_of (codes "MODEL STATUS " ++ decimal (model_number status) ++ codes " " ++ model_text status) → made ≡ line_of (model_status_text (end_numbers value end))
+model_line_of value end made status is e =
+    e ∙ ap (λ (s : SolveStatus). line_of (codes "MODEL STATUS " ++ decimal (model_number s) ++ codes " " ++ model_text s)) (is ∙ sym (status-numbers value end))
 
 -- the statuses, of an answer with so many pivots
 pub statuses_of : {F : Type 0} (value : F → Number) (answer : Answer F) (made solver model level : List ℕ) (x : Number) (pivots most : ℕ) →

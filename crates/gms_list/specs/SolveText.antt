@@ -9,6 +9,8 @@ use Rattle.gms_event.specs.Events.{Solved}
 use Rattle.gms_fmt.specs.Columns.{right_in, left_in}
 use Rattle.gms_fmt.specs.ElementTexts.{text_of, element_text, joined_by}
 use Rattle.lp_check.specs.BoundSteps.{steps_of_bound, bound_of}
+use Rattle.gms_store.specs.Statuses.{model_number, model_text, solver_number, solver_text}
+use Rattle.gms_event.specs.Endings.{solve_status}
 use Rattle.lp_core.specs.declared.answer.Answer.{Answer}
 use Rattle.lp_core.specs.declared.answer.End.{End}
 use Rattle.lp_core.specs.declared.answer.End.TheVariants.{Optimal, Infeasible, Unbounded, Interrupted, Refused}
@@ -66,24 +68,13 @@ sense_text sense.N = codes " =N= "
 
 -- ---- statuses
 
--- the status of the model after an interrupt in a phase
-abbrev pub interrupted_text : ℕ → List ℕ
-interrupted_text phase =
-    if phase == 1 then codes "MODEL STATUS 6 Intermediate Infeasible" else codes "MODEL STATUS 7 Intermediate Nonoptimal"
-
--- the status of the model
+-- the status of the model, by its number, which `.modelstat` has, and its text
 abbrev pub model_status_text : End Number → List ℕ
-model_status_text (Optimal levels row_levels duals reduced) = codes "MODEL STATUS 1 Optimal"
-model_status_text (Unbounded levels row_levels ray) = codes "MODEL STATUS 3 Unbounded"
-model_status_text (Infeasible duals crossed) = codes "MODEL STATUS 4 Infeasible"
-model_status_text (Interrupted phase levels row_levels) = interrupted_text phase
-model_status_text (Refused name) = codes "MODEL STATUS 13 Error No Solution"
+model_status_text end = codes "MODEL STATUS " ++ decimal (model_number (solve_status end)) ++ codes " " ++ model_text (solve_status end)
 
--- the status of the solver
+-- the status of the solver, by its number, which `.solvestat` has, and its text
 abbrev pub solver_status_text : End Number → List ℕ
-solver_status_text (Interrupted phase levels row_levels) = codes "SOLVER STATUS 2 Iteration Interrupt"
-solver_status_text (Refused name) = codes "SOLVER STATUS 4 Terminated By Solver"
-solver_status_text end = codes "SOLVER STATUS 1 Normal Completion"
+solver_status_text end = codes "SOLVER STATUS " ++ decimal (solver_number (solve_status end)) ++ codes " " ++ solver_text (solve_status end)
 
 -- ---- levels and marginals
 

@@ -11,9 +11,16 @@ use std::marker::Model;
 ///
 /// Each call appends the text of what it is given; after want of memory the front of that text is appended, and no more. GAMS User's
 /// Guide, "GAMS Output".
-#[derive(Debug, Drop)]
+#[derive(Debug)]
 pub struct Listing {
     pub(crate) text: Vec<u8>,
+}
+
+// Written out, so that it is proved here alone, and not in each crate that lets one go.
+impl Drop for Listing {
+    fn drop(self) {
+        let Self { text: _ } = self;
+    }
 }
 
 impl Model for Listing {

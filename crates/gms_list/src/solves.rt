@@ -1,11 +1,12 @@
 //! What a solve shows.
-ghost use Rattle.std.specs.Prelude.{◌≡◌, ℕ, [], length, sum, map, option_map, if◌then◌else◌, string_bytes, IfOk};
+ghost use Rattle.std.specs.Prelude.{◌≡◌, ◌++◌, ℕ, [], length, sum, map, option_map, if◌then◌else◌, string_bytes, codes, decimal, IfOk};
 ghost use Rattle.gms_fmt.specs.Columns.{Appends};
+ghost use Rattle.gms_store.specs.Statuses.{model_number, model_text, solver_number, solver_text};
 ghost use Rattle.lp_core.specs.Numbers.{lp_numbers, end_numbers, answer_numbers};
 ghost use Rattle.lp_core.specs.WellFormed.{IsWellFormed};
 ghost use Rattle.gms_list.specs.Amounts.{line_of};
 ghost use Rattle.gms_list.specs.Conditions.{IsProved};
-ghost use Rattle.gms_list.specs.SolveText.{direction, head_text, solver_status_text, model_status_text, solution_of, solution_text, summary_text, solve_text};
+ghost use Rattle.gms_list.specs.SolveText.{direction, head_text, solution_of, solution_text, summary_text, solve_text};
 ghost use Rattle.gms_list.specs.Walks.{solution_in, solved_in, status_lines};
 
 use crate::amounts::amount;
@@ -13,8 +14,9 @@ use crate::equations::column_text;
 use crate::listing::Listing;
 use crate::solution::{Marks, Solution};
 use gms_ast::Program;
+use gms_event::solve_status;
 use gms_fmt::text_of;
-use gms_store::Settings;
+use gms_store::{Settings, SolveStatus};
 use gq_field::ExactField;
 use gq_text::Digits;
 use lp_core::{Answer, End, Lp, Row};
@@ -48,33 +50,6 @@ fn nonzeros<F>(rows: &[Row<F>]) -> u128
         count += row.entries.len() as u128;
     }
     count
-}
-
-/// The status of the solver, as a line.
-fn solver_status<F: ExactField>(end: &End<F>) -> &'static str
-    ensures { result.now ≡ line_of (solver_status_text (end_numbers F.value end.now)) }
-{
-    match end {
-        End::Optimal { .. } | End::Infeasible { .. } | End::Unbounded { .. } => {
-            "SOLVER STATUS 1 Normal Completion\n"
-        }
-        End::Interrupted { .. } => "SOLVER STATUS 2 Iteration Interrupt\n",
-        End::Refused { .. } => "SOLVER STATUS 4 Terminated By Solver\n",
-    }
-}
-
-/// The status of the model, as a line.
-fn model_status<F: ExactField>(end: &End<F>) -> &'static str
-    ensures { result.now ≡ line_of (model_status_text (end_numbers F.value end.now)) }
-{
-    match end {
-        End::Optimal { .. } => "MODEL STATUS 1 Optimal\n",
-        End::Unbounded { .. } => "MODEL STATUS 3 Unbounded\n",
-        End::Infeasible { .. } => "MODEL STATUS 4 Infeasible\n",
-        End::Interrupted { phase: 1, .. } => "MODEL STATUS 6 Intermediate Infeasible\n",
-        End::Interrupted { .. } => "MODEL STATUS 7 Intermediate Nonoptimal\n",
-        End::Refused { .. } => "MODEL STATUS 13 Error No Solution\n",
-    }
 }
 
 /// The levels and marginals that an end has.
@@ -131,6 +106,24 @@ fn direction(maximize: bool) -> &'static str
     }
 }
 
+/// The line of the solver's status.
+fn solver_line(alloc: Global, status: SolveStatus) -> Result<String, AllocError>
+    ensures { IfOk result (λ text. string_bytes text ≡ line_of (codes "SOLVER STATUS " ++ decimal (solver_number status) ++ codes " " ++ solver_text status)) }
+{
+    let number = status.solver_number();
+    let name = status.solver_text();
+    format!(in alloc; "SOLVER STATUS {number} {name}\n")
+}
+
+/// The line of the model's status.
+fn model_line(alloc: Global, status: SolveStatus) -> Result<String, AllocError>
+    ensures { IfOk result (λ text. string_bytes text ≡ line_of (codes "MODEL STATUS " ++ decimal (model_number status) ++ codes " " ++ model_text status)) }
+{
+    let number = status.model_number();
+    let name = status.model_text();
+    format!(in alloc; "MODEL STATUS {number} {name}\n")
+}
+
 /// The lines of a solve's statuses and of the level of the objective, behind how many pivots were taken.
 fn status_lines<F: ExactField>(
     alloc: Global,
@@ -141,8 +134,9 @@ fn status_lines<F: ExactField>(
 {
     let pivots = answer.pivots.len();
     let limit = s.settings.iterlim;
-    let solver = solver_status(&answer.end);
-    let model = model_status(&answer.end);
+    let status = solve_status(&answer.end);
+    let solver = solver_line(alloc, status)?;
+    let model = model_line(alloc, status)?;
     let mut digits = Digits::new();
     let level = amount(s.objective_level, &mut digits);
     format!(in alloc; " PIVOTS {pivots} LIMIT {limit}\n{solver}{model}OBJECTIVE {level}\n")

@@ -24,7 +24,7 @@ use Rattle.gms_ast.specs.StatementTrees.{Act, Statements, declares_models, alias
 use Rattle.gms_ast.specs.StatementView.{setting_in, shown_tree, act_step, statement_step}
 use Rattle.gms_grammar.specs.declared.terminal.Terminal.{Terminal}
 use Rattle.gms_grammar.specs.declared.terminal.Terminal.TheVariants.{Abort, Alias, Display, Option, Solve, Table, Name, Suffix, Function, OrdCard, FoldOp, Infinity, NotAvailable, YesNo, Not, And, Or, RelationWord, All, Using, Direction, Reserved, Label, Number, Text, LongText, Equals, LeftParen, RightParen, Comma, Dot, TableLine}
-use Rattle.gms_grammar.specs.Grammar.{one, the, ◌·◌, ◌∣◌, opt, leaf, pair, left, right, none, some, node, yield}
+use Rattle.gms_grammar.specs.Grammar.{one, the, ◌·◌, ◌∣◌, opt, pair, yield}
 use Rattle.gms_grammar.specs.LookAhead.{may_begin}
 use Rattle.gms_grammar.specs.Reading.{read, stuck, leads, Reads, Takes, taken, refused, both, first_stuck, second_stuck, in_right_stuck, in_neither, takes_first, takes_second, takes_right}
 use Rattle.gms_grammar.specs.Terminals.{is, is_among}
@@ -47,11 +47,12 @@ use Rattle.gms_parse.specs.Readings.{Derivation, GamsPart, Gives, Refuses, Sense
 use Rattle.gms_parse.specs.Meanings.{IsNamed, IsWord, IsMethod, IsObjective, IsSuffix, IsShown, AreShown, IsCondition, IsSetting, IsAct, act_view}
 use Rattle.gms_parse.proofs.TokenKinds.{begins, leads_alike, led_first, unled_next}
 use Rattle.gms_parse.proofs.Walks.{keyword_after, room_for_none}
-use Rattle.gms_parse.proofs.Steps.{gives_one, gives_both, gives_the, gives_left, gives_right, gives_none, gives_some, by_cause, stuck_as, wrong_as, refuses_first, refuses_second, refuses_the, refuses_left, refuses_right, refuses_some}
+use Rattle.gms_parse.proofs.Steps.{got_by, gives_one, gives_as, gives_both, gives_the, gives_left, gives_right, gives_none, gives_some, by_cause, stuck_as, wrong_as, refuses_first, refuses_second, refuses_the, refuses_left, refuses_right, refuses_some}
 use Rattle.gms_parse.proofs.Nexts.{past, exact_kind, led_next, refuses_lacking, gives_exact, plain_stays, stays_same, stays_then, earlier, begun_has, begun_starts, opened, open_starts, close_stays, gives_bracketed, got_inside, refuses_within, refuses_inside, refuses_unclosed}
 use Rattle.gms_parse.proofs.Entering.{number_gives, number_stays, number_refused}
-use Rattle.gms_parse.proofs.Eithers.{led_given, refuses_other, refuses_or}
+use Rattle.gms_grammar.proofs.Eithers.{led_given, refuses_other, refuses_or}
 use Rattle.gms_parse.proofs.Listing.{AreAll, all_meant, list_of}
+pub use Rattle.gms_expressions.proofs.Singles.{leads_attribute}
 
 -- ---- words
 
@@ -110,31 +111,14 @@ module _ (reader : Reader) (w : Walk) (kind : Terminal) (t : Token) (behind : �
 -- a word that is no name of the program
 pub word_got : {limit : ℕ} {reader : Reader} {at behind : ℕ} {t : Token} {w : Walk} {tables : Tables} (n : IsNext is_worded reader at t behind) → Has reader tables w → Nameless w → (x : Word) → x ≡ record { at = t.at; text = token_text reader.source.now t } →
     IsGot limit (IsWord reader.source.now) (Stays reader tables w) word reader at tables w x behind
-word_got {limit} {reader} {at} {behind} {t} {w} n h u x is = record {
-  tree = leaf (n.kind, t);
-  behind = past reader w n.kind t behind;
-  gives = gives_one n.is n.passes (worded_sound reader w n.kind t behind n.passes u limit) refl;
-  leaves = worded_stays reader w n.kind t behind n.passes u h;
-  means = λ sense m. is;
-  further = (let g = n.further in omega arith);
-}
+word_got {limit} {reader} {at} {behind} {t} {w} n h u x is = got_by (gives_one n.is n.passes (worded_sound reader w n.kind t behind n.passes u limit) refl) (worded_stays reader w n.kind t behind n.passes u h) (λ sense m. is)
+    (let g = n.further in omega arith)
 
 -- ---- suffixes
 
--- a dot leads into a suffix
-pub leads_attribute : (ts : List Seen) → leads productions look_ahead (the Attribute) ts ≡ leads productions look_ahead (token Dot) ts
-leads_attribute ts = leads_alike (the Attribute) (token Dot) ts refl refl (same_test (may_begin look_ahead (the Attribute)) (is Dot) refl)
-
 pub suffix_none : {limit : ℕ} {reader : Reader} {at : ℕ} {tables : Tables} {w : Walk} → Has reader tables w → leads productions look_ahead (token Dot) (seen_from reader at) ≡ false →
     IsGot limit (IsSuffix reader.source.now) (Stays reader tables w) (opt (the Attribute)) reader at tables w suffix.None at
-suffix_none {reader = reader} {at = at} {w = w} h unled = record {
-  tree = none;
-  behind = w;
-  gives = gives_none (leads_attribute (seen_from reader at) ∙ unled);
-  leaves = stays_same h;
-  means = λ sense m. refl;
-  further = omega arith;
-}
+suffix_none {reader = reader} {at = at} {w = w} h unled = got_by (gives_none (leads_attribute (seen_from reader at) ∙ unled)) (stays_same h) (λ sense m. refl) (omega arith)
 
 pub suffix_got : {limit : ℕ} {reader : Reader} {at between behind : ℕ} {dot t : Token} {tables : Tables} {w : Walk} → IsNext (is Dot) reader at dot between → IsNext (is Suffix) reader between t behind → Has reader tables w →
     (x : SuffixNode) → x ≡ suffix_of (token_text reader.source.now t) → IsGot limit (IsSuffix reader.source.now) (Stays reader tables w) (opt (the Attribute)) reader at tables w x behind
@@ -142,14 +126,8 @@ suffix_got {limit} {reader} {at} {between} {behind} {dot} {t} {tables} {w} d n h
     let v = past reader w Dot dot between in
     let s = plain_stays reader w Dot dot between refl h in
     let passes : is_worded n.kind ≡ true = ap is_worded (sym (exact_kind {kind = Suffix} n)) in
-    record {
-      tree = some (node (pair (leaf (Dot, dot)) (leaf (n.kind, t))));
-      behind = past reader v n.kind t behind;
-      gives = gives_some (leads_attribute (seen_from reader at) ∙ led_next d) (gives_the Attribute (gives_both (gives_exact d refl) (gives_one n.is n.passes (worded_sound reader v n.kind t behind passes refl limit) refl)));
-      leaves = stays_then s (worded_stays reader v n.kind t behind passes refl s.has);
-      means = λ sense m. is;
-      further = (let a = d.further in let b = n.further in omega arith);
-    }
+    got_by (gives_some (leads_attribute (seen_from reader at) ∙ led_next d) (gives_the Attribute (gives_both (gives_exact d refl) (gives_one n.is n.passes (worded_sound reader v n.kind t behind passes refl limit) refl))))
+    (stays_then s (worded_stays reader v n.kind t behind passes refl s.has)) (λ sense m. is) (let a = d.further in let b = n.further in omega arith)
 
 pub suffix_refused : {limit : ℕ} {reader : Reader} {at between : ℕ} {dot : Token} {w : Walk} {e : SourceFaultOrMemory} → IsNext (is Dot) reader at dot between → IsLacking (is Suffix) reader between e → Refuses limit reader.source.now (opt (the Attribute)) w (seen_from reader at) e
 suffix_refused {reader = reader} {at = at} d l = refuses_some (leads_attribute (seen_from reader at) ∙ led_next d) (refuses_the Attribute (refuses_second (gives_exact {kind = Dot} d refl) (refuses_lacking l)))
@@ -213,27 +191,14 @@ module _ {reader : Reader} {at behind : ℕ} {t : Token} {w : Walk} (n : IsNext 
   -- a text
   pub text_got : {limit : ℕ} {tables : Tables} → Has reader tables w → (x : Word) → x ≡ record { at = t.at; text = unquoted (token_text reader.source.now t) } →
       IsGot limit (IsShown reader.source.now) (Stays reader tables w) (the Shown) reader at tables w (show.Text x) behind
-  text_got {limit} h x is = record {
-    tree = node (left (leaf (n.kind, t)));
-    behind = past reader w n.kind t behind;
-    gives = gives_the Shown (gives_left (led_next n) (gives_one n.is n.passes (text_sound limit) refl));
-    leaves = text_stays h;
-    means = λ sense m. ap show.Text is;
-    further = (let g = n.further in omega arith);
-  }
+  text_got {limit} h x is = got_by (gives_the Shown (gives_left (led_next n) (gives_one n.is n.passes (text_sound limit) refl))) (text_stays h) (λ sense m. ap show.Text is) (let g = n.further in omega arith)
 
 -- a symbol, perhaps with a suffix
 pub symbol_got : {limit : ℕ} {reader : Reader} {at middle next : ℕ} {new : Tables} {w : Walk} {named : Named} {x : SuffixNode} → leads productions look_ahead (any_of (Text ∷ LongText ∷ [])) (seen_from reader at) ≡ false →
     (n : IsGot limit (IsNamed reader.source.now) (Stays reader new w) name reader at new w named middle) → IsGot limit (IsSuffix reader.source.now) (Stays reader new n.behind) (opt (the Attribute)) reader middle new n.behind x next →
     IsGot limit (IsShown reader.source.now) (Stays reader new w) (the Shown) reader at new w (show.Symbol named x) next
-symbol_got {reader = reader} {at = at} unled n s = record {
-  tree = node (right (pair n.tree s.tree));
-  behind = s.behind;
-  gives = gives_the Shown (gives_right unled (led_first (is_among (Name ∷ Suffix ∷ [])) (opt (the Attribute)) (seen_from reader at) (led_given n.gives)) (gives_both n.gives s.gives));
-  leaves = stays_then n.leaves s.leaves;
-  means = λ sense m. ap₂ (λ a b. show.Symbol a b) (n.means sense m) (s.means sense m);
-  further = (let a = n.further in let b = s.further in omega arith);
-}
+symbol_got {reader = reader} {at = at} unled n s = got_by (gives_the Shown (gives_right unled (led_first (is_among (Name ∷ Suffix ∷ [])) (opt (the Attribute)) (seen_from reader at) (led_given n.gives)) (gives_both n.gives s.gives)))
+    (stays_then n.leaves s.leaves) (λ sense m. ap₂ (λ a b. show.Symbol a b) (n.means sense m) (s.means sense m)) (let a = n.further in let b = s.further in omega arith)
 
 pub symbol_unnamed : {limit : ℕ} {source : List ℕ} {w : Walk} {ts : List Seen} {e : SourceFaultOrMemory} → leads productions look_ahead (any_of (Text ∷ LongText ∷ [])) ts ≡ false → Refuses limit source name w ts e → Refuses limit source (the Shown) w ts e
 symbol_unnamed unled r = refuses_the Shown (refuses_or unled r)
@@ -248,14 +213,7 @@ shows_meant source sense tree xs h = sym (map-id xs) ∙ all_meant (IsShown sour
 -- all that is shown
 pub shown_list_got : {limit : ℕ} {reader : Reader} {at next : ℕ} {new : Tables} {w : Walk} {items : List Show} → IsGot limit (AreAll (IsShown reader.source.now)) (Stays reader new w) (list_of (is Comma) (the Shown)) reader at new w items next →
     IsGot limit (AreShown reader.source.now) (Stays reader new w) (the ShownList) reader at new w items next
-shown_list_got {reader = reader} {items = items} got = record {
-  tree = node got.tree;
-  behind = got.behind;
-  gives = gives_the ShownList got.gives;
-  leaves = got.leaves;
-  means = λ sense m. shows_meant reader.source.now sense got.tree items (got.means sense m);
-  further = got.further;
-}
+shown_list_got {reader = reader} {items = items} got = got_by (gives_the ShownList got.gives) got.leaves (λ sense m. shows_meant reader.source.now sense got.tree items (got.means sense m)) got.further
 
 -- where a step of a list that is shown is looked at by itself
 abbrev pub showing : Reader → Tables → Walk
@@ -287,14 +245,8 @@ module _ {F : Type 0} (value : F → Rational) where
 pub display_got : {F : Type 0} (value : F → Rational) {limit : ℕ} {reader : Reader} {at start next : ℕ} {t : Token} {new : Tables} {w : Walk} {items : List Show} → IsNext (is Display) reader at t start →
     IsGot limit (AreShown reader.source.now) (Stays reader new (past reader w Display t start)) (the ShownList) reader start new (past reader w Display t start) items next →
     IsGot limit (IsAct value reader.source.now display_act) (Ends reader new) (the DisplayStatement) reader at new w (act.Display items) next
-display_got value {t = t} {items = items} n got = record {
-  tree = node (pair (leaf (Display, t)) got.tree);
-  behind = got.behind;
-  gives = gives_the DisplayStatement (gives_both (gives_exact n refl) got.gives);
-  leaves = record { holds = got.leaves.has.holds; tableless = ap (is Table) got.leaves.keyword };
-  means = λ sense m. view-Display value items ∙ ap displays (got.means sense m);
-  further = (let a = n.further in let b = got.further in omega arith);
-}
+display_got value {t = t} {items = items} n got = got_by (gives_the DisplayStatement (gives_both (gives_exact n refl) got.gives)) (record { holds = got.leaves.has.holds; tableless = ap (is Table) got.leaves.keyword })
+    (λ sense m. view-Display value items ∙ ap displays (got.means sense m)) (let a = n.further in let b = got.further in omega arith)
 
 -- what an abort shows, where it shows anything
 abbrev pub ArePerhapsShown : List ℕ → Sense → Derivation → List Show → Type 0
@@ -305,11 +257,11 @@ leads_shown ts = leads_alike (the ShownList) (any_of (Text ∷ LongText ∷ Name
 
 pub shows_none : {limit : ℕ} {reader : Reader} {at : ℕ} {tables : Tables} {w : Walk} (items : List Show) → items ≡ [] → leads productions look_ahead (any_of (Text ∷ LongText ∷ Name ∷ Suffix ∷ [])) (seen_from reader at) ≡ false → Has reader tables w →
     IsGot limit (ArePerhapsShown reader.source.now) (Stays reader tables w) (opt (the ShownList)) reader at tables w items at
-shows_none {reader = reader} {at = at} {w = w} items is unled h = record { tree = none; behind = w; gives = gives_none (leads_shown (seen_from reader at) ∙ unled); leaves = stays_same h; means = λ sense m. is; further = omega arith }
+shows_none {reader = reader} {at = at} {w = w} items is unled h = got_by (gives_none (leads_shown (seen_from reader at) ∙ unled)) (stays_same h) (λ sense m. is) (omega arith)
 
 pub shows_some : {limit : ℕ} {reader : Reader} {at next : ℕ} {new : Tables} {w : Walk} {items : List Show} → leads productions look_ahead (any_of (Text ∷ LongText ∷ Name ∷ Suffix ∷ [])) (seen_from reader at) ≡ true →
     IsGot limit (AreShown reader.source.now) (Stays reader new w) (the ShownList) reader at new w items next → IsGot limit (ArePerhapsShown reader.source.now) (Stays reader new w) (opt (the ShownList)) reader at new w items next
-shows_some {reader = reader} {at = at} led got = record { tree = some got.tree; behind = got.behind; gives = gives_some (leads_shown (seen_from reader at) ∙ led) got.gives; leaves = got.leaves; means = got.means; further = got.further }
+shows_some {reader = reader} {at = at} led got = got_by (gives_some (leads_shown (seen_from reader at) ∙ led) got.gives) got.leaves got.means got.further
 
 module _ {reader : Reader} {at start : ℕ} {t : Token} {old : Tables} {w : Walk} (n : IsNext (is Abort) reader at t start) (h : Holds reader old w) where
   pub abort_starts : Starts reader old (past reader w Abort t start)
@@ -321,14 +273,9 @@ module _ {reader : Reader} {at start : ℕ} {t : Token} {old : Tables} {w : Walk
 
     pub abort_got : {new : Tables} {items : List Show} {next : ℕ} → IsGot limit (ArePerhapsShown reader.source.now) (Stays reader new c.behind) (opt (the ShownList)) reader middle new c.behind items next →
         IsGot limit (IsAct value reader.source.now abort_act) (Ends reader new) (the AbortStatement) reader at new w (act.Abort condition items) next
-    abort_got {items = items} got = record {
-      tree = node (pair (leaf (Abort, t)) (pair c.tree got.tree));
-      behind = got.behind;
-      gives = gives_the AbortStatement (gives_both (gives_exact n refl) (gives_both c.gives got.gives));
-      leaves = record { holds = got.leaves.has.holds; tableless = ap (is Table) (got.leaves.keyword ∙ c.leaves.stays.keyword) };
-      means = λ sense m. view-Abort value condition items ∙ ap₂ (λ a b. aborts a b) (c.means sense (earlier got.gives c.leaves.stays.has.holds got.leaves.has.holds m)) (got.means sense m);
-      further = (let a = n.further in let b = c.further in let d = got.further in omega arith);
-    }
+    abort_got {items = items} got = got_by (gives_the AbortStatement (gives_both (gives_exact n refl) (gives_both c.gives got.gives))) (record { holds = got.leaves.has.holds; tableless = ap (is Table) (got.leaves.keyword ∙ c.leaves.stays.keyword) })
+        (λ sense m. view-Abort value condition items ∙ ap₂ (λ a b. aborts a b) (c.means sense (earlier got.gives c.leaves.stays.has.holds got.leaves.has.holds m)) (got.means sense m))
+        (let a = n.further in let b = c.further in let d = got.further in omega arith)
 
     pub abort_refused : {e : SourceFaultOrMemory} → leads productions look_ahead (any_of (Text ∷ LongText ∷ Name ∷ Suffix ∷ [])) (seen_from reader middle) ≡ true → Refuses limit reader.source.now (the ShownList) c.behind (seen_from reader middle) e → Refuses limit reader.source.now (the AbortStatement) w (seen_from reader at) e
     abort_refused led r = refuses_the AbortStatement (refuses_second (gives_exact n refl) (refuses_second c.gives (refuses_some (leads_shown (seen_from reader middle) ∙ led) r)))
@@ -348,28 +295,18 @@ module _ {F : Type 0} (value : F → Rational) {limit : ℕ} {reader : Reader} {
 
   pub setting_number : {next : ℕ} {t : Token} {v : F} → IsNext (is Number) reader start t next → IsValue limit value (token_text reader.source.now t) v →
       IsGot limit (IsSetting value reader.source.now) (Stays reader tables w) (the Setting) reader at tables w (option, setting.Number t.at v) next
-  setting_number {next} {t} {v} n is = record {
-    tree = node (pair o.tree (pair (leaf (Equals, e)) (left (leaf (Number, t)))));
-    behind = past reader (past reader o.behind Equals e start) Number t next;
-    gives = gives_the Setting (gives_both o.gives (gives_both (gives_exact q refl) (gives_left (led_next n) (number_gives (value v) n refl is.0 is.1))));
-    leaves = stays_then equals_stays (number_stays next equals_stays.has);
-    means = λ sense m. ap₂ (λ (a : Word) (b : SettingNode Rational). (a, b)) (o.means sense m) (ap (λ x. setting.Number t.at x) (sym (m.value (token_text reader.source.now t) (value v) is.0)));
-    further = (let a = o.further in let b = q.further in let c = n.further in omega arith);
-  }
+  setting_number {next} {t} {v} n is = got_by (gives_the Setting (gives_both o.gives (gives_both (gives_exact q refl) (gives_left (led_next n) (number_gives (value v) n refl is.0 is.1)))))
+      (stays_then equals_stays (number_stays next equals_stays.has))
+      (λ sense m. ap₂ (λ (a : Word) (b : SettingNode Rational). (a, b)) (o.means sense m) (ap (λ x. setting.Number t.at x) (sym (m.value (token_text reader.source.now t) (value v) is.0))))
+      (let a = o.further in let b = q.further in let c = n.further in omega arith)
 
   pub setting_number_refused : {next : ℕ} {t : Token} {refusal : SourceFaultOrMemory} → IsNext (is Number) reader start t next → IsTooLarge limit reader.source.now t refusal → Refuses limit reader.source.now (the Setting) w (seen_from reader at) refusal
   setting_number_refused n l = refuses_the Setting (refuses_second o.gives (refuses_second (gives_exact {kind = Equals} q refl) (refuses_left {q = word} (led_next n) (number_refused n refl l))))
 
   pub setting_word : {next : ℕ} {x : Word} → leads productions look_ahead (token Number) (seen_from reader start) ≡ false → IsGot limit (IsWord reader.source.now) (Stays reader tables (past reader o.behind Equals e start)) word reader start tables (past reader o.behind Equals e start) x next →
       IsGot limit (IsSetting value reader.source.now) (Stays reader tables w) (the Setting) reader at tables w (option, setting.Name x) next
-  setting_word unled got = record {
-    tree = node (pair o.tree (pair (leaf (Equals, e)) (right got.tree)));
-    behind = got.behind;
-    gives = gives_the Setting (gives_both o.gives (gives_both (gives_exact q refl) (gives_right unled (led_given got.gives) got.gives)));
-    leaves = stays_then equals_stays got.leaves;
-    means = λ sense m. ap₂ (λ (a : Word) (b : SettingNode Rational). (a, b)) (o.means sense m) (ap setting.Name (got.means sense m));
-    further = (let a = o.further in let b = q.further in let c = got.further in omega arith);
-  }
+  setting_word unled got = got_by (gives_the Setting (gives_both o.gives (gives_both (gives_exact q refl) (gives_right unled (led_given got.gives) got.gives)))) (stays_then equals_stays got.leaves)
+      (λ sense m. ap₂ (λ (a : Word) (b : SettingNode Rational). (a, b)) (o.means sense m) (ap setting.Name (got.means sense m))) (let a = o.further in let b = q.further in let c = got.further in omega arith)
 
   pub setting_word_refused : {refusal : SourceFaultOrMemory} → leads productions look_ahead (token Number) (seen_from reader start) ≡ false → Refuses limit reader.source.now word (past reader o.behind Equals e start) (seen_from reader start) refusal →
       Refuses limit reader.source.now (the Setting) w (seen_from reader at) refusal
@@ -385,14 +322,9 @@ has_setting reader tables = record { holds = record { open_count = refl; names =
 pub options_got : {F : Type 0} (value : F → Rational) {limit : ℕ} {reader : Reader} {at start next : ℕ} {t : Token} {tables : Tables} {w : Walk} {settings : List (Word × SettingNode F)} → IsNext (is Option) reader at t start →
     IsGot limit (AreAll (IsSetting value reader.source.now)) (Stays reader tables (past reader w Option t start)) (list_of (is Comma) (the Setting)) reader start tables (past reader w Option t start) settings next →
     IsGot limit (IsAct value reader.source.now option_act) (Ends reader tables) (the OptionStatement) reader at tables w (act.Options settings) next
-options_got value {reader = reader} {t = t} {settings = settings} n got = record {
-  tree = node (pair (leaf (Option, t)) got.tree);
-  behind = got.behind;
-  gives = gives_the OptionStatement (gives_both (gives_exact n refl) got.gives);
-  leaves = record { holds = got.leaves.has.holds; tableless = ap (is Table) got.leaves.keyword };
-  means = λ sense m. view-Options value settings ∙ ap sets_options (all_meant (IsSetting value reader.source.now) (λ pair. (pair.0, setting_in value pair.1)) (setting_of reader.source.now sense.names sense.labels sense.value) sense (λ tree x k. k) got.tree settings (got.means sense m));
-  further = (let a = n.further in let b = got.further in omega arith);
-}
+options_got value {reader = reader} {t = t} {settings = settings} n got = got_by (gives_the OptionStatement (gives_both (gives_exact n refl) got.gives)) (record { holds = got.leaves.has.holds; tableless = ap (is Table) got.leaves.keyword })
+    (λ sense m. view-Options value settings ∙ ap sets_options (all_meant (IsSetting value reader.source.now) (λ pair. (pair.0, setting_in value pair.1)) (setting_of reader.source.now sense.names sense.labels sense.value) sense (λ tree x k. k) got.tree settings (got.means sense m)))
+    (let a = n.further in let b = got.further in omega arith)
 
 -- ---- a part behind two others
 
@@ -421,10 +353,7 @@ module _ {limit : ℕ} {source : List ℕ} {p q r : GamsPart} {w : Walk} {ts : L
       let k = regrouped_reads g.reads h.reads in
       let both_given = gives_both g h in
       let same : yield a ++ yield b ≡ yield (first_in a) ++ (yield (second_in a) ++ yield b) = ap (λ u. u ++ yield b) k.1 ∙ append_assoc (yield (first_in a)) (yield (second_in a)) (yield b) in
-      given both_given k.0 same
-    where
-      given : {part : GamsPart} {x : Walk} {rest : List Seen} {tree other : Derivation} → Gives limit source part w ts tree x rest → {whole : GamsPart} → Reads productions look_ahead whole ts (read other rest) → yield tree ≡ yield other → Gives limit source whole w ts other x rest
-      given g reads e = record { reads = reads; are_sound = rw (sym e) g.are_sound; leaves = rw (sym e) g.leaves }
+      gives_as both_given k.0 same
 
   refuses_grouped : {e : SourceFaultOrMemory} → Refuses limit source ((p · q) · r) w ts e → Refuses limit source (p · (q · r)) w ts e
   refuses_grouped c = by_cause c (λ fault s. stuck_as s (grouped_reads s.reads)) (λ fault s. wrong_as s (grouped_takes s.takes))
@@ -441,26 +370,14 @@ module _ {limit : ℕ} {source : List ℕ} {p q r : GamsPart} {w : Walk} {ts : L
 pub method_got : {limit : ℕ} {reader : Reader} {at start next : ℕ} {t : Token} {tables : Tables} {w : Walk} {x : Word} → IsNext (is Using) reader at t start → Has reader tables w →
     IsGot limit (IsWord reader.source.now) (Stays reader tables (past reader w Using t start)) word reader start tables (past reader w Using t start) x next →
     IsGot limit (IsMethod reader.source.now) (Stays reader tables w) (token Using · word) reader at tables w x next
-method_got {reader = reader} {start = start} {t = t} {w = w} n h got = record {
-  tree = pair (leaf (Using, t)) got.tree;
-  behind = got.behind;
-  gives = gives_both (gives_exact n refl) got.gives;
-  leaves = stays_then (plain_stays reader w Using t start refl h) got.leaves;
-  means = got.means;
-  further = (let a = n.further in let b = got.further in omega arith);
-}
+method_got {reader = reader} {start = start} {t = t} {w = w} n h got = got_by (gives_both (gives_exact n refl) got.gives) (stays_then (plain_stays reader w Using t start refl h) got.leaves) got.means
+    (let a = n.further in let b = got.further in omega arith)
 
 pub objective_got : {limit : ℕ} {reader : Reader} {at start next : ℕ} {t : Token} {old new : Tables} {w : Walk} {maximize : Bool} {named : Named} → IsNext (is Direction) reader at t start → Has reader old w → maximize ≡ is_maximizing (token_text reader.source.now t) →
     IsGot limit (IsNamed reader.source.now) (Stays reader new (past reader w Direction t start)) name reader start new (past reader w Direction t start) named next →
     IsGot limit (IsObjective reader.source.now) (Stays reader new w) (token Direction · name) reader at new w (maximize, named) next
-objective_got {reader = reader} {start = start} {t = t} {w = w} n h is got = record {
-  tree = pair (leaf (Direction, t)) got.tree;
-  behind = got.behind;
-  gives = gives_both (gives_exact n refl) got.gives;
-  leaves = stays_then (plain_stays reader w Direction t start refl h) got.leaves;
-  means = λ sense m. (is, got.means sense m);
-  further = (let a = n.further in let b = got.further in omega arith);
-}
+objective_got {reader = reader} {start = start} {t = t} {w = w} n h is got = got_by (gives_both (gives_exact n refl) got.gives) (stays_then (plain_stays reader w Direction t start refl h) got.leaves) (λ sense m. (is, got.means sense m))
+    (let a = n.further in let b = got.further in omega arith)
 
 -- what begins with a token that was read leads
 pub led_both : {test : Terminal → Bool} {q : GamsPart} {ts rest : List Seen} {tree : Derivation} (r : GamsPart) → Reads productions look_ahead (one test · q) ts (read tree rest) → leads productions look_ahead (one test · r) ts ≡ true
@@ -494,17 +411,13 @@ module _ {F : Type 0} (value : F → Rational) {limit : ℕ} {reader : Reader} {
 
       pub using_solved : {new : Tables} {maximize : Bool} {objective : Named} {next : ℕ} → IsGot limit (IsObjective reader.source.now) (Stays reader new u.behind) (token Direction · name) reader between new u.behind (maximize, objective) next →
           (act : ActNode F) → act_view value act ≡ solves model method objective maximize → IsGot limit (IsAct value reader.source.now solve_act) (Ends reader new) (the SolveStatement) reader at new w act next
-      using_solved o act shown = record {
-        tree = node (pair (leaf (Solve, t)) (pair m.tree (left (pair (first_in u.tree) (pair (second_in u.tree) o.tree)))));
-        behind = o.behind;
-        gives = gives_the SolveStatement (gives_both (gives_exact n refl) (gives_both m.gives (gives_left (using_led (seen_from reader middle) led) (gives_regrouped u.gives o.gives))));
-        leaves = record { holds = o.leaves.has.holds; tableless = ap (is Table) (o.leaves.keyword ∙ u.leaves.keyword ∙ m.leaves.keyword) };
-        means = λ sense s.
-            let before = earlier o.gives u.leaves.has.holds o.leaves.has.holds s in
-            let aim = o.means sense s in
-            shown ∙ ap₂ (λ (x : Named × Word) (y : Named × Bool). solves x.0 x.1 y.0 y.1) (ap₂ (λ (a : Named) (b : Word). (a, b)) (m.means sense before) (u.means sense before)) (ap₂ (λ (a : Named) (b : Bool). (a, b)) aim.1 aim.0);
-        further = (let a = n.further in let b = m.further in let c = u.further in let d = o.further in omega arith);
-      }
+      using_solved o act shown = got_by (gives_the SolveStatement (gives_both (gives_exact n refl) (gives_both m.gives (gives_left (using_led (seen_from reader middle) led) (gives_regrouped u.gives o.gives)))))
+          (record { holds = o.leaves.has.holds; tableless = ap (is Table) (o.leaves.keyword ∙ u.leaves.keyword ∙ m.leaves.keyword) })
+          (λ sense s.
+          let before = earlier o.gives u.leaves.has.holds o.leaves.has.holds s in
+          let aim = o.means sense s in
+          shown ∙ ap₂ (λ (x : Named × Word) (y : Named × Bool). solves x.0 x.1 y.0 y.1) (ap₂ (λ (a : Named) (b : Word). (a, b)) (m.means sense before) (u.means sense before)) (ap₂ (λ (a : Named) (b : Bool). (a, b)) aim.1 aim.0))
+          (let a = n.further in let b = m.further in let c = u.further in let d = o.further in omega arith)
 
   -- the direction comes first
   module _ (unled : leads productions look_ahead (token Using) (seen_from reader middle) ≡ false) where
@@ -517,17 +430,14 @@ module _ {F : Type 0} (value : F → Rational) {limit : ℕ} {reader : Reader} {
 
       pub aim_solved : {method : Word} {next : ℕ} → IsGot limit (IsMethod reader.source.now) (Stays reader new o.behind) (token Using · word) reader between new o.behind method next →
           (act : ActNode F) → act_view value act ≡ solves model method objective maximize → IsGot limit (IsAct value reader.source.now solve_act) (Ends reader new) (the SolveStatement) reader at new w act next
-      aim_solved u act shown = record {
-        tree = node (pair (leaf (Solve, t)) (pair m.tree (right (pair (first_in o.tree) (pair (second_in o.tree) u.tree)))));
-        behind = u.behind;
-        gives = gives_the SolveStatement (gives_both (gives_exact n refl) (gives_both m.gives (gives_right (using_unled (seen_from reader middle) unled) (led_both (name · token Using · word) o.gives.reads) (gives_regrouped o.gives u.gives))));
-        leaves = record { holds = u.leaves.has.holds; tableless = ap (is Table) (u.leaves.keyword ∙ o.leaves.keyword ∙ m.leaves.keyword) };
-        means = λ sense s.
-            let before = earlier o.gives m.leaves.has.holds o.leaves.has.holds s in
-            let aim = o.means sense s in
-            shown ∙ ap₂ (λ (x : Named × Word) (y : Named × Bool). solves x.0 x.1 y.0 y.1) (ap₂ (λ (a : Named) (b : Word). (a, b)) (m.means sense before) (u.means sense s)) (ap₂ (λ (a : Named) (b : Bool). (a, b)) aim.1 aim.0);
-        further = (let a = n.further in let b = m.further in let c = u.further in let d = o.further in omega arith);
-      }
+      aim_solved u act shown = got_by
+          (gives_the SolveStatement (gives_both (gives_exact n refl) (gives_both m.gives (gives_right (using_unled (seen_from reader middle) unled) (led_both (name · token Using · word) o.gives.reads) (gives_regrouped o.gives u.gives)))))
+          (record { holds = u.leaves.has.holds; tableless = ap (is Table) (u.leaves.keyword ∙ o.leaves.keyword ∙ m.leaves.keyword) })
+          (λ sense s.
+          let before = earlier o.gives m.leaves.has.holds o.leaves.has.holds s in
+          let aim = o.means sense s in
+          shown ∙ ap₂ (λ (x : Named × Word) (y : Named × Bool). solves x.0 x.1 y.0 y.1) (ap₂ (λ (a : Named) (b : Word). (a, b)) (m.means sense before) (u.means sense s)) (ap₂ (λ (a : Named) (b : Bool). (a, b)) aim.1 aim.0))
+          (let a = n.further in let b = m.further in let c = u.further in let d = o.further in omega arith)
 
 -- ---- aliases
 
@@ -540,14 +450,8 @@ pub pair_got : {limit : ℕ} {reader : Reader} {at middle behind next : ℕ} {t 
     IsGot limit (ArePair reader.source.now) (Stays reader new w) (name · token Comma · name) reader at new w (first, second) next
 pair_got {reader = reader} {behind = behind} {t = t} f n s =
     let k = plain_stays reader f.behind Comma t behind refl f.leaves.has in
-    record {
-      tree = pair f.tree (pair (leaf (Comma, t)) s.tree);
-      behind = s.behind;
-      gives = gives_both f.gives (gives_both (gives_exact n refl) s.gives);
-      leaves = stays_then f.leaves (stays_then k s.leaves);
-      means = λ sense m. (f.means sense (earlier s.gives k.has.holds s.leaves.has.holds m), s.means sense m);
-      further = (let a = f.further in let b = n.further in let c = s.further in omega arith);
-    }
+    got_by (gives_both f.gives (gives_both (gives_exact n refl) s.gives)) (stays_then f.leaves (stays_then k s.leaves)) (λ sense m. (f.means sense (earlier s.gives k.has.holds s.leaves.has.holds m), s.means sense m))
+    (let a = f.further in let b = n.further in let c = s.further in omega arith)
 
 module _ {reader : Reader} {at start : ℕ} {t : Token} {old : Tables} {w : Walk} (n : IsNext (is Alias) reader at t start) (h : Holds reader old w) where
   pub alias_has : Has reader old (past reader w Alias t start)
@@ -570,11 +474,6 @@ module _ {reader : Reader} {at start : ℕ} {t : Token} {old : Tables} {w : Walk
       pub alias_got : {F : Type 0} (value : F → Rational) {behind : ℕ} {c : Token} → IsNext (is RightParen) reader next c behind → IsGot limit (IsAct value reader.source.now alias_act) (Ends reader new) (the AliasStatement) reader at new w (act.Alias first second) behind
       alias_got value {behind} {c} close =
           let s = close_stays o alias_has alias_pair.leaves c behind in
-          record {
-            tree = node (pair (leaf (Alias, t)) (pair (leaf (LeftParen, o.token)) (pair alias_pair.tree (leaf (RightParen, c)))));
-            behind = past reader alias_pair.behind RightParen c behind;
-            gives = gives_the AliasStatement (gives_both (gives_exact n refl) (gives_bracketed o alias_has alias_pair.leaves alias_pair.gives close refl));
-            leaves = record { holds = s.has.holds; tableless = ap (is Table) s.keyword };
-            means = λ sense m. let both_are = alias_pair.means sense m in view-Alias value first second ∙ ap₂ (λ a b. aliases a b) both_are.0 both_are.1;
-            further = (let a = n.further in let b = o.next.further in let d = alias_pair.further in let e = close.further in omega arith);
-          }
+          got_by (gives_the AliasStatement (gives_both (gives_exact n refl) (gives_bracketed o alias_has alias_pair.leaves alias_pair.gives close refl))) (record { holds = s.has.holds; tableless = ap (is Table) s.keyword })
+          (λ sense m. let both_are = alias_pair.means sense m in view-Alias value first second ∙ ap₂ (λ a b. aliases a b) both_are.0 both_are.1)
+          (let a = n.further in let b = o.next.further in let d = alias_pair.further in let e = close.further in omega arith)

@@ -1,18 +1,18 @@
 -- The tokens of an expression leave the same names, labels and parentheses, and have the same faults, whether they are looked at as those
 -- of an expression or as those of a program.
-use Rattle.std.proofs.Common.{◌≡◌, ℕ, ◌<◌, Bool, true, false, not, ◌&&◌, ◌||◌, ◌==◌, cond, List, [], ◌∷◌, ◌++◌, refl, sym, ap, ap₂, ◌∙◌, subst, inl, inr, arith}
+use Rattle.std.proofs.Common.{◌≡◌, ℕ, ◌<◌, Bool, true, false, not, ◌&&◌, ◌||◌, ◌==◌, cond, List, [], ◌∷◌, ◌++◌, refl, sym, ap, ap₂, ◌∙◌, subst, arith}
 use Rattle.gms_labels.specs.Labels.{entered, IsFullFor}
 use Rattle.gms_lex.specs.TokenTexts.{token_text}
 use Rattle.gms_grammar.specs.declared.terminal.Terminal.{Terminal}
 use Rattle.gms_grammar.specs.declared.terminal.Terminal.TheVariants.{Name, Suffix, Function, OrdCard, FoldOp, Infinity, NotAvailable, YesNo, Not, And, Or, RelationWord, Number, Text, Power, Relation, Circular, Sign, Star, Slash, Equals, LeftParen, RightParen, Comma, Dot, Dollar, Using, Display, Abort, Option, Table, Label, TableLine}
 use Rattle.gms_grammar.specs.Terminals.{is, is_among}
+use Rattle.gms_grammar.specs.Rules as rules
 use Rattle.gms_expressions.specs.ExpressionTrees.{unquoted}
-use Rattle.gms_expressions.specs.declared.fault.SyntaxError.{SyntaxError}
-use Rattle.gms_expressions.specs.declared.fault.SyntaxError.TheVariants as syntax
+use Rattle.gms_expressions.specs.declared.fault.SyntaxFault.{SyntaxFault}
 use Rattle.gms_expressions.specs.Outcomes as inner
 use Rattle.gms_expressions.proofs.TokenKinds.{also}
 use Rattle.gms_parse.specs.declared.fault.SourceFault.{SourceFault}
-use Rattle.gms_parse.specs.Faults.{error_of_syntax}
+use Rattle.gms_parse.specs.Faults.{source_fault}
 use Rattle.gms_parse.specs.Tables.{labels_of_lines}
 use Rattle.gms_table.specs.WordLabels.{all_entered}
 use Rattle.gms_parse.specs.Walks.{Seen, Walk, kind_ahead, last_kind, is_index, is_name, LacksRoom, range_start, list_labels, lines_with, new_labels, walk_after, walk_behind, IsFaulty, deep, out_of_range, many_names, many_labels, in_table, without_lines, AreSound}
@@ -110,11 +110,11 @@ module _ (limit : ℕ) (source : List ℕ) where
 
   -- a fault for one is one for the other
   pub fault_inside : (w : Walk) (x : inner.Walk) (t : Seen) (ahead : Terminal) → is_inner t.0 ≡ true → (t.0 ≡ Text → w.level < w.open_count) → Agrees w x → (fault : SourceFault) → IsFaulty limit source w t ahead fault →
-      (error : SyntaxError) × inner.IsFaulty limit source x t error
-  fault_inside w x t ahead h d a fault (deep e k) = (syntax.Depth, inl (e, (let o = a.open_count in omega (arith, k, o)), refl))
-  fault_inside w x t ahead h d a fault (out_of_range e k) = (syntax.Number, inr (inl (e, refl, k)))
+      (found : SyntaxFault) × inner.IsFaulty limit source x t found
+  fault_inside w x t ahead h d a fault (deep e k) = (_, inner.deep e (let o = a.open_count in omega (arith, k, o)))
+  fault_inside w x t ahead h d a fault (out_of_range e k) = (_, inner.out_of_range e k)
   fault_inside w x t ahead h d a fault (many_names n k) =
-      (syntax.TooManyLabels, inr (inr (inl (sym (same_name w x t.0 a) ∙ n, refl, subst (λ (ns : List (List ℕ)). IsFullFor ns (token_text source t.1)) a.names k))))
+      (_, inner.many_names (sym (same_name w x t.0 a) ∙ n) (subst (λ (ns : List (List ℕ)). IsFullFor ns (token_text source t.1)) a.names k))
   fault_inside w x t ahead h d a fault (many_labels n k) = go (is Text t.0) refl
     where
       text : List ℕ
@@ -123,29 +123,24 @@ module _ (limit : ℕ) (source : List ℕ) where
       new_are : new_labels source w t ahead ≡ cond (is Text t.0) (text ∷ []) []
       new_are = same_new source w t ahead h d
 
-      go : (b : Bool) → is Text t.0 ≡ b → (error : SyntaxError) × inner.IsFaulty limit source x t error
+      go : (b : Bool) → is Text t.0 ≡ b → (found : SyntaxFault) × inner.IsFaulty limit source x t found
       go true e =
           let lacks : LacksRoom w.labels (text ∷ []) = subst (λ (ls : List (List ℕ)). LacksRoom w.labels ls) (new_are ∙ ap (λ b. cond b (text ∷ []) []) e) k in
-          (syntax.TooManyLabels, inr (inr (inr (sym (same_kind Text t.0 e), refl, subst (λ (ls : List (List ℕ)). IsFullFor ls text) a.labels (full_of w.labels text lacks)))))
+          (_, inner.many_labels (sym (same_kind Text t.0 e)) (subst (λ (ls : List (List ℕ)). IsFullFor ls text) a.labels (full_of w.labels text lacks)))
       go false e = absurd (room_for_none w.labels (new_labels source w t ahead) (new_are ∙ ap (λ b. cond b (text ∷ []) []) e) k)
   fault_inside w x t ahead h d a fault (in_table e k f) = let n : is_inner t.0 ≡ false = ap is_inner e in cc
   fault_inside w x t ahead h d a fault (without_lines e k f) = let n : is Table w.keyword ≡ true = ap (is Table) k in let m = a.tableless in cc
 
-  pub fault_outside : (w : Walk) (x : inner.Walk) (t : Seen) (ahead : Terminal) → is_inner t.0 ≡ true → (t.0 ≡ Text → w.level < w.open_count) → Agrees w x → (error : SyntaxError) → inner.IsFaulty limit source x t error →
-      IsFaulty limit source w t ahead (record { error = error_of_syntax error; at = t.1.at })
-  fault_outside w x t ahead h d a error (inl (e, k, told)) =
-      subst (λ (y : SyntaxError). IsFaulty limit source w t ahead (record { error = error_of_syntax y; at = t.1.at })) (sym told) (deep e (let o = a.open_count in omega (arith, k, o)))
-  fault_outside w x t ahead h d a error (inr (inl (e, told, k))) =
-      subst (λ (y : SyntaxError). IsFaulty limit source w t ahead (record { error = error_of_syntax y; at = t.1.at })) (sym told) (out_of_range e k)
-  fault_outside w x t ahead h d a error (inr (inr (inl (n, told, k)))) =
-      subst (λ (y : SyntaxError). IsFaulty limit source w t ahead (record { error = error_of_syntax y; at = t.1.at })) (sym told)
-      (many_names (same_name w x t.0 a ∙ n) (subst (λ (ns : List (List ℕ)). IsFullFor ns (token_text source t.1)) (sym a.names) k))
-  fault_outside w x t ahead h d a error (inr (inr (inr (e, told, k)))) =
+  pub fault_outside : (w : Walk) (x : inner.Walk) (t : Seen) (ahead : Terminal) → is_inner t.0 ≡ true → (t.0 ≡ Text → w.level < w.open_count) → Agrees w x → (found : SyntaxFault) → inner.IsFaulty limit source x t found →
+      IsFaulty limit source w t ahead (source_fault found)
+  fault_outside w x t ahead h d a found (inner.deep e k) = deep e (let o = a.open_count in omega (arith, k, o))
+  fault_outside w x t ahead h d a found (inner.out_of_range e k) = out_of_range e k
+  fault_outside w x t ahead h d a found (inner.many_names n k) = many_names (same_name w x t.0 a ∙ n) (subst (λ (ns : List (List ℕ)). IsFullFor ns (token_text source t.1)) (sym a.names) k)
+  fault_outside w x t ahead h d a found (inner.many_labels e k) =
       let text : List ℕ = unquoted (token_text source t.1) in
       let there : is Text t.0 ≡ true = ap (is Text) e in
       let new_are : new_labels source w t ahead ≡ text ∷ [] = same_new source w t ahead h d ∙ ap (λ b. cond b (text ∷ []) []) there in
-      subst (λ (y : SyntaxError). IsFaulty limit source w t ahead (record { error = error_of_syntax y; at = t.1.at })) (sym told)
-      (many_labels (ap (is TableLine) e) (subst (λ (ls : List (List ℕ)). LacksRoom w.labels ls) (sym new_are) (lacks_of w.labels text (subst (λ (ls : List (List ℕ)). IsFullFor ls text) (sym a.labels) k))))
+      many_labels (ap (is TableLine) e) (subst (λ (ls : List (List ℕ)). LacksRoom w.labels ls) (sym new_are) (lacks_of w.labels text (subst (λ (ls : List (List ℕ)). IsFullFor ls text) (sym a.labels) k)))
 
   -- a sound token leaves walks that agree
   agrees_on : (w : Walk) (x : inner.Walk) (t : Seen) (ahead : Terminal) → is_inner t.0 ≡ true → (t.0 ≡ Text → w.level < w.open_count) → Agrees w x →
@@ -164,11 +159,11 @@ module _ (limit : ℕ) (source : List ℕ) where
   -- tokens that are sound for one are so for the other, and leave walks that agree
   pub record Agreed (w : Walk) (x : inner.Walk) (ts : List Seen) (ahead : Terminal) : Type 0 where
     pub sound : AreSound limit source w ts ahead
-    pub agrees : Agrees (walk_behind source w ts ahead) (inner.walk_behind source x ts)
+    pub agrees : Agrees (walk_behind source w ts ahead) (inner.walk_behind source x ts ahead)
     pub keyword : (walk_behind source w ts ahead).keyword ≡ w.keyword
     pub level : (walk_behind source w ts ahead).level ≡ w.level
 
-  pub agree : (w : Walk) (x : inner.Walk) (ts : List Seen) (ahead : Terminal) → AllPass is_inner ts → TextsAbove w.level w.open_count ts → Agrees w x → inner.AreSound limit source x ts → Agreed w x ts ahead
+  pub agree : (w : Walk) (x : inner.Walk) (ts : List Seen) (ahead : Terminal) → AllPass is_inner ts → TextsAbove w.level w.open_count ts → Agrees w x → rules.AreSound (inner.syntax_rule (limit, source)) x ts ahead → Agreed w x ts ahead
   agree w x [] ahead h d a s = record { sound = tt; agrees = a; keyword = refl; level = refl }
   agree w x (t ∷ ts) ahead h d a s =
       let k = inner_keyword w source t (kind_ahead ts ahead) h.0 in

@@ -1,11 +1,11 @@
 -- Which kinds of tokens stand anywhere in a part of the grammar.
-use Rattle.std.proofs.Common.{◌≡◌, Bool, true, false, not, ◌&&◌, ◌||◌, List, [], ◌∷◌, ◌++◌}
+use Rattle.std.proofs.Common.{◌≡◌, Bool, true, not, ◌&&◌, ◌||◌, List, [], ◌∷◌, ◌++◌}
 use Rattle.std.specs.Bool.{⊤}
 use Rattle.gms_grammar.specs.declared.terminal.Terminal.{Terminal}
 use Rattle.gms_grammar.specs.Grammar.{one, the, ◌·◌, ◌∣◌, opt, many, leaf, pair, left, right, none, some, more, node, yield, IsTree}
 use Rattle.gms_grammar.specs.GamsGrammar.{Nonterminal, productions}
 use Rattle.gms_grammar.proofs.Checks.{left_and, right_and}
-use Rattle.gms_expressions.proofs.TokenKinds.{implies, also}
+use Rattle.gms_expressions.proofs.TokenKinds.{implies, implied, also}
 use Rattle.gms_parse.specs.Walks.{Seen}
 use Rattle.gms_parse.specs.Readings.{Derivation, GamsPart}
 
@@ -34,10 +34,6 @@ only known test (p · q) = only known test p && only known test q
 only known test (p ∣ q) = only known test p && only known test q
 only known test (opt p) = only known test p
 only known test (many p) = only known test p
-
-implied : (a b : Bool) → (not a || b) ≡ true → a ≡ true → b ≡ true
-implied true b h k = h
-implied false b h k = cc
 
 module _ (known : Nonterminal → Bool) (test : Terminal → Bool) (check : (n : Nonterminal) → (not (known n) || only known test (productions n)) ≡ true) where
   -- each token of a tree passes the test

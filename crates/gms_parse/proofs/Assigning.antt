@@ -15,7 +15,7 @@ use Rattle.gms_ast.specs.Trees.{Tree as Syntax, Indices, no_index, label, set, l
 use Rattle.gms_ast.specs.Numbers.{indices_in_numbers}
 use Rattle.gms_lex.specs.declared.token.Token.{Token}
 use Rattle.gms_grammar.specs.declared.terminal.Terminal.TheVariants.{Equals, Sense as SenseMark}
-use Rattle.gms_grammar.specs.Grammar.{the, ◌·◌, opt, leaf, pair, node}
+use Rattle.gms_grammar.specs.Grammar.{the, ◌·◌, opt}
 use Rattle.gms_grammar.specs.Terminals.{is}
 use Rattle.gms_grammar.specs.GamsGrammar.{Expression, Condition, Target as TargetPart, Sides as SidesPart, AfterTarget, Assignment, token}
 use Rattle.gms_expressions.specs.Outcomes.{next_place}
@@ -27,9 +27,9 @@ use Rattle.gms_parse.specs.Statements.{side_of, assignment_act, assigned}
 use Rattle.gms_parse.specs.Walks.{Walk}
 use Rattle.gms_parse.specs.Readings.{Derivation, GamsPart, Sense, IsGot, Has, Stays, StaysOpen, IsNext, seen_from}
 use Rattle.gms_parse.specs.Meanings.{IsExpression, IsTarget, IsCondition, IsAssigned, IsDefined, IsRightSide, IsRelated, IsRelation, IsAct, has_lag}
-use Rattle.gms_parse.proofs.Steps.{gives_both, gives_the}
+use Rattle.gms_parse.proofs.Steps.{got_by, gives_both, gives_the}
 use Rattle.gms_parse.proofs.Nexts.{past, gives_exact, kind_stays, stays_then, earlier}
-use Rattle.gms_parse.proofs.Places.{place_read}
+use Rattle.gms_expressions.proofs.Chains.{place_read}
 use Rattle.gms_parse.proofs.Views.{view-Assign, view-Define}
 
 -- ---- right sides
@@ -38,14 +38,8 @@ pub right_value_got : {F : Type 0} (value : F → Number) {limit : ℕ} {reader 
     place ≡ next_place reader.source.now (seen_from reader behind) →
     IsGot limit (IsExpression value reader.source.now) (StaysOpen reader new (past reader w Equals t behind)) (the Expression) reader behind new (past reader w Equals t behind) e next →
     IsGot limit (IsRightSide value reader.source.now) (Stays reader new w) (token Equals · the Expression) reader at new w (place, e) next
-right_value_got value {reader = reader} {t = t} h n placed got = record {
-  tree = pair (leaf (Equals, t)) got.tree;
-  behind = got.behind;
-  gives = gives_both (gives_exact {kind = Equals} n refl) got.gives;
-  leaves = stays_then (kind_stays Equals n refl h) got.leaves.stays;
-  means = λ sense s. (placed ∙ sym (place_read (the Expression) refl got.gives), got.means sense s);
-  further = (let a = n.further in let b = got.further in omega arith);
-}
+right_value_got value {reader = reader} {t = t} h n placed got = got_by (gives_both (gives_exact {kind = Equals} n refl) got.gives) (stays_then (kind_stays Equals n refl h) got.leaves.stays)
+    (λ sense s. (placed ∙ sym (place_read (the Expression) refl got.gives), got.means sense s)) (let a = n.further in let b = got.further in omega arith)
 
 -- ---- sides
 
@@ -53,43 +47,25 @@ pub related_got : {F : Type 0} (value : F → Number) {limit : ℕ} {reader : Re
     side ≡ side_of t.kind → place ≡ next_place reader.source.now (seen_from reader behind) →
     IsGot limit (IsExpression value reader.source.now) (StaysOpen reader new (past reader w SenseMark t behind)) (the Expression) reader behind new (past reader w SenseMark t behind) e next →
     IsGot limit (IsRelated value reader.source.now) (Stays reader new w) (token SenseMark · the Expression) reader at new w (side, place, e) next
-related_got value {reader = reader} {t = t} h n told placed got = record {
-  tree = pair (leaf (SenseMark, t)) got.tree;
-  behind = got.behind;
-  gives = gives_both (gives_exact {kind = SenseMark} n refl) got.gives;
-  leaves = stays_then (kind_stays SenseMark n refl h) got.leaves.stays;
-  means = λ sense s. (told, (placed ∙ sym (place_read (the Expression) refl got.gives), got.means sense s));
-  further = (let a = n.further in let b = got.further in omega arith);
-}
+related_got value {reader = reader} {t = t} h n told placed got = got_by (gives_both (gives_exact {kind = SenseMark} n refl) got.gives) (stays_then (kind_stays SenseMark n refl h) got.leaves.stays)
+    (λ sense s. (told, (placed ∙ sym (place_read (the Expression) refl got.gives), got.means sense s))) (let a = n.further in let b = got.further in omega arith)
 
 pub relation_got : {F : Type 0} (value : F → Number) {limit : ℕ} {reader : Reader} {at middle next : ℕ} {between new : Tables} {w : Walk} {l r : Expr F} {left_at right_at : Place} {side : Side} → left_at ≡ next_place reader.source.now (seen_from reader at) →
     (one : IsGot limit (IsExpression value reader.source.now) (StaysOpen reader between w) (the Expression) reader at between w l middle) →
     IsGot limit (IsRelated value reader.source.now) (Stays reader new one.behind) (token SenseMark · the Expression) reader middle new one.behind (side, right_at, r) next →
     IsGot limit (IsRelation value reader.source.now) (Stays reader new w) (the SidesPart) reader at new w (record { left_at = left_at; left = l; side = side; right_at = right_at; right = r }) next
-relation_got value placed one other = record {
-  tree = node (pair one.tree other.tree);
-  behind = other.behind;
-  gives = gives_the SidesPart (gives_both one.gives other.gives);
-  leaves = stays_then one.leaves.stays other.leaves;
-  means = λ sense s.
-      let m = other.means sense s in
-      ap₂ (λ (x : Place × Syntax Number) (y : Side × (Place × Syntax Number)). record { left_at = x.0; left = x.1; side = y.0; right_at = y.1.0; right = y.1.1 })
-      (ap₂ (λ a b. (a, b)) (placed ∙ sym (place_read (the Expression) refl one.gives)) (one.means sense (earlier other.gives one.leaves.stays.has.holds other.leaves.has.holds s)))
-      (ap₂ (λ (a : Side) (b : Place × Syntax Number). (a, b)) m.0 (ap₂ (λ a b. (a, b)) m.1.0 m.1.1));
-  further = (let a = one.further in let b = other.further in omega arith);
-}
+relation_got value placed one other = got_by (gives_the SidesPart (gives_both one.gives other.gives)) (stays_then one.leaves.stays other.leaves)
+    (λ sense s.
+    let m = other.means sense s in
+    ap₂ (λ (x : Place × Syntax Number) (y : Side × (Place × Syntax Number)). record { left_at = x.0; left = x.1; side = y.0; right_at = y.1.0; right = y.1.1 })
+    (ap₂ (λ a b. (a, b)) (placed ∙ sym (place_read (the Expression) refl one.gives)) (one.means sense (earlier other.gives one.leaves.stays.has.holds other.leaves.has.holds s)))
+    (ap₂ (λ (a : Side) (b : Place × Syntax Number). (a, b)) m.0 (ap₂ (λ a b. (a, b)) m.1.0 m.1.1)))
+    (let a = one.further in let b = other.further in omega arith)
 
 -- what was read, as what is made of it
 pub made_of : {T U : Type 0} {limit : ℕ} {Means : Sense → Derivation → T → Type 0} {Meant : Sense → Derivation → U → Type 0} {Leaves : Walk → Type 0} {part : GamsPart} {reader : Reader} {at next : ℕ} {new : Tables} {w : Walk} {x : T} {y : U} →
     ((sense : Sense) (tree : Derivation) → Means sense tree x → Meant sense tree y) → IsGot limit Means Leaves part reader at new w x next → IsGot limit Meant Leaves part reader at new w y next
-made_of turned got = record {
-  tree = got.tree;
-  behind = got.behind;
-  gives = got.gives;
-  leaves = got.leaves;
-  means = λ sense s. turned sense got.tree (got.means sense s);
-  further = got.further;
-}
+made_of turned got = got_by got.gives got.leaves (λ sense s. turned sense got.tree (got.means sense s)) got.further
 
 pub assigned_as : {F : Type 0} (value : F → Number) {limit : ℕ} {Leaves : Walk → Type 0} {part : GamsPart} {reader : Reader} {at next : ℕ} {new : Tables} {w : Walk} (target : TargetNode F) (condition : Maybe (Expr F)) (found : Place × Expr F) →
     IsGot limit (IsRightSide value reader.source.now) Leaves part reader at new w found next → IsGot limit (IsAssigned value reader.source.now target condition) Leaves part reader at new w (Assign target condition found.0 (right.Value found.1)) next
@@ -114,17 +90,12 @@ mapped P' f (Err e) made m k same p q = rw k (q e m)
 pub assignment_got : {F : Type 0} (value : F → Number) {limit : ℕ} {reader : Reader} {at middle further next : ℕ} {first second new : Tables} {w : Walk} {target : TargetNode F} {condition : Maybe (Expr F)} {act : ActNode F} →
     (t : IsGot limit (IsTarget value reader.source.now) (StaysOpen reader first w) (the TargetPart) reader at first w target middle) → (c : IsGot limit (IsCondition value reader.source.now) (StaysOpen reader second t.behind) (opt (the Condition)) reader middle second t.behind condition further) →
     IsGot limit (IsAssigned value reader.source.now target condition) (Stays reader new c.behind) (token Equals · the Expression) reader further new c.behind act next → IsGot limit (IsAct value reader.source.now assignment_act) (Stays reader new w) (the Assignment) reader at new w act next
-assignment_got value {reader = reader} t c r = record {
-  tree = node (pair t.tree (node (pair c.tree r.tree)));
-  behind = r.behind;
-  gives = gives_the Assignment (gives_both t.gives (gives_the AfterTarget (gives_both c.gives r.gives)));
-  leaves = stays_then t.leaves.stays (stays_then c.leaves.stays r.leaves);
-  means = λ sense s.
-      let s2 = earlier r.gives c.leaves.stays.has.holds r.leaves.has.holds s in
-      let s1 = earlier c.gives t.leaves.stays.has.holds c.leaves.stays.has.holds s2 in
-      r.means sense s ∙ ap₂ (λ x y. assigned reader.source.now sense.names sense.labels sense.value x y (second_in r.tree)) (t.means sense s1) (c.means sense s2);
-  further = (let x = t.further in let y = c.further in let z = r.further in omega arith);
-}
+assignment_got value {reader = reader} t c r = got_by (gives_the Assignment (gives_both t.gives (gives_the AfterTarget (gives_both c.gives r.gives)))) (stays_then t.leaves.stays (stays_then c.leaves.stays r.leaves))
+    (λ sense s.
+    let s2 = earlier r.gives c.leaves.stays.has.holds r.leaves.has.holds s in
+    let s1 = earlier c.gives t.leaves.stays.has.holds c.leaves.stays.has.holds s2 in
+    r.means sense s ∙ ap₂ (λ x y. assigned reader.source.now sense.names sense.labels sense.value x y (second_in r.tree)) (t.means sense s1) (c.means sense s2))
+    (let x = t.further in let y = c.further in let z = r.further in omega arith)
 
 -- ---- lags
 

@@ -13,7 +13,7 @@ use Rattle.gms_parse.specs.declared.reader.Reader.{Reader}
 use Rattle.gms_parse.specs.declared.reader.Tables.{Tables}
 use Rattle.gms_parse.specs.Walks.{Seen, Walk}
 use Rattle.gms_parse.specs.Readings.{Derivation, GamsPart, Sense, IsAnswer, kind_of, seen_from}
-use Rattle.gms_parse.proofs.Steps.{Within, within_the, within_left, within_right, within_then}
+use Rattle.gms_parse.proofs.Steps.{got_by, Within, within_the, within_left, within_right, within_then}
 
 -- the way into one of alternatives, by a token of this kind
 pub data Way (kind : Terminal) : GamsPart → GamsPart → (Derivation → Derivation) → Type 0 where
@@ -34,14 +34,8 @@ way_within {kind = kind} (in_other {p = p} {q = q} k m way) {ts = ts} e h = with
 way_within (in_node {n = n} way) e h = within_then (within_the n) (way_within way e h)
 
 -- what was read or refused of an alternative is so of all
-pub through : {T : Type 0} {limit : ℕ} {Means : Sense → Derivation → T → Type 0} (Says : Sense → Derivation → T → Type 0) (Leaves : Walk → Type 0) {p r : GamsPart} {c : Derivation → Derivation} (reader : Reader) (at : ℕ) (new : Tables) (w : Walk) (result : Result (T × ℕ) SourceFaultOrMemory) →
-    Within limit reader.source.now p w (seen_from reader at) r w (seen_from reader at) c → IsAnswer limit Means Leaves r reader at new w result → ((sense : Sense) (tree : Derivation) (x : T) → Means sense tree x → Says sense (c tree) x) → IsAnswer limit Says Leaves p reader at new w result
-through Says Leaves {c = c} reader at new w (Ok b) within got says = record {
-  tree = c got.tree;
-  behind = got.behind;
-  gives = within.gives _ _ _ got.gives;
-  leaves = got.leaves;
-  means = λ sense s. says sense got.tree b.0 (got.means sense s);
-  further = got.further;
-}
-through Says Leaves reader at new w (Err e) within r says = within.refuses e r
+pub through : {T : Type 0} {limit : ℕ} {Means : Sense → Derivation → T → Type 0} (Says : Sense → Derivation → T → Type 0) {Leaves : Walk → Type 0} (After : Walk → Type 0) {p r : GamsPart} {c : Derivation → Derivation} (reader : Reader) (at : ℕ) (new : Tables) (w : Walk) (result : Result (T × ℕ) SourceFaultOrMemory) →
+    Within limit reader.source.now p w (seen_from reader at) r w (seen_from reader at) c → IsAnswer limit Means Leaves r reader at new w result → ((v : Walk) → Leaves v → After v) →
+    ((sense : Sense) (tree : Derivation) (x : T) → Means sense tree x → Says sense (c tree) x) → IsAnswer limit Says After p reader at new w result
+through Says After {c = c} reader at new w (Ok b) within got holds says = got_by (within.gives _ _ _ got.gives) (holds got.behind got.leaves) (λ sense s. says sense got.tree b.0 (got.means sense s)) got.further
+through Says After reader at new w (Err e) within r holds says = within.refuses e r

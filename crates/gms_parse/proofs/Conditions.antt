@@ -1,28 +1,26 @@
 -- Conditions of statements.
-use Rattle.std.proofs.Common.{◌≡◌, ℕ, Bool, true, false, cond, List, Some, None, refl, sym, ap, ◌∙◌, arith}
+use Rattle.std.proofs.Common.{◌≡◌, ℕ, Bool, true, false, cond, Some, None, refl, sym, ap, ◌∙◌, arith}
 use Rattle.gq_number.specs.Number.{Number}
 use Rattle.gms_ast.specs.declared.expression.Expr.{Expr}
 use Rattle.gms_ast.specs.Trees.{not_so}
 use Rattle.gms_ast.specs.StatementView.{shown_tree}
 use Rattle.gms_lex.specs.declared.token.Token.{Token}
 use Rattle.gms_grammar.specs.declared.terminal.Terminal.TheVariants.{Not, Dollar}
-use Rattle.gms_grammar.specs.Grammar.{the, ◌·◌, opt, leaf, pair, none, some, node}
-use Rattle.gms_grammar.specs.LookAhead.{may_begin}
+use Rattle.gms_grammar.specs.Grammar.{the, ◌·◌, opt}
 use Rattle.gms_grammar.specs.Reading.{leads}
 use Rattle.gms_grammar.specs.Terminals.{is}
 use Rattle.gms_grammar.specs.GamsGrammar.{Condition, Primary, productions, token}
 use Rattle.gms_grammar.specs.GamsLookAhead.{look_ahead}
 use Rattle.gms_expressions.specs.ExpressionTrees.{negated_by}
-use Rattle.gms_expressions.proofs.TokenKinds.{same_test}
 use Rattle.gms_parse.specs.declared.fault.SourceFaultOrMemory.{SourceFaultOrMemory}
 use Rattle.gms_parse.specs.declared.reader.Reader.{Reader}
 use Rattle.gms_parse.specs.declared.reader.Tables.{Tables}
-use Rattle.gms_parse.specs.Walks.{Seen, Walk}
+use Rattle.gms_parse.specs.Walks.{Walk}
 use Rattle.gms_parse.specs.Readings.{Refuses, Starts, StaysOpen, Tableless, IsNext, IsGot, seen_from}
 use Rattle.gms_parse.specs.Meanings.{IsNot, IsOperand, IsGuard, IsCondition}
-use Rattle.gms_parse.proofs.TokenKinds.{leads_alike}
-use Rattle.gms_parse.proofs.Steps.{gives_both, gives_the, gives_none, gives_some, refuses_the, refuses_second, refuses_some}
+use Rattle.gms_parse.proofs.Steps.{got_by, gives_both, gives_the, gives_none, gives_some, refuses_the, refuses_second, refuses_some}
 use Rattle.gms_parse.proofs.Nexts.{past, led_next, gives_exact, plain_stays, plain_starts, stays_same, stays_then, earlier, optionless_on, tableless_on}
+pub use Rattle.gms_expressions.proofs.Sums.{leads_condition}
 
 -- a name may stand behind a part of an expression as it may before it
 pub open_starts : {reader : Reader} {old new : Tables} {w v : Walk} → Starts reader old w → StaysOpen reader new w v → Starts reader new v
@@ -30,45 +28,21 @@ open_starts s o = record { has = o.stays.has; undotted = o.undotted; optionless 
 
 module _ {limit : ℕ} {reader : Reader} {at : ℕ} {tables : Tables} {w : Walk} (s : Starts reader tables w) where
   pub not_got : {t : Token} {behind : ℕ} → IsNext (is Not) reader at t behind → IsGot limit IsNot (StaysOpen reader tables w) (opt (token Not)) reader at tables w true behind
-  not_got {t} {behind} n = record {
-    tree = some (leaf (Not, t));
-    behind = past reader w Not t behind;
-    gives = gives_some (led_next n) (gives_exact n refl);
-    leaves = record { stays = plain_stays reader w Not t behind refl s.has; undotted = refl };
-    means = λ sense m operand. refl;
-    further = (let g = n.further in omega arith);
-  }
+  not_got {t} {behind} n = got_by (gives_some (led_next n) (gives_exact n refl)) (record { stays = plain_stays reader w Not t behind refl s.has; undotted = refl }) (λ sense m operand. refl) (let g = n.further in omega arith)
 
   pub not_none : leads productions look_ahead (token Not) (seen_from reader at) ≡ false → IsGot limit IsNot (StaysOpen reader tables w) (opt (token Not)) reader at tables w false at
-  not_none unled = record { tree = none; behind = w; gives = gives_none unled; leaves = record { stays = stays_same s.has; undotted = s.undotted }; means = λ sense m operand. refl; further = omega arith }
+  not_none unled = got_by (gives_none unled) (record { stays = stays_same s.has; undotted = s.undotted }) (λ sense m operand. refl) (omega arith)
 
 -- an operand behind `not`, or behind none
 pub guard_got : {F : Type 0} (value : F → Number) {limit : ℕ} {reader : Reader} {at start next : ℕ} {old new : Tables} {w : Walk} {not : Bool} {operand e : Expr F} → Starts reader old w →
     (g : IsGot limit IsNot (StaysOpen reader old w) (opt (token Not)) reader at old w not start) → IsGot limit (IsOperand value reader.source.now) (StaysOpen reader new g.behind) (the Primary) reader start new g.behind operand next →
     shown_tree value e ≡ cond not (not_so (shown_tree value operand)) (shown_tree value operand) → IsGot limit (IsGuard value reader.source.now) (StaysOpen reader new w) (opt (token Not) · the Primary) reader at new w e next
-guard_got value {operand = operand} s g p shown = record {
-  tree = pair g.tree p.tree;
-  behind = p.behind;
-  gives = gives_both g.gives p.gives;
-  leaves = record { stays = stays_then g.leaves.stays p.leaves.stays; undotted = p.leaves.undotted };
-  means = λ sense m. shown ∙ sym (g.means sense (earlier p.gives g.leaves.stays.has.holds p.leaves.stays.has.holds m) (shown_tree value operand)) ∙ ap (negated_by g.tree) (p.means sense m);
-  further = (let a = g.further in let b = p.further in omega arith);
-}
-
--- a dollar leads into a condition
-pub leads_condition : (ts : List Seen) → leads productions look_ahead (the Condition) ts ≡ leads productions look_ahead (token Dollar) ts
-leads_condition ts = leads_alike (the Condition) (token Dollar) ts refl refl (same_test (may_begin look_ahead (the Condition)) (is Dollar) refl)
+guard_got value {operand = operand} s g p shown = got_by (gives_both g.gives p.gives) (record { stays = stays_then g.leaves.stays p.leaves.stays; undotted = p.leaves.undotted })
+    (λ sense m. shown ∙ sym (g.means sense (earlier p.gives g.leaves.stays.has.holds p.leaves.stays.has.holds m) (shown_tree value operand)) ∙ ap (negated_by g.tree) (p.means sense m)) (let a = g.further in let b = p.further in omega arith)
 
 pub condition_none : {F : Type 0} (value : F → Number) {limit : ℕ} {reader : Reader} {at : ℕ} {old : Tables} {w : Walk} → Starts reader old w → leads productions look_ahead (token Dollar) (seen_from reader at) ≡ false →
     IsGot limit (IsCondition value reader.source.now) (StaysOpen reader old w) (opt (the Condition)) reader at old w None at
-condition_none value {reader = reader} {at = at} {w = w} s unled = record {
-  tree = none;
-  behind = w;
-  gives = gives_none (leads_condition (seen_from reader at) ∙ unled);
-  leaves = record { stays = stays_same s.has; undotted = s.undotted };
-  means = λ sense m. refl;
-  further = omega arith;
-}
+condition_none value {reader = reader} {at = at} {w = w} s unled = got_by (gives_none (leads_condition (seen_from reader at) ∙ unled)) (record { stays = stays_same s.has; undotted = s.undotted }) (λ sense m. refl) (omega arith)
 
 module _ {reader : Reader} {at : ℕ} {old : Tables} {w : Walk} {t : Token} {behind : ℕ} (s : Starts reader old w) (n : IsNext (is Dollar) reader at t behind) where
   -- behind the dollar
@@ -80,14 +54,8 @@ module _ {reader : Reader} {at : ℕ} {old : Tables} {w : Walk} {t : Token} {beh
 
   pub condition_got : {F : Type 0} (value : F → Number) {limit : ℕ} {new : Tables} {e : Expr F} {next : ℕ} → IsGot limit (IsGuard value reader.source.now) (StaysOpen reader new (past reader w Dollar t behind)) (opt (token Not) · the Primary) reader behind new (past reader w Dollar t behind) e next →
       IsGot limit (IsCondition value reader.source.now) (StaysOpen reader new w) (opt (the Condition)) reader at new w (Some e) next
-  condition_got value got = record {
-    tree = some (node (pair (leaf (Dollar, t)) got.tree));
-    behind = got.behind;
-    gives = gives_some (leads_condition (seen_from reader at) ∙ led_next n) (gives_the Condition (gives_both (gives_exact n refl) got.gives));
-    leaves = record { stays = stays_then (plain_stays reader w Dollar t behind refl s.has) got.leaves.stays; undotted = got.leaves.undotted };
-    means = λ sense m. ap Some (got.means sense m);
-    further = (let a = n.further in let b = got.further in omega arith);
-  }
+  condition_got value got = got_by (gives_some (leads_condition (seen_from reader at) ∙ led_next n) (gives_the Condition (gives_both (gives_exact n refl) got.gives)))
+      (record { stays = stays_then (plain_stays reader w Dollar t behind refl s.has) got.leaves.stays; undotted = got.leaves.undotted }) (λ sense m. ap Some (got.means sense m)) (let a = n.further in let b = got.further in omega arith)
 
   pub condition_refused : {limit : ℕ} {e : SourceFaultOrMemory} → Refuses limit reader.source.now (opt (token Not) · the Primary) (past reader w Dollar t behind) (seen_from reader behind) e → Refuses limit reader.source.now (opt (the Condition)) w (seen_from reader at) e
   condition_refused r = refuses_some (leads_condition (seen_from reader at) ∙ led_next n) (refuses_the Condition (refuses_second (gives_exact n refl) r))

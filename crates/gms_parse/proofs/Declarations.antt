@@ -12,7 +12,7 @@ use Rattle.gms_lex.specs.declared.token.Token.{Token}
 use Rattle.gms_lex.specs.TokenTexts.{token_text}
 use Rattle.gms_grammar.specs.declared.terminal.Terminal.{Terminal}
 use Rattle.gms_grammar.specs.declared.terminal.Terminal.TheVariants.{Set, Parameter, Scalar, Variable, Equation, VariableType, Option, Table, Dot, Using, Name, Suffix}
-use Rattle.gms_grammar.specs.Grammar.{the, ◌·◌, opt, leaf, pair, none, some, node}
+use Rattle.gms_grammar.specs.Grammar.{the, ◌·◌, opt, leaf, node}
 use Rattle.gms_grammar.specs.LookAhead.{may_begin}
 use Rattle.gms_grammar.specs.Reading.{leads}
 use Rattle.gms_grammar.specs.Terminals.{is, is_among}
@@ -30,7 +30,7 @@ use Rattle.gms_parse.specs.Walks.{Seen, Walk}
 use Rattle.gms_parse.specs.Readings.{Derivation, GamsPart, Gives, Refuses, IsGot, Holds, Starts, Stays, Ends, Tableless, IsNext, seen_from}
 use Rattle.gms_parse.specs.Meanings.{AreDeclared, IsDeclaration, IsVariableType, IsAct, item_part, items_part, item_meaning, act_view}
 use Rattle.gms_parse.proofs.TokenKinds.{begins, is_quiet, leads_alike}
-use Rattle.gms_parse.proofs.Steps.{Within, within_the, gives_both, gives_the, gives_none, gives_some, refuses_the, refuses_second}
+use Rattle.gms_parse.proofs.Steps.{got_by, Within, within_the, gives_both, gives_the, gives_none, gives_some, refuses_the, refuses_second}
 use Rattle.gms_parse.proofs.Nexts.{past, led_next, gives_exact, begun_starts, begun_keyword, quiet_holds, earlier}
 use Rattle.gms_parse.proofs.Itemized.{ItemPart}
 
@@ -75,43 +75,26 @@ module _ (keyword : Terminal) {reader : Reader} {at behind : ℕ} {t : Token} {o
   pub declaration_got : {F : Type 0} (value : F → Rational) (kind : DeclKind) (form : Form) {limit : ℕ} {new : Tables} {xs : List (Decl F)} {next : ℕ} (act : ActNode F) → act_view value act ≡ declares kind (map (declared_in value) xs) →
       IsGot limit (AreDeclared value reader.source.now form) (Stays reader new (past reader w keyword t behind)) (the (items_part form)) reader behind new (past reader w keyword t behind) xs next →
       IsGot limit (IsDeclaration value reader.source.now kind form) (Ends reader new) (token keyword · the (items_part form)) reader at new w act next
-  declaration_got value kind form act shown got = record {
-    tree = pair (leaf (keyword, t)) got.tree;
-    behind = got.behind;
-    gives = gives_both keyword_gives got.gives;
-    leaves = record { holds = got.leaves.has.holds; tableless = ap (is Table) got.leaves.keyword ∙ keyword_tableless };
-    means = λ sense s. shown ∙ ap (declares kind) (got.means sense s);
-    further = (let a = n.further in let b = got.further in omega arith);
-  }
+  declaration_got value kind form act shown got = got_by (gives_both keyword_gives got.gives) (record { holds = got.leaves.has.holds; tableless = ap (is Table) got.leaves.keyword ∙ keyword_tableless })
+      (λ sense s. shown ∙ ap (declares kind) (got.means sense s)) (let a = n.further in let b = got.further in omega arith)
 
 -- ---- variables
 
 pub type_got : {limit : ℕ} {reader : Reader} {at behind : ℕ} {t : Token} {tables : Tables} {w : Walk} (kind : DeclKind) → IsNext (is VariableType) reader at t behind → kind ≡ variable_kind (token_text reader.source.now t) → Holds reader tables w →
     IsGot limit (IsVariableType reader.source.now) (Holds reader tables) (opt (token VariableType)) reader at tables w kind behind
-type_got {reader = reader} {behind = behind} {t = t} {w = w} kind n told h = record {
-  tree = some (leaf (VariableType, t));
-  behind = past reader w VariableType t behind;
-  gives = gives_some (led_next n) (gives_exact {kind = VariableType} n refl);
-  leaves = quiet_holds reader w VariableType t behind refl h;
-  means = λ sense s. told;
-  further = (let g = n.further in omega arith);
-}
+type_got {reader = reader} {behind = behind} {t = t} {w = w} kind n told h = got_by (gives_some (led_next n) (gives_exact {kind = VariableType} n refl)) (quiet_holds reader w VariableType t behind refl h) (λ sense s. told)
+    (let g = n.further in omega arith)
 
 pub type_none : {limit : ℕ} {reader : Reader} {at : ℕ} {tables : Tables} {w : Walk} → leads productions look_ahead (token VariableType) (seen_from reader at) ≡ false → Holds reader tables w →
     IsGot limit (IsVariableType reader.source.now) (Holds reader tables) (opt (token VariableType)) reader at tables w decl_kind.Free at
-type_none {w = w} unled h = record { tree = none; behind = w; gives = gives_none unled; leaves = h; means = λ sense s. refl; further = omega arith }
+type_none {w = w} unled h = got_by (gives_none unled) h (λ sense s. refl) (omega arith)
 
 pub variables_got : {F : Type 0} (value : F → Rational) {limit : ℕ} {reader : Reader} {at middle next : ℕ} {old new : Tables} {w : Walk} {kind : DeclKind} {act : ActNode F} →
     (k : IsGot limit (IsVariableType reader.source.now) (Holds reader old) (opt (token VariableType)) reader at old w kind middle) → IsGot limit (IsDeclaration value reader.source.now kind form.Plain) (Ends reader new) (token Variable · the PlainItems) reader middle new k.behind act next →
     IsGot limit (IsAct value reader.source.now variable_act) (Ends reader new) (the VariableStatement) reader at new w act next
-variables_got value {reader = reader} k got = record {
-  tree = node (pair k.tree got.tree);
-  behind = got.behind;
-  gives = gives_the VariableStatement (gives_both k.gives got.gives);
-  leaves = got.leaves;
-  means = λ sense s. got.means sense s ∙ ap (λ kind. declares kind (items_in (item_meaning form.Plain reader.source.now sense.names sense.labels sense.value) (second_in got.tree))) (k.means sense (earlier got.gives k.leaves got.leaves.holds s));
-  further = (let a = k.further in let b = got.further in omega arith);
-}
+variables_got value {reader = reader} k got = got_by (gives_the VariableStatement (gives_both k.gives got.gives)) got.leaves
+    (λ sense s. got.means sense s ∙ ap (λ kind. declares kind (items_in (item_meaning form.Plain reader.source.now sense.names sense.labels sense.value) (second_in got.tree))) (k.means sense (earlier got.gives k.leaves got.leaves.holds s)))
+    (let a = k.further in let b = got.further in omega arith)
 
 pub variables_refused : {limit : ℕ} {source : List ℕ} {w v : Walk} {ts between : List Seen} {a : Derivation} {e : SourceFaultOrMemory} → Gives limit source (opt (token VariableType)) w ts a v between → Refuses limit source (token Variable · the PlainItems) v between e → Refuses limit source (the VariableStatement) w ts e
 variables_refused g r = refuses_the VariableStatement (refuses_second g r)

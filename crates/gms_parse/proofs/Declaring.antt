@@ -20,7 +20,7 @@ use Rattle.gms_parse.specs.Declarations.{named_in, optional_domain}
 use Rattle.gms_parse.specs.Walks.{Seen, Walk}
 use Rattle.gms_parse.specs.Readings.{Derivation, GamsPart, Gives, Refuses, IsGot, Stays}
 use Rattle.gms_parse.specs.Meanings.{IsNamed, IsOptionalDomain, AreListed, IsScalarValue, IsDeclared, form_of, item_part, item_meaning, list_part, list_meaning}
-use Rattle.gms_parse.proofs.Steps.{gives_both, gives_the, refuses_the}
+use Rattle.gms_parse.proofs.Steps.{got_by, gives_both, gives_the, refuses_the}
 use Rattle.gms_parse.proofs.Nexts.{stays_then, earlier}
 
 -- ---- sets and parameters
@@ -47,45 +47,29 @@ pub data_got : {F : Type 0} (value : F → Rational) (list : ListOf) {limit : �
     declared_in value decl ≡ record { named = named; domain = domain.items; items = map (item_in value) items.items } →
     (n : IsGot limit (IsNamed reader.source.now) (Stays reader first w) name reader at first w named middle) → (d : IsGot limit (IsOptionalDomain reader.source.now) (Stays reader second n.behind) (opt (the Domain)) reader middle second n.behind domain further) →
     IsGot limit (AreListed value reader.source.now list) (Stays reader new d.behind) (opt (token Slash · the (list_part list) · token Slash)) reader further new d.behind items next → IsGot limit (IsDeclared value reader.source.now (form_of list)) (Stays reader new w) (the (item_part (form_of list))) reader at new w decl next
-data_got value list {reader = reader} {items = items} decl shown n d l = record {
-  tree = node (pair n.tree (pair d.tree l.tree));
-  behind = l.behind;
-  gives = gives_data list (gives_both n.gives (gives_both d.gives l.gives));
-  leaves = stays_then n.leaves (stays_then d.leaves l.leaves);
-  means = λ sense s.
-      let s2 = earlier l.gives d.leaves.has.holds l.leaves.has.holds s in
-      let s1 = earlier d.gives n.leaves.has.holds d.leaves.has.holds s2 in
-      shown ∙ ap (λ (x : Named × List (Maybe Named)). record { named = x.0; domain = x.1; items = map (item_in value) items.items }) (ap₂ (λ a b. (a, b)) (n.means sense s1) (d.means sense s2)) ∙ ap (λ (ys : List (Item Rational)). record { named = named_in reader.source.now sense.names sense.labels sense.value n.tree; domain = optional_domain reader.source.now sense.names sense.labels sense.value d.tree; items = ys }) (l.means sense s)
-      ∙ data_meant list reader.source.now sense.names sense.labels sense.value n.tree d.tree l.tree;
-  further = (let a = n.further in let b = d.further in let c = l.further in omega arith);
-}
+data_got value list {reader = reader} {items = items} decl shown n d l = got_by (gives_data list (gives_both n.gives (gives_both d.gives l.gives))) (stays_then n.leaves (stays_then d.leaves l.leaves))
+    (λ sense s.
+    let s2 = earlier l.gives d.leaves.has.holds l.leaves.has.holds s in
+    let s1 = earlier d.gives n.leaves.has.holds d.leaves.has.holds s2 in
+    shown ∙ ap (λ (x : Named × List (Maybe Named)). record { named = x.0; domain = x.1; items = map (item_in value) items.items }) (ap₂ (λ a b. (a, b)) (n.means sense s1) (d.means sense s2)) ∙ ap (λ (ys : List (Item Rational)). record { named = named_in reader.source.now sense.names sense.labels sense.value n.tree; domain = optional_domain reader.source.now sense.names sense.labels sense.value d.tree; items = ys }) (l.means sense s)
+    ∙ data_meant list reader.source.now sense.names sense.labels sense.value n.tree d.tree l.tree)
+    (let a = n.further in let b = d.further in let c = l.further in omega arith)
 
 -- ---- scalars
 
 pub scalar_got : {F : Type 0} (value : F → Rational) {limit : ℕ} {reader : Reader} {at middle next : ℕ} {new : Tables} {w : Walk} {named : Named} {items : Vec (Item F) Global} (decl : Decl F) → declared_in value decl ≡ record { named = named; domain = []; items = map (item_in value) items.items } →
     (n : IsGot limit (IsNamed reader.source.now) (Stays reader new w) name reader at new w named middle) → IsGot limit (IsScalarValue value reader.source.now) (Stays reader new n.behind) (opt (token Slash · the Value · token Slash)) reader middle new n.behind items next →
     IsGot limit (IsDeclared value reader.source.now form.Scalar) (Stays reader new w) (the ScalarItem) reader at new w decl next
-scalar_got value decl shown n l = record {
-  tree = node (pair n.tree l.tree);
-  behind = l.behind;
-  gives = gives_the ScalarItem (gives_both n.gives l.gives);
-  leaves = stays_then n.leaves l.leaves;
-  means = λ sense s. shown ∙ ap₂ (λ (x : Named) (y : List (Item Rational)). record { named = x; domain = []; items = y }) (n.means sense s) (l.means sense s);
-  further = (let a = n.further in let c = l.further in omega arith);
-}
+scalar_got value decl shown n l = got_by (gives_the ScalarItem (gives_both n.gives l.gives)) (stays_then n.leaves l.leaves)
+    (λ sense s. shown ∙ ap₂ (λ (x : Named) (y : List (Item Rational)). record { named = x; domain = []; items = y }) (n.means sense s) (l.means sense s)) (let a = n.further in let c = l.further in omega arith)
 
 -- ---- variables and equations
 
 pub plain_got : {F : Type 0} (value : F → Rational) {limit : ℕ} {reader : Reader} {at middle next : ℕ} {first new : Tables} {w : Walk} {named : Named} {domain : Vec (Maybe Named) Global} (decl : Decl F) → declared_in value decl ≡ record { named = named; domain = domain.items; items = [] } →
     (n : IsGot limit (IsNamed reader.source.now) (Stays reader first w) name reader at first w named middle) → IsGot limit (IsOptionalDomain reader.source.now) (Stays reader new n.behind) (opt (the Domain)) reader middle new n.behind domain next →
     IsGot limit (IsDeclared value reader.source.now form.Plain) (Stays reader new w) (the PlainItem) reader at new w decl next
-plain_got value decl shown n d = record {
-  tree = node (pair n.tree d.tree);
-  behind = d.behind;
-  gives = gives_the PlainItem (gives_both n.gives d.gives);
-  leaves = stays_then n.leaves d.leaves;
-  means = λ sense s.
-      let s1 = earlier d.gives n.leaves.has.holds d.leaves.has.holds s in
-      shown ∙ ap₂ (λ (x : Named) (y : List (Maybe Named)). record { named = x; domain = y; items = [] }) (n.means sense s1) (d.means sense s);
-  further = (let a = n.further in let b = d.further in omega arith);
-}
+plain_got value decl shown n d = got_by (gives_the PlainItem (gives_both n.gives d.gives)) (stays_then n.leaves d.leaves)
+    (λ sense s.
+    let s1 = earlier d.gives n.leaves.has.holds d.leaves.has.holds s in
+    shown ∙ ap₂ (λ (x : Named) (y : List (Maybe Named)). record { named = x; domain = y; items = [] }) (n.means sense s1) (d.means sense s))
+    (let a = n.further in let b = d.further in omega arith)

@@ -6,7 +6,7 @@ use Rattle.gms_lex.specs.declared.token.Token.{Token}
 use Rattle.gms_ast.specs.declared.word.Named.{Named}
 use Rattle.gms_grammar.specs.declared.terminal.Terminal.{Terminal}
 use Rattle.gms_grammar.specs.declared.terminal.Terminal.TheVariants.{Star, Comma, LeftParen, RightParen, Table}
-use Rattle.gms_grammar.specs.Grammar.{the, opt, leaf, pair, left, right, none, some, node, yield}
+use Rattle.gms_grammar.specs.Grammar.{the, opt, node, yield}
 use Rattle.gms_grammar.specs.LookAhead.{may_begin}
 use Rattle.gms_grammar.specs.Reading.{leads}
 use Rattle.gms_grammar.specs.Terminals.{is}
@@ -21,40 +21,27 @@ use Rattle.gms_parse.specs.Declarations.{position_in}
 use Rattle.gms_labels.specs.declared.place.Place.{Place}
 use Rattle.gms_grammar.proofs.Checks.{left_and, right_and}
 use Rattle.gms_grammar.proofs.Sound.{sound}
-use Rattle.gms_parse.specs.declared.fault.SourceError.TheVariants.{NoHeading}
+use Rattle.gms_parse.specs.declared.fault.SourceError.TheVariants as source_error
+use Rattle.gms_table.specs.declared.fault.TableError.TheVariants.{NoHeading}
 use Rattle.gms_parse.specs.declared.fault.SourceFaultOrMemory.TheVariants.{Fault}
 use Rattle.gms_parse.specs.Walks.{Seen, Walk, ends_statement, last_kind, table_name, kind_ahead, walk_after, walk_behind, IsFaulty, without_lines}
 use Rattle.gms_parse.specs.Readings.{Derivation, Gives, Refuses, Sense, Has, Starts, Stays, IsNext, IsGot, IsOpened, AnswersDomain, AnswersBehind, ends_head, seen_from, kind_of}
 use Rattle.gms_parse.specs.Meanings.{IsNamed, IsPosition, IsDomain, IsOptionalDomain}
 use Rattle.gms_parse.proofs.TokenKinds.{leads_alike, same_kind}
 use Rattle.gms_parse.proofs.Alphabet.{AllPass, only, all_pass}
-use Rattle.gms_parse.proofs.Steps.{gives_the, gives_left, gives_right, gives_none, gives_some, refuses_the, refuses_second, refuses_some, refuses_token, takes_next}
-use Rattle.gms_parse.proofs.Nexts.{past, exact, opened, gives_open, gives_bracketed, close_stays, closes_on, led_next, gives_exact, plain_stays, stays_same}
-use Rattle.gms_parse.proofs.Eithers.{led_given, refuses_other}
+use Rattle.gms_parse.proofs.Steps.{got_by, gives_the, gives_left, gives_right, gives_none, gives_some, refuses_the, refuses_second, refuses_some, refuses_token, takes_next}
+use Rattle.gms_parse.proofs.Nexts.{exact, opened, gives_open, gives_bracketed, close_stays, closes_on, led_next, gives_exact, plain_stays, stays_same}
+use Rattle.gms_grammar.proofs.Eithers.{led_given, refuses_other}
 use Rattle.gms_parse.proofs.Listing.{AreAll, all_meant, list_of}
 
 -- `*`
 pub star_got : {limit : ℕ} {reader : Reader} {at : ℕ} {old : Tables} {w : Walk} {t : Token} {behind : ℕ} → Starts reader old w → IsNext (is Star) reader at t behind → IsGot limit (IsPosition reader.source.now) (Stays reader old w) (the DomainPosition) reader at old w None behind
-star_got {reader = reader} {w = w} {t = t} {behind = behind} s n = record {
-  tree = node (left (leaf (Star, t)));
-  behind = past reader w Star t behind;
-  gives = gives_the DomainPosition (gives_left (led_next n) (gives_exact n refl));
-  leaves = plain_stays reader w Star t behind refl s.has;
-  means = λ sense m. refl;
-  further = (let g = n.further in omega arith);
-}
+star_got {reader = reader} {w = w} {t = t} {behind = behind} s n = got_by (gives_the DomainPosition (gives_left (led_next n) (gives_exact n refl))) (plain_stays reader w Star t behind refl s.has) (λ sense m. refl) (let g = n.further in omega arith)
 
 -- a set
 pub position_got : {limit : ℕ} {reader : Reader} {at : ℕ} {w : Walk} {new : Tables} {named : Named} {next : ℕ} → leads productions look_ahead (token Star) (seen_from reader at) ≡ false → IsGot limit (IsNamed reader.source.now) (Stays reader new w) name reader at new w named next →
     IsGot limit (IsPosition reader.source.now) (Stays reader new w) (the DomainPosition) reader at new w (Some named) next
-position_got unled got = record {
-  tree = node (right got.tree);
-  behind = got.behind;
-  gives = gives_the DomainPosition (gives_right unled (led_given got.gives) got.gives);
-  leaves = got.leaves;
-  means = λ sense m. ap Some (got.means sense m);
-  further = got.further;
-}
+position_got unled got = got_by (gives_the DomainPosition (gives_right unled (led_given got.gives) got.gives)) got.leaves (λ sense m. ap Some (got.means sense m)) got.further
 
 pub position_refused : {limit : ℕ} {source : List ℕ} {w : Walk} {ts : List Seen} {e : SourceFaultOrMemory} → leads productions look_ahead (token Star) ts ≡ false → Refuses limit source name w ts e → Refuses limit source (the DomainPosition) w ts e
 position_refused unled r = refuses_the DomainPosition (refuses_other unled r)
@@ -97,23 +84,17 @@ module _ {reader : Reader} {at start : ℕ} {inner : Reader} {old : Tables} {w :
   pub domain_got : {limit : ℕ} {new : Tables} {positions : Vec (Maybe Named) Global} {next behind : ℕ} {t : Token} →
       IsGot limit (AreAll (IsPosition reader.source.now)) (Stays inner new (opened w o)) (list_of (is Comma) (the DomainPosition)) reader start new (opened w o) positions.items next → IsNext (is RightParen) reader next t behind →
       (ends_head w (seen_from reader behind) ≡ false → IsGot limit (IsDomain reader.source.now) (Stays reader new w) (the Domain) reader at new w positions behind)
-      × (ends_head w (seen_from reader behind) ≡ true → is Table (last_kind w.before) ≡ false → Refuses limit reader.source.now (the Domain) w (seen_from reader at) (Fault (record { error = NoHeading; at = table_name w.before })))
+      × (ends_head w (seen_from reader behind) ≡ true → is Table (last_kind w.before) ≡ false → Refuses limit reader.source.now (the Domain) w (seen_from reader at) (Fault (record { error = source_error.Table NoHeading; at = table_name w.before })))
   domain_got {limit} {new} {positions = positions} {next = next} {behind = behind} {t = t} got n = (found, headless)
     where
       listed : Gives limit reader.source.now (the DomainList) (opened w o) (seen_from reader start) (node got.tree) got.behind (seen_from reader next)
       listed = gives_the DomainList got.gives
 
       found : ends_head w (seen_from reader behind) ≡ false → IsGot limit (IsDomain reader.source.now) (Stays reader new w) (the Domain) reader at new w positions behind
-      found on = record {
-        tree = node (pair (leaf (LeftParen, o.token)) (pair (node got.tree) (leaf (RightParen, t))));
-        behind = past reader got.behind RightParen t behind;
-        gives = gives_the Domain (gives_bracketed o h got.leaves listed n on);
-        leaves = close_stays o h got.leaves t behind;
-        means = λ sense m. positions_meant reader.source.now sense got.tree positions.items (got.means sense m);
-        further = (let a = o.next.further in let b = got.further in let c = n.further in omega arith);
-      }
+      found on = got_by (gives_the Domain (gives_bracketed o h got.leaves listed n on)) (close_stays o h got.leaves t behind) (λ sense m. positions_meant reader.source.now sense got.tree positions.items (got.means sense m))
+          (let a = o.next.further in let b = got.further in let c = n.further in omega arith)
 
-      headless : ends_head w (seen_from reader behind) ≡ true → is Table (last_kind w.before) ≡ false → Refuses limit reader.source.now (the Domain) w (seen_from reader at) (Fault (record { error = NoHeading; at = table_name w.before }))
+      headless : ends_head w (seen_from reader behind) ≡ true → is Table (last_kind w.before) ≡ false → Refuses limit reader.source.now (the Domain) w (seen_from reader at) (Fault (record { error = source_error.Table NoHeading; at = table_name w.before }))
       headless true_there last =
           let table : Table ≡ w.keyword = same_kind Table w.keyword (left_and _ _ true_there) in
           let ends = right_and (is Table w.keyword) (ends_statement (kind_of (seen_from reader behind))) true_there in
@@ -121,7 +102,7 @@ module _ {reader : Reader} {at start : ℕ} {inner : Reader} {old : Tables} {w :
           let where_it_is : table_name got.behind.before ≡ table_name w.before =
           ap (λ (x : Walk). table_name x.before) listed.leaves ∙ name_kept reader.source.now (opened w o) (yield got.tree) (kind_of (seen_from reader next)) kinds refl ∙ name_pushed (LeftParen, o.token) w.before last in
           refuses_the Domain (refuses_second (gives_open o h) (refuses_second listed
-          (refuses_token (takes_next (exact n) refl) (subst (λ (x : Place). IsFaulty limit reader.source.now got.behind (RightParen, t) (kind_of (seen_from reader behind)) (record { error = NoHeading; at = x })) where_it_is (without_lines refl (got.leaves.keyword ∙ sym table) ends)) refl)))
+          (refuses_token (takes_next (exact n) refl) (subst (λ (x : Place). IsFaulty limit reader.source.now got.behind (RightParen, t) (kind_of (seen_from reader behind)) (record { error = source_error.Table NoHeading; at = x })) where_it_is (without_lines refl (got.leaves.keyword ∙ sym table) ends)) refl)))
 
 -- a parenthesis leads into a domain
 pub leads_domain : (ts : List Seen) → leads productions look_ahead (the Domain) ts ≡ leads productions look_ahead (token LeftParen) ts
@@ -129,26 +110,12 @@ leads_domain ts = leads_alike (the Domain) (token LeftParen) ts refl refl (same_
 
 pub no_domain : {limit : ℕ} {reader : Reader} {at : ℕ} {old : Tables} {w : Walk} (positions : Vec (Maybe Named) Global) → positions.items ≡ [] → Has reader old w → leads productions look_ahead (token LeftParen) (seen_from reader at) ≡ false →
     IsGot limit (IsOptionalDomain reader.source.now) (Stays reader old w) (opt (the Domain)) reader at old w positions at
-no_domain {reader = reader} {at = at} {w = w} positions is h unled = record {
-  tree = none;
-  behind = w;
-  gives = gives_none (leads_domain (seen_from reader at) ∙ unled);
-  leaves = stays_same h;
-  means = λ sense m. is;
-  further = omega arith;
-}
+no_domain {reader = reader} {at = at} {w = w} positions is h unled = got_by (gives_none (leads_domain (seen_from reader at) ∙ unled)) (stays_same h) (λ sense m. is) (omega arith)
 
 -- a domain that is there
 pub some_domain : (limit : ℕ) (reader : Reader) (at : ℕ) (old new : Tables) (r : Result (Vec (Maybe Named) Global × ℕ) SourceFaultOrMemory) → AnswersDomain limit (IsDomain reader.source.now) (the Domain) reader at old new r →
     leads productions look_ahead (token LeftParen) (seen_from reader at) ≡ true → AnswersBehind limit (IsOptionalDomain reader.source.now) (opt (the Domain)) reader at old new r
 some_domain limit reader at old new (Ok b) answer led w h o other =
     let got = (answer w h o).0 (closes_on w.keyword (ends_statement (kind_of (seen_from reader b.1))) other) in
-    record {
-      tree = some got.tree;
-      behind = got.behind;
-      gives = gives_some (leads_domain (seen_from reader at) ∙ led) got.gives;
-      leaves = got.leaves;
-      means = got.means;
-      further = got.further;
-    }
+    got_by (gives_some (leads_domain (seen_from reader at) ∙ led) got.gives) got.leaves got.means got.further
 some_domain limit reader at old new (Err e) answer led w h o other = refuses_some (leads_domain (seen_from reader at) ∙ led) (answer w h o)

@@ -4,7 +4,7 @@ use Rattle.std.proofs.lemmas.List.{append-nil}
 use Rattle.gq_number.specs.Number.{neg_ℚ}
 use Rattle.gms_lex.specs.declared.token.Token.{Token}
 use Rattle.gms_grammar.specs.declared.terminal.Terminal.TheVariants.{Label, Comma, LeftParen, RightParen}
-use Rattle.gms_grammar.specs.Grammar.{the, ◌·◌, ◌∣◌, many, leaf, pair, left, right, none, more, node}
+use Rattle.gms_grammar.specs.Grammar.{the, ◌·◌, ◌∣◌, many, leaf, pair, none, more}
 use Rattle.gms_grammar.specs.LookAhead.{may_begin}
 use Rattle.gms_grammar.specs.Reading.{read, stuck, leads, Reads, taken, refused, entered, entered_stuck, both, first_stuck, second_stuck, in_left_stuck, in_neither, takes_left}
 use Rattle.gms_grammar.specs.Terminals.{is}
@@ -21,7 +21,7 @@ use Rattle.gms_parse.specs.Walks.{Seen, Walk, ends_statement}
 use Rattle.gms_parse.specs.Readings.{Derivation, GamsPart, Gives, Refuses, Sense, IsSense, IsGot, Has, Stays, Tableless, IsNext, IsLacking, IsOpened, IsUnopened, seen_from, kind_of}
 use Rattle.gms_parse.specs.Meanings.{IsAdded, IsPart}
 use Rattle.gms_parse.proofs.TokenKinds.{unled_next, led_first, leads_alike, same_kind}
-use Rattle.gms_parse.proofs.Steps.{Within, within_second, within_then, within_again, gives_both, gives_the, gives_left, gives_right, gives_no_more, refuses_the, refuses_second, refuses_right, refuses_again, by_cause, stuck_as, wrong_as}
+use Rattle.gms_parse.proofs.Steps.{got_by, Within, within_second, within_then, within_again, gives_both, gives_the, gives_left, gives_right, gives_no_more, refuses_the, refuses_second, refuses_right, refuses_again, by_cause, stuck_as, wrong_as}
 use Rattle.gms_parse.proofs.Nexts.{past, exact, opened, leads_next, gives_exact, gives_bracketed, refuses_inside, refuses_unclosed, close_stays, closes_on, plain_stays, stays_then, earlier, got_inside, refuses_unopened}
 
 -- the labels of ranges, and whether one of them is none
@@ -116,17 +116,12 @@ range_reads {ts = ts} g = leads_range ts ∙ range_read g.reads
 -- a range alone
 pub lone_got : {limit : ℕ} {reader : Reader} {at next : ℕ} {new : Tables} {w : Walk} (was : Position) (part : Position) → was.labels.items ≡ [] → was.bad_range ≡ false → IsGot limit (λ sense tree x. IsAdded reader.source.now sense tree was x) (Stays reader new w) (the Range) reader at new w part next →
     IsGot limit (IsPart reader.source.now) (Stays reader new w) (the ElementPart) reader at new w part next
-lone_got {reader = reader} was part none_yet sound_yet got = record {
-  tree = node (left got.tree);
-  behind = got.behind;
-  gives = gives_the ElementPart (gives_left (range_reads got.gives) got.gives);
-  leaves = got.leaves;
-  means = λ sense s. (
-    (got.means sense s).0 ∙ ap (λ u. u ++ labels_in_range reader.source.now sense.labels sense.value neg_ℚ got.tree) none_yet ∙ sym (append-nil (labels_in_range reader.source.now sense.labels sense.value neg_ℚ got.tree)),
-    (got.means sense s).1 ∙ ap (λ c. c || is_bad_range reader.source.now sense.labels sense.value neg_ℚ got.tree) sound_yet ∙ sym (or_none (is_bad_range reader.source.now sense.labels sense.value neg_ℚ got.tree)),
-  );
-  further = got.further;
-}
+lone_got {reader = reader} was part none_yet sound_yet got = got_by (gives_the ElementPart (gives_left (range_reads got.gives) got.gives)) got.leaves
+    (λ sense s. (
+      (got.means sense s).0 ∙ ap (λ u. u ++ labels_in_range reader.source.now sense.labels sense.value neg_ℚ got.tree) none_yet ∙ sym (append-nil (labels_in_range reader.source.now sense.labels sense.value neg_ℚ got.tree)),
+      (got.means sense s).1 ∙ ap (λ c. c || is_bad_range reader.source.now sense.labels sense.value neg_ℚ got.tree) sound_yet ∙ sym (or_none (is_bad_range reader.source.now sense.labels sense.value neg_ℚ got.tree)),
+    ))
+    got.further
 
 -- it is refused
 pub lone_refused : {limit : ℕ} {source : List ℕ} {w : Walk} {ts : List Seen} {e : SourceFaultOrMemory} → leads productions look_ahead (token LeftParen) ts ≡ false → Refuses limit source (the Range) w ts e → Refuses limit source (the ElementPart) w ts e
@@ -152,14 +147,8 @@ module _ {reader : Reader} {at start : ℕ} {inner : Reader} {old : Tables} {w :
 
   module _ {limit : ℕ} {new : Tables} {part : Position} {next : ℕ} (l : Gathering limit inner start (opened w o) new part next) (unled : leads productions look_ahead (token Comma) (seen_from inner next) ≡ false) where
     listed_got : IsGot limit (λ sense tree (x : Position). (x.labels.items ≡ labels_of inner.source.now sense (first_ranges tree)) × (x.bad_range ≡ bad_of inner.source.now sense (first_ranges tree))) (Stays inner new (opened w o)) (the Range · many (token Comma · the Range)) inner start new (opened w o) part next
-    listed_got = record {
-      tree = l.context none;
-      behind = l.behind;
-      gives = l.within.gives none _ _ (gives_no_more (unled_next (is Comma) (the Range) (seen_from inner next) unled));
-      leaves = l.stays;
-      means = λ sense s. (sym (l.labels sense s none ∙ append-nil part.labels.items), sym (l.bad sense s none ∙ or_none part.bad_range));
-      further = l.further;
-    }
+    listed_got = got_by (l.within.gives none _ _ (gives_no_more (unled_next (is Comma) (the Range) (seen_from inner next) unled))) l.stays
+        (λ sense s. (sym (l.labels sense s none ∙ append-nil part.labels.items), sym (l.bad sense s none ∙ or_none part.bad_range))) l.further
 
     outer_got : IsGot limit (λ sense tree (x : Position). (x.labels.items ≡ labels_of reader.source.now sense (first_ranges tree)) × (x.bad_range ≡ bad_of reader.source.now sense (first_ranges tree))) (Stays inner new (opened w o)) (the Range · many (token Comma · the Range)) reader start new (opened w o) part next
     outer_got = got_inside (λ (r : Reader) sense tree (x : Position). (x.labels.items ≡ labels_of r.source.now sense (first_ranges tree)) × (x.bad_range ≡ bad_of r.source.now sense (first_ranges tree))) o listed_got
@@ -168,14 +157,9 @@ module _ {reader : Reader} {at start : ℕ} {inner : Reader} {old : Tables} {w :
     part_unclosed k = refuses_the ElementPart (refuses_right unled_range led_in (refuses_unclosed o h outer_got.leaves (gives_the RangeList outer_got.gives) k))
 
     pub part_got : Tableless w → {t : Token} {behind : ℕ} → IsNext (is RightParen) reader next t behind → IsGot limit (IsPart reader.source.now) (Stays reader new w) (the ElementPart) reader at new w part behind
-    part_got other {t} {behind} n = record {
-      tree = node (right (pair (leaf (LeftParen, o.token)) (pair (node outer_got.tree) (leaf (RightParen, t)))));
-      behind = past reader outer_got.behind RightParen t behind;
-      gives = gives_the ElementPart (gives_right unled_range led_in (gives_bracketed o h outer_got.leaves (gives_the RangeList outer_got.gives) n (closes_on w.keyword (ends_statement (kind_of (seen_from reader behind))) other)));
-      leaves = close_stays o h outer_got.leaves t behind;
-      means = outer_got.means;
-      further = (let a = o.next.further in let b = outer_got.further in let c = n.further in omega arith);
-    }
+    part_got other {t} {behind} n = got_by
+        (gives_the ElementPart (gives_right unled_range led_in (gives_bracketed o h outer_got.leaves (gives_the RangeList outer_got.gives) n (closes_on w.keyword (ends_statement (kind_of (seen_from reader behind))) other))))
+        (close_stays o h outer_got.leaves t behind) outer_got.means (let a = o.next.further in let b = outer_got.further in let c = n.further in omega arith)
 
 pub unopened_part : {limit : ℕ} {reader : Reader} {at : ℕ} {old : Tables} {w : Walk} {e : SourceFaultOrMemory} → Has reader old w → IsUnopened reader at e → leads productions look_ahead (token LeftParen) (seen_from reader at) ≡ true → Refuses limit reader.source.now (the ElementPart) w (seen_from reader at) e
 unopened_part {reader = reader} {at = at} h u led =

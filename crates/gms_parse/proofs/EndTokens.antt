@@ -1,5 +1,5 @@
 -- The end of a source is its last token, and no other token is an end; nor is any token of a program.
-use Rattle.std.proofs.Common.{◌≡◌, ℕ, ◌+◌, ◌==◌, ◌&&◌, ◌||◌, Bool, true, false, not, nat_lt, nat_le, if◌then◌else◌, cond, List, [], ◌∷◌, ◌++◌, length, take, drop, Option, Some, None, Ok, Err, refl, sym, ap, ◌∙◌, subst}
+use Rattle.std.proofs.Common.{◌≡◌, ℕ, ◌+◌, ◌==◌, ◌&&◌, ◌||◌, Bool, true, false, not, nat_lt, nat_le, if◌then◌else◌, List, [], ◌∷◌, ◌++◌, take, drop, Option, Some, None, Ok, Err, refl, sym, ap, ◌∙◌, subst}
 use Rattle.std.proofs.lemmas.List.{map_push}
 use Rattle.std.specs.List.{prefix_len}
 use Rattle.std.specs.Char.{is_ascii_alphabetic, is_ascii_alphanumeric}
@@ -8,7 +8,6 @@ use Rattle.gms_lines.specs.Lines.{begins, is_blank, is_line_end, content}
 use Rattle.gms_lexemes.specs.declared.kind.Kind.{Kind}
 use Rattle.gms_lexemes.specs.declared.kind.Kind.TheVariants as kind
 use Rattle.gms_lexemes.specs.declared.kind.Sym.{Sym}
-use Rattle.gms_lexemes.specs.declared.kind.Sym.TheVariants as symbol_kind
 use Rattle.gms_lexemes.specs.declared.lexeme.Piece.{Piece}
 use Rattle.gms_lexemes.specs.declared.lexeme.Piece.TheVariants as piece
 use Rattle.gms_lexemes.specs.declared.lexeme.Lexeme.{Lexeme}
@@ -34,17 +33,17 @@ use Rattle.gms_lex.specs.TokenTexts.{token_text}
 use Rattle.gms_lex.specs.Tokens.{IsMadeOf, tokens_of, end_token, IsTokens}
 use Rattle.gms_lex.specs.Tokens.{token_at as token_of_piece}
 use Rattle.gms_grammar.specs.declared.terminal.Terminal.{Terminal}
-use Rattle.gms_grammar.specs.declared.terminal.Terminal.TheVariants.{Label, Text, LongText, TableLine, Break, End}
+use Rattle.gms_grammar.specs.declared.terminal.Terminal.TheVariants.{End}
 use Rattle.gms_grammar.specs.Grammar.{the, yield, IsTree, Begins}
-use Rattle.gms_grammar.specs.Terminals.{is, is_among}
+use Rattle.gms_grammar.specs.Terminals.{is}
 use Rattle.gms_grammar.specs.GamsGrammar.{Nonterminal, Expression, Program, productions}
-use Rattle.gms_expressions.specs.Words.{terminal_of, terminal_of_word, terminal_of_symbol}
+use Rattle.gms_expressions.specs.Words.{terminal_of}
 use Rattle.gms_expressions.specs.Outcomes.{seen}
-use Rattle.gms_expressions.proofs.TokenKinds.{also}
 use Rattle.gms_parse.specs.Walks.{Seen}
 use Rattle.gms_parse.specs.Readings.{Derivation, kind_of}
-use Rattle.gms_parse.proofs.Alphabet.{AllPass, pass_front, pass_rest, only, all_pass}
-use Rattle.gms_parse.proofs.Spelled.{word_kind}
+use Rattle.gms_parse.proofs.Alphabet.{AllPass, pass_front, only, all_pass}
+use Rattle.gms_parse.proofs.Spelled.{lone_as}
+use Rattle.gms_parse.proofs.TokenKinds.{same_kind}
 
 -- ---- pieces
 
@@ -147,23 +146,15 @@ piece_goes current text = plain_goes current text
 abbrev pub is_other : Terminal → Bool
 is_other kind = not (is End kind)
 
-symbol_other : (s : Sym) → is_other (terminal_of_symbol s) ≡ true
-symbol_other symbol_kind.EqE = refl
-symbol_other _ = refl
-
-text_other : (b : Bool) → is_other (cond b LongText Text) ≡ true
-text_other true = refl
-text_other false = refl
-
 kind_other : (k : Kind) (text : List ℕ) → is_end_piece (piece.Token k) ≡ false → is_other (terminal_of k text) ≡ true
-kind_other kind.Word text h = also (λ (k : Terminal). not (is_among (Label ∷ TableLine ∷ Break ∷ End ∷ []) k)) is_other refl (terminal_of_word text) (word_kind text)
-kind_other kind.Label text h = refl
-kind_other kind.Number text h = refl
-kind_other kind.Text text h = text_other (nat_lt 65 (length text))
-kind_other (kind.Symbol s) text h = symbol_other s
-kind_other kind.Break text h = refl
-kind_other kind.TableLine text h = refl
-kind_other kind.End text h = cc
+kind_other k text h = go (is End (terminal_of k text)) refl
+  where
+    go : (b : Bool) → is End (terminal_of k text) ≡ b → not b ≡ true
+    go false e = refl
+    go true e =
+        let end : k ≡ kind.End = lone_as End refl k text (sym (same_kind End (terminal_of k text) e)) in
+        let not_end : is_end_piece (piece.Token kind.End) ≡ false = sym (ap (λ (x : Kind). is_end_piece (piece.Token x)) end) ∙ h in
+        cc
 
 front_other : (source : List ℕ) (at : Place) (p : Piece) (from to : ℕ) (others : List Token) → is_end_piece p ≡ false → AllPass is_other (seen source others) → AllPass is_other (seen source (token_of_piece at p from to ++ others))
 front_other source at (piece.Token k) from to others h rest = (kind_other k (token_text source (record { kind = k; start = from; end = to; at = at })) h, rest)
@@ -204,17 +195,6 @@ tree_other tree k = all_pass (λ n. true) is_other each_known (the Program) tree
 
 pub begins_other : (front : List Seen) → Begins productions (the Program) front → AllPass is_other front
 begins_other front b = pass_front is_other front b.further (subst (λ (u : List Seen). AllPass is_other u) b.derives.yields (tree_other b.derives.tree b.derives.is_tree))
-
--- something stands behind tokens of which none is the end
-pub end_behind : {ts : List Seen} → HasEnd ts → (front : List Seen) → AllPass is_other front → ts ≡ front ++ [] → ⊥
-end_behind h front all e =
-    let last = pass_rest is_other h.before ((End, h.end) ∷ []) (subst (λ (u : List Seen). AllPass is_other u) (end_nil_of front ∙ sym e ∙ h.parts) all) in
-    let no : false ≡ true = last.0 in
-    cc
-  where
-    end_nil_of : (u : List Seen) → u ≡ u ++ []
-    end_nil_of [] = refl
-    end_nil_of (x ∷ u) = ap (λ w. x ∷ w) (end_nil_of u)
 
 ends_at_once : (u v rest : List Seen) (end : Token) → u ++ (End, end) ∷ [] ≡ v ++ rest → AllPass is_other u → AllPass is_other v → kind_of rest ≡ End → rest ≡ (End, end) ∷ []
 ends_at_once [] [] rest end e h k is_end = sym e

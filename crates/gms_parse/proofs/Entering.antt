@@ -1,18 +1,15 @@
 -- Names that are entered, numbers, and signs.
-use Rattle.std.proofs.Common.{◌≡◌, ℕ, ◌≤◌, Bool, true, false, cond, not, ◌&&◌, ◌||◌, List, [], ◌∷◌, refl, sym, ap, ap₂, ◌∙◌, subst, arith, inl, inr, Err}
+use Rattle.std.proofs.Common.{◌≡◌, ℕ, ◌≤◌, Bool, true, false, cond, not, ◌&&◌, ◌||◌, List, [], ◌∷◌, refl, sym, ap, ap₂, ◌∙◌, subst, arith, inl, inr}
 use Rattle.gq_number.specs.Number.{Number as Rational, neg_ℚ}
 use Rattle.gq_text.specs.Decimal.{MeansNumber}
-use Rattle.gq_text.specs.declared.fault.NumberFault.{NumberFault}
-use Rattle.gq_text.specs.declared.fault.NumberFault.TheVariants.{Shape, Limit}
-use Rattle.gq_text.specs.Literal.{FitsLiteral, Reads}
-use Rattle.gq_text.proofs.Splits.{one_number}
+use Rattle.gq_text.specs.Literal.{FitsLiteral}
 use Rattle.gms_labels.specs.Labels.{place_of, entered, IsFullFor}
 use Rattle.gms_lex.specs.declared.token.Token.{Token}
 use Rattle.gms_lex.specs.TokenTexts.{token_text}
 use Rattle.gms_grammar.specs.declared.terminal.Terminal.{Terminal}
 use Rattle.gms_grammar.specs.declared.terminal.Terminal.TheVariants as terminal
 use Rattle.gms_grammar.specs.declared.terminal.Terminal.TheVariants.{LeftParen, Name, Suffix, Number, Sign, Dot, Using, Option}
-use Rattle.gms_grammar.specs.Grammar.{one, opt, leaf, some, none}
+use Rattle.gms_grammar.specs.Grammar.{one, opt, leaf}
 use Rattle.gms_grammar.specs.Reading.{leads}
 use Rattle.gms_grammar.specs.Terminals.{is, is_among}
 use Rattle.gms_grammar.specs.GamsGrammar.{name, token, productions}
@@ -20,19 +17,20 @@ use Rattle.gms_grammar.specs.GamsLookAhead.{look_ahead}
 use Rattle.gms_expressions.specs.ExpressionTrees.{or_0, is_minus}
 use Rattle.gms_parse.specs.declared.fault.SourceFault.{SourceFault}
 use Rattle.gms_parse.specs.declared.fault.SourceFaultOrMemory.{SourceFaultOrMemory}
-use Rattle.gms_parse.specs.declared.fault.SourceError.TheVariants.{Depth, NotInProfile, Expected}
+use Rattle.gms_parse.specs.declared.fault.SourceError.TheVariants.{Syntax}
+use Rattle.gms_expressions.specs.declared.fault.SyntaxError.TheVariants.{Depth, NotInProfile, Expected}
 use Rattle.gms_parse.specs.declared.fault.SourceFaultOrMemory.TheVariants.{Fault}
 use Rattle.gms_parse.specs.declared.reader.Reader.{Reader}
 use Rattle.gms_parse.specs.declared.reader.Tables.{Tables}
 use Rattle.gms_grammar.proofs.Basics.{not_true}
-use Rattle.gms_parse.specs.Outcomes.{unexpected_error}
+use Rattle.gms_expressions.specs.Outcomes.{unexpected_error}
 use Rattle.gms_parse.specs.DataLists.{opposed}
 use Rattle.gms_parse.specs.Walks.{Seen, Walk, walk_after, new_labels, is_name, last_kind, IsFaulty, deep, out_of_range, many_names, many_labels, in_table, without_lines}
 use Rattle.gms_parse.specs.Readings.{Gives, Refuses, IsGot, Has, Starts, Stays, IsNext, IsEntered, IsNotEntered, IsTooLarge, IsLacking, IsUnopened, seen_from, kind_of}
 use Rattle.gms_parse.specs.Meanings.{IsNamed, IsSign}
 use Rattle.gms_parse.proofs.TokenKinds.{begins, same_kind}
 use Rattle.gms_parse.proofs.Walks.{keyword_after, room_for_none}
-use Rattle.gms_parse.proofs.Steps.{gives_one, gives_none, gives_some, takes_next, refuses_token, refuses_memory}
+use Rattle.gms_parse.proofs.Steps.{got_by, gives_one, gives_none, gives_some, takes_next, refuses_token, refuses_memory}
 use Rattle.gms_parse.proofs.Nexts.{past, exact, led_next, refuses_lacking, gives_exact, plain_stays, stays_same}
 
 abbrev pub is_named : Terminal → Bool
@@ -75,25 +73,20 @@ name_got {limit} {reader} {at} {behind} {t} {old} {w} n s number texts is names 
     let opens = k.1 in
     let level = b.1 in
     let table : IsEntered old.names names text number = subst (λ (x : List ℕ). IsEntered old.names names x number) is entered_there in
-    record {
-      tree = leaf (n.kind, t);
-      behind = past reader w n.kind t behind;
-      gives = gives_one n.is n.passes (name_sound limit n s table.room) refl;
-      leaves = record {
-        has = record {
-          holds = record {
-            open_count = k.1 ∙ s.has.holds.open_count;
-            names = ap (λ c. cond c (entered w.names text) w.names) (named_there n s) ∙ ap (λ (ns : List (List ℕ)). entered ns text) s.has.holds.names ∙ sym table.table ∙ sym same;
-            labels = k.0 ∙ s.has.holds.labels ∙ sym labels;
-          };
-          level = omega (arith, lower, opens, level);
+    got_by (gives_one n.is n.passes (name_sound limit n s table.room) refl)
+    (record {
+      has = record {
+        holds = record {
+          open_count = k.1 ∙ s.has.holds.open_count;
+          names = ap (λ c. cond c (entered w.names text) w.names) (named_there n s) ∙ ap (λ (ns : List (List ℕ)). entered ns text) s.has.holds.names ∙ sym table.table ∙ sym same;
+          labels = k.0 ∙ s.has.holds.labels ∙ sym labels;
         };
-        keyword = b.0;
-        level = b.1;
+        level = omega (arith, lower, opens, level);
       };
-      means = λ sense m. ap (λ v. record { at = t.at; name = v }) (sym (ap or_0 (m.names text number (ap (λ (ns : List (List ℕ)). place_of ns text) same ∙ table.place))));
-      further = (let g = n.further in omega arith);
-    }
+      keyword = b.0;
+      level = b.1;
+    })
+    (λ sense m. ap (λ v. record { at = t.at; name = v }) (sym (ap or_0 (m.names text number (ap (λ (ns : List (List ℕ)). place_of ns text) same ∙ table.place))))) (let g = n.further in omega arith)
 
 -- there is no room for a name
 pub name_refused : {limit : ℕ} {reader : Reader} {at behind : ℕ} {t : Token} {old : Tables} {w : Walk} (n : IsNext is_named reader at t behind) → Starts reader old w → {e : SourceFaultOrMemory} (texts : List ℕ) → texts ≡ token_text reader.source.now t → IsNotEntered old.names texts t.at e →
@@ -107,17 +100,11 @@ name_refused {reader = reader} {t = t} {old = old} n s texts is r = elim r.why [
 
 pub sign_got : {limit : ℕ} {reader : Reader} {at behind : ℕ} {t : Token} {tables : Tables} {w : Walk} (minus : Bool) → IsNext (is Sign) reader at t behind → minus ≡ is_minus t.kind → Has reader tables w →
     IsGot limit IsSign (Stays reader tables w) (opt (token Sign)) reader at tables w minus behind
-sign_got {reader = reader} {behind = behind} {t = t} {w = w} minus n is h = record {
-  tree = some (leaf (Sign, t));
-  behind = past reader w Sign t behind;
-  gives = gives_some (led_next n) (gives_exact n refl);
-  leaves = plain_stays reader w Sign t behind refl h;
-  means = λ sense s v. ap (λ m. cond m (opposed neg_ℚ v) v) (sym is);
-  further = (let g = n.further in omega arith);
-}
+sign_got {reader = reader} {behind = behind} {t = t} {w = w} minus n is h = got_by (gives_some (led_next n) (gives_exact n refl)) (plain_stays reader w Sign t behind refl h) (λ sense s v. ap (λ m. cond m (opposed neg_ℚ v) v) (sym is))
+    (let g = n.further in omega arith)
 
 pub sign_none : {limit : ℕ} {reader : Reader} {at : ℕ} {tables : Tables} {w : Walk} → leads productions look_ahead (token Sign) (seen_from reader at) ≡ false → Has reader tables w → IsGot limit IsSign (Stays reader tables w) (opt (token Sign)) reader at tables w false at
-sign_none {w = w} unled h = record { tree = none; behind = w; gives = gives_none unled; leaves = stays_same h; means = λ sense s v. refl; further = omega arith }
+sign_none {w = w} unled h = got_by (gives_none unled) (stays_same h) (λ sense s v. refl) (omega arith)
 
 -- ---- numbers
 
@@ -144,16 +131,11 @@ pub number_refused : {limit : ℕ} {test : Terminal → Bool} {reader : Reader} 
     IsTooLarge limit reader.source.now t e → Refuses limit reader.source.now (one test) w (seen_from reader at) e
 number_refused n h o = refuses_token (takes_next (exact n) h) (out_of_range refl o.none_fits) o.is
 
--- a number that was not read fits no literal
-pub none_fits : {F : Type 0} (limit : ℕ) (value : F → Rational) (text : List ℕ) (e : NumberFault) → Reads {F = F} limit value text (Err e) → (x : Rational) → MeansNumber text x → FitsLiteral limit x → ⊥
-none_fits limit value text Shape r x m f = r x m
-none_fits limit value text Limit r x m f = r.2 (subst (λ (y : Rational). FitsLiteral limit y) (one_number text x r.0 m r.1) f)
-
 -- no parenthesis, and one too many
 pub unopened_lacking : {reader : Reader} {at : ℕ} {e : SourceFaultOrMemory} → IsLacking (is LeftParen) reader at e → IsUnopened reader at e
 unopened_lacking l = record { refuses = λ limit tables w h. refuses_lacking l }
 
-pub unopened_deep : {reader : Reader} {at behind : ℕ} {t : Token} {e : SourceFaultOrMemory} → IsNext (is LeftParen) reader at t behind → 100 ≤ reader.unclosed → e ≡ Fault (record { error = Depth; at = t.at }) → IsUnopened reader at e
+pub unopened_deep : {reader : Reader} {at behind : ℕ} {t : Token} {e : SourceFaultOrMemory} → IsNext (is LeftParen) reader at t behind → 100 ≤ reader.unclosed → e ≡ Fault (record { error = Syntax Depth; at = t.at }) → IsUnopened reader at e
 unopened_deep n many is = record { refuses = λ limit tables w h. refuses_token (takes_next (exact n) refl) (deep refl (let o = h.open_count in omega (arith, o, many))) is }
 
 -- the error of a token that is unexpected, by its kind

@@ -1,28 +1,24 @@
 -- Expressions and parts of them, as the crate that reads them says what it read.
-use Rattle.std.proofs.Common.{◌≡◌, ℕ, ◌+◌, ◌-◌, ◌<◌, ◌≤◌, Bool, true, false, not, ◌||◌, cond, List, [], ◌∷◌, ◌++◌, length, drop, refl, sym, ap, ap₂, ◌∙◌, subst, inl, inr, arith}
+use Rattle.std.proofs.Common.{◌≡◌, ℕ, ◌+◌, ◌-◌, ◌<◌, ◌≤◌, Bool, true, not, ◌||◌, List, [], ◌∷◌, ◌++◌, length, drop, refl, sym, ap, ◌∙◌, subst, inl, inr, arith}
 use Rattle.gq_number.specs.Number.{Number}
 use Rattle.gms_lex.specs.declared.token.Token.{Token}
 use Rattle.gms_grammar.specs.declared.terminal.Terminal.{Terminal}
-use Rattle.gms_grammar.specs.declared.terminal.Terminal.TheVariants.{NotInProfile}
-use Rattle.gms_grammar.specs.Grammar.{the, yield, IsTree}
+use Rattle.gms_grammar.specs.Grammar.{the, yield, IsTree, Derives}
 use Rattle.gms_grammar.specs.Terminals.{is}
 use Rattle.gms_grammar.specs.GamsGrammar.{Nonterminal, Expression, productions}
+use Rattle.gms_grammar.specs.Rules as rules
 use Rattle.std.proofs.lemmas.List.{length-drop, length-map, length-append}
-use Rattle.gms_expressions.specs.declared.fault.SyntaxError.TheVariants as syntax_error
 use Rattle.gms_expressions.specs.declared.fault.SyntaxFaultOrMemory.{SyntaxFaultOrMemory}
 use Rattle.gms_expressions.specs.declared.fault.SyntaxFaultOrMemory.TheVariants as syntax
 use Rattle.gms_expressions.specs.Outcomes as inner
 use Rattle.gms_expressions.specs.Words.{terminal_of}
 use Rattle.gms_lex.specs.TokenTexts.{token_text}
 use Rattle.gms_expressions.specs.Calls.{walk_from, IsRead, IsRefusal}
-use Rattle.gms_parse.specs.declared.fault.SourceError.{SourceError}
-use Rattle.gms_parse.specs.declared.fault.SourceError.TheVariants as source_error
-use Rattle.gms_parse.specs.declared.fault.SourceFaultOrMemory.TheVariants as source_fault
+use Rattle.gms_parse.specs.declared.fault.SourceFaultOrMemory.TheVariants as answer
 use Rattle.gms_parse.specs.declared.fault.SourceFault.{SourceFault}
 use Rattle.gms_parse.specs.declared.reader.Reader.{Reader}
 use Rattle.gms_parse.specs.declared.reader.Tables.{Tables}
-use Rattle.gms_parse.specs.Faults.{error_of_syntax, fault_of_syntax}
-use Rattle.gms_parse.specs.Outcomes.{unexpected_error}
+use Rattle.gms_parse.specs.Faults.{fault_of_syntax, source_fault}
 use Rattle.gms_parse.specs.Walks.{Seen, Walk, walk_after, walk_behind, kind_ahead, IsFaulty}
 use Rattle.gms_parse.specs.Readings.{Derivation, Sense, Starts, StaysOpen, Tableless, IsGot, IsStuck, IsWrong, Refuses, seen_from, kind_of}
 use Rattle.gms_parse.proofs.Steps.{refuses_memory}
@@ -41,14 +37,6 @@ formulas_inner _ = refl
 open_behind : (source : List ℕ) (w : Walk) (u : List Seen) (ahead : Terminal) → (walk_behind source w u ahead).open_count ≡ depth_after w.open_count u
 open_behind source w [] ahead = refl
 open_behind source w (t ∷ u) ahead = open_behind source (walk_after source w t (kind_ahead u ahead)) u ahead
-
-same_unexpected : (rest : List Seen) → error_of_syntax (inner.unexpected_error rest) ≡ unexpected_error rest
-same_unexpected [] = refl
-same_unexpected (t ∷ rest) = go (is NotInProfile t.0)
-  where
-    go : (b : Bool) → error_of_syntax (cond b syntax_error.NotInProfile syntax_error.Expected) ≡ cond b source_error.NotInProfile source_error.Expected
-    go true = refl
-    go false = refl
 
 -- the walk that the other crate begins with
 abbrev before : Reader → Tables → inner.Walk
@@ -115,7 +103,7 @@ module _ {reader : Reader} {old : Tables} {w : Walk} (n : Nonterminal) (formula 
   -- a part that was refused
   pub formula_refused : {limit : ℕ} (at : ℕ) (e : SyntaxFaultOrMemory) → IsRefusal limit reader.source.now n (walk_from reader.unclosed old.names old.labels) (seen_from reader at) e → Refuses limit reader.source.now (the n) w (seen_from reader at) (fault_of_syntax e)
   formula_refused at syntax.Memory r = refuses_memory refl
-  formula_refused {limit} at (syntax.Fault found) r = record { why = λ fault same. elim r.cause [ inl c ↦ inr (wrong fault same c) | inr c ↦ inl (stopped fault same c) ] }
+  formula_refused {limit} at (syntax.Fault found) r = record { why = λ fault same. elim r.cause [ inl c ↦ inr (wrong fault (told fault same) c) | inr c ↦ inl (stopped fault (told fault same) c) ] }
     where
       ts : List Seen
       ts = seen_from reader at
@@ -132,20 +120,20 @@ module _ {reader : Reader} {old : Tables} {w : Walk} (n : Nonterminal) (formula 
       above_all : TextsAbove w.level w.open_count r.front
       above_all = above_front w.level w.open_count r.front r.stops.begins.further (subst (λ (u : List Seen). TextsAbove w.level w.open_count u) r.stops.begins.derives.yields (above_tokens whole r.stops.begins.derives.is_tree))
 
-      stopped : (fault : SourceFault) → fault_of_syntax (syntax.Fault found) ≡ source_fault.Fault fault → inner.IsUnexpected limit source n (before reader old) r.front r.rest found → IsStuck limit source (the n) w ts fault
-      stopped fault same c =
-          let is : fault ≡ record { error = error_of_syntax found.error; at = found.at } = cc in
-          record {
-            front = r.front;
-            rest = r.rest;
-            reads = stuck_of n ts r.front r.rest r.stops c.is_none;
-            are_sound = (agree limit source w (before reader old) r.front (kind_of r.rest) inner_front above_all (begin s other) c.are_sound).sound;
-            is = is ∙ ap₂ (λ (x : SourceError) y. record { error = x; at = y }) (ap error_of_syntax c.error ∙ same_unexpected r.rest) c.at;
-          }
+      told : (fault : SourceFault) → fault_of_syntax (syntax.Fault found) ≡ answer.Fault fault → source_fault found ≡ fault
+      told fault same = cc
 
-      wrong : (fault : SourceFault) → fault_of_syntax (syntax.Fault found) ≡ source_fault.Fault fault → inner.IsFirstFaulty limit source (before reader old) r.front found → IsWrong limit source (the n) w ts fault
-      wrong fault same c =
-          let is : fault ≡ record { error = error_of_syntax found.error; at = found.at } = cc in
+      stopped : (fault : SourceFault) → source_fault found ≡ fault → rules.IsUnexpected inner.syntax_rule (limit, source) (Derives productions (the n) r.front → ⊥) (before reader old) r.front r.rest found → IsStuck limit source (the n) w ts fault
+      stopped fault is c = record {
+        front = r.front;
+        rest = r.rest;
+        reads = stuck_of n ts r.front r.rest r.stops c.wants;
+        are_sound = (agree limit source w (before reader old) r.front (kind_of r.rest) inner_front above_all (begin s other) c.are_sound).sound;
+        is = sym is ∙ ap source_fault c.is;
+      }
+
+      wrong : (fault : SourceFault) → source_fault found ≡ fault → rules.IsFirstFaulty inner.syntax_rule (limit, source) (before reader old) r.front (kind_of r.rest) found → IsWrong limit source (the n) w ts fault
+      wrong fault is c =
           let inner_all = subst (λ (u : List Seen). AllPass is_inner u) c.parts inner_front in
           let above = subst (λ (u : List Seen). TextsAbove w.level w.open_count u) c.parts above_all in
           let g : Agreed limit source w (before reader old) c.before c.token.0 = agree limit source w (before reader old) c.before c.token.0 (pass_front is_inner c.before (c.token ∷ c.behind) inner_all) (above_front w.level w.open_count c.before (c.token ∷ c.behind) above) (begin s other) c.are_sound in
@@ -158,7 +146,7 @@ module _ {reader : Reader} {old : Tables} {w : Walk} (n : Nonterminal) (formula 
             behind = c.behind ++ r.rest;
             takes = takes_of n ts r.front r.rest r.stops c.before c.token c.behind c.parts;
             are_sound = g.sound;
-            is_faulty = subst (λ (x : SourceFault). IsFaulty limit source (walk_behind source w c.before c.token.0) c.token (kind_of (c.behind ++ r.rest)) x) (ap (λ y. record { error = error_of_syntax found.error; at = y }) (sym c.at) ∙ sym is)
-                (fault_outside limit source (walk_behind source w c.before c.token.0) (inner.walk_behind source (before reader old) c.before) c.token (kind_of (c.behind ++ r.rest)) (pass_rest is_inner c.before (c.token ∷ c.behind) inner_all).0
-                (λ text. let l = deep_here.0 text in omega (arith, l, level, count)) g.agrees found.error c.is_faulty);
+            is_faulty = subst (λ (x : SourceFault). IsFaulty limit source (walk_behind source w c.before c.token.0) c.token (kind_of (c.behind ++ r.rest)) x) is
+                (fault_outside limit source (walk_behind source w c.before c.token.0) (inner.walk_behind source (before reader old) c.before c.token.0) c.token (kind_of (c.behind ++ r.rest)) (pass_rest is_inner c.before (c.token ∷ c.behind) inner_all).0
+                (λ text. let l = deep_here.0 text in omega (arith, l, level, count)) g.agrees found c.is_faulty);
           }

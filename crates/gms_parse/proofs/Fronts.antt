@@ -5,6 +5,7 @@ use Rattle.gms_grammar.specs.Reading.{Found, read, stuck, Reads, Takes, taken, r
 use Rattle.gms_grammar.specs.GamsGrammar.{Nonterminal, productions}
 use Rattle.gms_grammar.specs.GamsLookAhead.{look_ahead}
 use Rattle.gms_grammar.proofs.Basics.{behind_same}
+use Rattle.gms_grammar.proofs.Orders.{some_there}
 use Rattle.gms_grammar.proofs.Sound.{sound}
 use Rattle.gms_grammar.proofs.Stopping.{stops_once}
 use Rattle.gms_grammar.proofs.Language.{gams_unique, gams_read_tree, gams_read_stops, gams_stuck_stops, gams_stuck_none, gams_finds}
@@ -31,10 +32,6 @@ split (y ∷ a) b (z ∷ u) x v e = go (split a b u x v cc)
     go : Split a b u x v → Split (y ∷ a) b (z ∷ u) x v
     go (inside w h k) = let p : y ∷ a ≡ z ∷ (u ++ (x ∷ w)) = cc in inside w p k
     go (beyond w h k) = let p : z ∷ u ≡ y ∷ (a ++ w) = cc in beyond w p k
-
-no_nil : {T : Type 0} (u : List T) (x : T) (v : List T) → [] ≡ u ++ (x ∷ v) → ⊥
-no_nil [] x v e = cc
-no_nil (y ∷ u) x v e = cc
 
 -- the tokens that were gone over, and the rest
 abbrev front_of : Found Seen → List Seen
@@ -66,8 +63,8 @@ takes_front (taken {test = test} {token = token} {rest = rest} h) [] x v e =
     subst (λ (z : Seen). Takes productions look_ahead (one test) (token ∷ rest) (z ∷ []) (v ++ rest)) same (subst (λ (w : List Seen). Takes productions look_ahead (one test) (token ∷ rest) (token ∷ []) (w ++ rest)) none (takes_one h))
 takes_front (taken {token = token} h) (y ∷ u) x v e =
     let less : [] ≡ u ++ (x ∷ v) = cc in
-    absurd (no_nil u x v less)
-takes_front (refused h) u x v e = absurd (no_nil u x v e)
+    absurd (some_there u x v less)
+takes_front (refused h) u x v e = absurd (some_there u x v e)
 takes_front (entered r) u x v e = takes_the (takes_front r u x v e)
 takes_front (entered_stuck r) u x v e = takes_the (takes_front r u x v e)
 takes_front (both {p = p} {q = q} {a = a} {b = b} r s) u x v e = joined {p = p} {q = q} a (yield b) (λ front behind t. takes_first t) (λ front behind t. takes_second r t) (takes_front r) (takes_front s) (sound productions look_ahead s).1 u x v e
@@ -77,11 +74,11 @@ takes_front (in_left h r) u x v e = takes_left (takes_front r u x v e)
 takes_front (in_left_stuck h r) u x v e = takes_left (takes_front r u x v e)
 takes_front (in_right h k r) u x v e = takes_right (takes_front r u x v e)
 takes_front (in_right_stuck h k r) u x v e = takes_right (takes_front r u x v e)
-takes_front (in_neither h k) u x v e = absurd (no_nil u x v e)
-takes_front (left_out h) u x v e = absurd (no_nil u x v e)
+takes_front (in_neither h k) u x v e = absurd (some_there u x v e)
+takes_front (left_out h) u x v e = absurd (some_there u x v e)
 takes_front (there h r) u x v e = takes_opt (takes_front r u x v e)
 takes_front (there_stuck h r) u x v e = takes_opt (takes_front r u x v e)
-takes_front (no_more h) u x v e = absurd (no_nil u x v e)
+takes_front (no_more h) u x v e = absurd (some_there u x v e)
 takes_front (again {p = p} {a = a} {b = b} h r s) u x v e = joined {p = p} {q = many p} a (yield b) (λ front behind t. takes_many t) (λ front behind t. takes_later r t) (takes_front r) (takes_front s) (sound productions look_ahead s).1 u x v e
 takes_front (again_stuck h r) u x v e = takes_many (takes_front r u x v e)
 takes_front (later_stuck {p = p} {front = front} {a = a} h r s) u x v e = joined {p = p} {q = many p} a front (λ f behind t. takes_many t) (λ f behind t. takes_later r t) (takes_front r) (takes_front s) (sound productions look_ahead s) u x v e

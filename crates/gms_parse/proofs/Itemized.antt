@@ -14,7 +14,7 @@ use Rattle.gms_parse.specs.Declarations.{items_in, further_items}
 use Rattle.gms_parse.specs.Walks.{Seen, Walk}
 use Rattle.gms_parse.specs.Readings.{Derivation, GamsPart, Refuses, Sense, IsSense, Has, Starts, Stays, Optionless, IsPassed, IsFurther, IsNotFurther, IsBehindLast, IsGot, seen_from}
 use Rattle.gms_parse.proofs.TokenKinds.{unled_next, led_either, led_other, unled_either}
-use Rattle.gms_parse.proofs.Steps.{Within, within_second, within_some, within_left, within_right, within_then, gives_both, gives_right, gives_none, gives_some, refuses_first}
+use Rattle.gms_parse.proofs.Steps.{got_by, Within, within_second, within_some, within_left, within_right, within_then, gives_both, gives_right, gives_none, gives_some, refuses_first}
 use Rattle.gms_parse.proofs.Nexts.{past, exact, led_next, leads_next, falls, gives_exact, plain_stays, plain_starts, stays_then, earlier}
 
 -- behind an item: perhaps a comma and further items, or a line end and perhaps further items
@@ -114,28 +114,19 @@ module _ {T A : Type 0} {limit : ℕ} {show : T → A} {meaning : Sense → Deri
 
     -- no more is to be read
     items_end : leads productions look_ahead (token Comma) (seen_from reader at) ≡ false → leads productions look_ahead (token Break) (seen_from reader at) ≡ false → IsGot limit (AreItems show meaning) (Stays reader new w) (the again) reader start new w xs at
-    items_end no_comma no_break = record {
-      tree = l.context none;
-      behind = l.behind;
-      gives = l.within.gives none _ _ (gives_none (unled_either (token Comma · the again) (token Break · opt (the again)) (seen_from reader at) (unled_next (is Comma) (the again) (seen_from reader at) no_comma) (unled_next (is Break) (opt (the again)) (seen_from reader at) no_break)));
-      leaves = l.stays;
-      means = λ sense s. sym (l.means sense s none ∙ append-nil (map show xs));
-      further = l.further;
-    }
+    items_end no_comma no_break = got_by
+        (l.within.gives none _ _ (gives_none (unled_either (token Comma · the again) (token Break · opt (the again)) (seen_from reader at) (unled_next (is Comma) (the again) (seen_from reader at) no_comma) (unled_next (is Break) (opt (the again)) (seen_from reader at) no_break))))
+        l.stays (λ sense s. sym (l.means sense s none ∙ append-nil (map show xs))) l.further
 
     pub items_got : {next : ℕ} → IsNotFurther reader at → IsBehindLast reader at next → IsGot limit (AreItems show meaning) (Stays reader new w) (the again) reader start new w xs next
     items_got {next} n (inl (no_break, same)) = subst (λ (m : ℕ). IsGot limit (AreItems show meaning) (Stays reader new w) (the again) reader start new w xs m) (sym same) (items_end n.0 no_break)
     items_got {next} n (inr (p, unnamed)) =
         let led = leads_next (opt (the again)) p.next in
         let unled = unled_next (is Comma) (the again) (seen_from reader at) n.0 in
-        record {
-          tree = l.context (some (right (pair (leaf (Break, p.token)) none)));
-          behind = past reader l.behind Break p.token next;
-          gives = l.within.gives _ _ _ (gives_some (led_other (token Comma · the again) (token Break · opt (the again)) (seen_from reader at) led) (gives_right unled led (gives_both (gives_exact p.next refl) (gives_none (part.led (seen_from reader next) ∙ unnamed)))));
-          leaves = stays_then l.stays (plain_stays reader l.behind Break p.token next refl l.stays.has);
-          means = λ sense s. sym (l.means sense s (some (right (pair (leaf (Break, p.token)) none))) ∙ append-nil (map show xs));
-          further = (let a = l.further in let f = p.next.further in omega arith);
-        }
+        got_by
+        (l.within.gives _ _ _ (gives_some (led_other (token Comma · the again) (token Break · opt (the again)) (seen_from reader at) led) (gives_right unled led (gives_both (gives_exact p.next refl) (gives_none (part.led (seen_from reader next) ∙ unnamed))))))
+        (stays_then l.stays (plain_stays reader l.behind Break p.token next refl l.stays.has)) (λ sense s. sym (l.means sense s (some (right (pair (leaf (Break, p.token)) none))) ∙ append-nil (map show xs)))
+        (let a = l.further in let f = p.next.further in omega arith)
 
 -- the place behind the last item
 pub behind_break : {reader : Reader} {at behind : ℕ} → IsNotFurther reader at → IsPassed Break reader at behind → IsBehindLast reader at behind

@@ -9,7 +9,7 @@ use Rattle.gms_ast.specs.StatementView.{extended_in, item_in}
 use Rattle.gms_lex.specs.declared.token.Token.{Token}
 use Rattle.gms_grammar.specs.declared.terminal.Terminal.{Terminal}
 use Rattle.gms_grammar.specs.declared.terminal.Terminal.TheVariants.{Dot, Comma, Break, Slash, Equals}
-use Rattle.gms_grammar.specs.Grammar.{the, ◌·◌, opt, leaf, pair, none, some, node}
+use Rattle.gms_grammar.specs.Grammar.{the, ◌·◌, opt, node}
 use Rattle.gms_grammar.specs.Reading.{leads}
 use Rattle.gms_grammar.specs.Terminals.{is, is_among}
 use Rattle.gms_grammar.specs.GamsGrammar.{Element, ElementPart, Entry, Value, productions, token}
@@ -29,9 +29,9 @@ use Rattle.gms_parse.specs.Walks.{Seen, Walk}
 use Rattle.gms_parse.specs.Readings.{Derivation, GamsPart, Gives, Refuses, IsGot, Has, Stays, IsNext, IsLacking, seen_from}
 use Rattle.gms_parse.specs.Meanings.{IsPart, IsElement, IsGiven, IsListed, AreListed, listed_part, list_part, listed_meaning, list_meaning}
 use Rattle.gms_parse.proofs.TokenKinds.{unled_next}
-use Rattle.gms_parse.proofs.Steps.{gives_both, gives_the, gives_none, gives_some, refuses_the, refuses_first, refuses_second, refuses_some}
+use Rattle.gms_parse.proofs.Steps.{got_by, gives_both, gives_the, gives_none, gives_some, refuses_the, refuses_first, refuses_second, refuses_some}
 use Rattle.gms_parse.proofs.Nexts.{past, leads_next, gives_exact, refuses_lacking, plain_stays, stays_then, stays_same}
-use Rattle.gms_parse.proofs.Places.{place_read}
+use Rattle.gms_expressions.proofs.Chains.{place_read}
 use Rattle.gms_parse.proofs.Listing.{AreAll, all_meant, list_of, Listing, listing_start, listing_on, listing_got, separated_walk}
 
 -- ---- elements
@@ -77,47 +77,31 @@ module _ {limit : ℕ} {reader : Reader} {start : ℕ} {w : Walk} where
   element_got l unled element parts_are bad_is placed =
       let got = listing_got l.listing unled in
       let gives = gives_the Element got.gives in
-      record {
-        tree = node got.tree;
-        behind = got.behind;
-        gives = gives;
-        leaves = got.leaves;
-        means = λ sense s. (
-          placed ∙ sym (place_read (the Element) refl gives),
-          parts_are ∙ l.parts_are ∙ all_meant (IsPart reader.source.now) (λ (p : Position). p.labels.items) (labels_in_part reader.source.now sense.labels sense.value neg_ℚ) sense (λ tree x h. h.0) got.tree l.ghost (got.means sense s),
-          bad_is ∙ l.bad_is ∙ ap any_true (all_meant (IsPart reader.source.now) (λ (p : Position). p.bad_range) (has_bad_range reader.source.now sense.labels sense.value neg_ℚ) sense (λ tree x h. h.1) got.tree l.ghost (got.means sense s)),
-        );
-        further = got.further;
-      }
+      got_by gives got.leaves
+      (λ sense s. (
+        placed ∙ sym (place_read (the Element) refl gives),
+        parts_are ∙ l.parts_are ∙ all_meant (IsPart reader.source.now) (λ (p : Position). p.labels.items) (labels_in_part reader.source.now sense.labels sense.value neg_ℚ) sense (λ tree x h. h.0) got.tree l.ghost (got.means sense s),
+        bad_is ∙ l.bad_is ∙ ap any_true (all_meant (IsPart reader.source.now) (λ (p : Position). p.bad_range) (has_bad_range reader.source.now sense.labels sense.value neg_ℚ) sense (λ tree x h. h.1) got.tree l.ghost (got.means sense s)),
+      ))
+      got.further
 
 -- ---- items
 
 -- an element as an item without a value
 pub lone_item : {F : Type 0} (value : F → Rational) {limit : ℕ} {reader : Reader} {at next : ℕ} {new : Tables} {w : Walk} (element : ElementNode) (item : Item F) → item_in value item ≡ record { at = element.at; parts = element.parts.items; value = None; bad_range = element.bad_range } →
     IsGot limit (IsElement reader.source.now) (Stays reader new w) (the Element) reader at new w element next → IsGot limit (IsListed value reader.source.now list_of_kind.Elements) (Stays reader new w) (the Element) reader at new w item next
-lone_item value element item shown got = record {
-  tree = got.tree;
-  behind = got.behind;
-  gives = got.gives;
-  leaves = got.leaves;
-  means = λ sense s. let m = got.means sense s in shown ∙ ap₂ (λ (p : Place) (x : List (List ℕ) × Bool). record { at = p; parts = x.0; value = None; bad_range = x.1 }) m.0 (ap₂ (λ a b. (a, b)) m.1 m.2);
-  further = got.further;
-}
+lone_item value element item shown got = got_by got.gives got.leaves
+    (λ sense s. let m = got.means sense s in shown ∙ ap₂ (λ (p : Place) (x : List (List ℕ) × Bool). record { at = p; parts = x.0; value = None; bad_range = x.1 }) m.0 (ap₂ (λ a b. (a, b)) m.1 m.2)) got.further
 
 -- an element with a value
 pub entry_got : {F : Type 0} (value : F → Rational) {limit : ℕ} {reader : Reader} {at middle next : ℕ} {new : Tables} {w : Walk} (element : ElementNode) (v : Ext F) (item : Item F) → item_in value item ≡ record { at = element.at; parts = element.parts.items; value = Some (extended_in value v); bad_range = element.bad_range } →
     (got : IsGot limit (IsElement reader.source.now) (Stays reader new w) (the Element) reader at new w element middle) → IsGot limit (λ sense tree v. IsGiven value reader.source.now sense (second_in tree) v) (Stays reader new got.behind) (opt (token Equals) · the Value) reader middle new got.behind v next →
     IsGot limit (IsListed value reader.source.now list_of_kind.Entries) (Stays reader new w) (the Entry) reader at new w item next
-entry_got value element v item shown got given = record {
-  tree = node (pair got.tree given.tree);
-  behind = given.behind;
-  gives = gives_the Entry (gives_both got.gives given.gives);
-  leaves = stays_then got.leaves given.leaves;
-  means = λ sense s.
-      let m = got.means sense s in
-      shown ∙ ap₂ (λ (p : Place × Ext Rational) (x : List (List ℕ) × Bool). record { at = p.0; parts = x.0; value = Some p.1; bad_range = x.1 }) (ap₂ (λ a b. (a, b)) m.0 (given.means sense s)) (ap₂ (λ a b. (a, b)) m.1 m.2);
-  further = (let a = got.further in let b = given.further in omega arith);
-}
+entry_got value element v item shown got given = got_by (gives_the Entry (gives_both got.gives given.gives)) (stays_then got.leaves given.leaves)
+    (λ sense s.
+    let m = got.means sense s in
+    shown ∙ ap₂ (λ (p : Place × Ext Rational) (x : List (List ℕ) × Bool). record { at = p.0; parts = x.0; value = Some p.1; bad_range = x.1 }) (ap₂ (λ a b. (a, b)) m.0 (given.means sense s)) (ap₂ (λ a b. (a, b)) m.1 m.2))
+    (let a = got.further in let b = given.further in omega arith)
 
 -- ---- lists between slashes
 
@@ -140,14 +124,8 @@ refuses_list list {limit} {source} {w} {ts} {e} r = refuses_the (list_part list)
 
 pub no_list : {F : Type 0} (value : F → Rational) (list : ListOf) {limit : ℕ} {reader : Reader} {at : ℕ} {tables : Tables} {w : Walk} (items : Vec (Item F) Global) → items.items ≡ [] → leads productions look_ahead (token Slash) (seen_from reader at) ≡ false → Has reader tables w →
     IsGot limit (AreListed value reader.source.now list) (Stays reader tables w) (opt (token Slash · the (list_part list) · token Slash)) reader at tables w items at
-no_list value list {reader = reader} {at = at} {w = w} items none_yet unled h = record {
-  tree = none;
-  behind = w;
-  gives = gives_none (unled_next (is Slash) (the (list_part list) · token Slash) (seen_from reader at) unled);
-  leaves = stays_same h;
-  means = λ sense s. ap (map (item_in value)) none_yet;
-  further = omega arith;
-}
+no_list value list {reader = reader} {at = at} {w = w} items none_yet unled h = got_by (gives_none (unled_next (is Slash) (the (list_part list) · token Slash) (seen_from reader at) unled)) (stays_same h) (λ sense s. ap (map (item_in value)) none_yet)
+    (omega arith)
 
 module _ (list : ListOf) {limit : ℕ} {reader : Reader} {at behind : ℕ} {t : Token} {old : Tables} {w : Walk} (h : Has reader old w) (n : IsNext (is Slash) reader at t behind) where
   pub list_refused : {e : SourceFaultOrMemory} → Refuses limit reader.source.now (list_of separators (the (listed_part list))) (past reader w Slash t behind) (seen_from reader behind) e → Refuses limit reader.source.now (opt (token Slash · the (list_part list) · token Slash)) w (seen_from reader at) e
@@ -158,11 +136,7 @@ module _ (list : ListOf) {limit : ℕ} {reader : Reader} {at behind : ℕ} {t : 
     list_unclosed l = refuses_some (leads_next (the (list_part list) · token Slash) n) (refuses_second (gives_exact {kind = Slash} n refl) (refuses_second (gives_list list got.gives) (refuses_lacking l)))
 
     pub list_got : {end : Token} {after : ℕ} → IsNext (is Slash) reader next end after → (all : Vec (Item F) Global) → all.items ≡ items → IsGot limit (AreListed value reader.source.now list) (Stays reader new w) (opt (token Slash · the (list_part list) · token Slash)) reader at new w all after
-    list_got {end} {after} m all same = record {
-      tree = some (pair (leaf (Slash, t)) (pair (node got.tree) (leaf (Slash, end))));
-      behind = past reader got.behind Slash end after;
-      gives = gives_some (leads_next (the (list_part list) · token Slash) n) (gives_both (gives_exact {kind = Slash} n refl) (gives_both (gives_list list got.gives) (gives_exact {kind = Slash} m refl)));
-      leaves = stays_then (plain_stays reader w Slash t behind refl h) (stays_then got.leaves (plain_stays reader got.behind Slash end after refl got.leaves.has));
-      means = λ sense s. ap (map (item_in value)) same ∙ all_meant (IsListed value reader.source.now list) (item_in value) (listed_meaning list reader.source.now sense.labels sense.value) sense (λ tree x h. h) got.tree items (got.means sense s) ∙ list_meant list reader.source.now sense.labels sense.value got.tree;
-      further = (let a = n.further in let b = got.further in let c = m.further in omega arith);
-    }
+    list_got {end} {after} m all same = got_by (gives_some (leads_next (the (list_part list) · token Slash) n) (gives_both (gives_exact {kind = Slash} n refl) (gives_both (gives_list list got.gives) (gives_exact {kind = Slash} m refl))))
+        (stays_then (plain_stays reader w Slash t behind refl h) (stays_then got.leaves (plain_stays reader got.behind Slash end after refl got.leaves.has)))
+        (λ sense s. ap (map (item_in value)) same ∙ all_meant (IsListed value reader.source.now list) (item_in value) (listed_meaning list reader.source.now sense.labels sense.value) sense (λ tree x h. h) got.tree items (got.means sense s) ∙ list_meant list reader.source.now sense.labels sense.value got.tree)
+        (let a = n.further in let b = got.further in let c = m.further in omega arith)

@@ -1,48 +1,20 @@
 -- Statements that begin with a keyword.
-use Rattle.std.proofs.Common.{◌≡◌, ℕ, Bool, true, false, not, ◌&&◌, List, [], ◌∷◌, Result, Ok, Err, refl, sym, ap, ◌∙◌, subst, inl, inr, ◌⊎◌}
+use Rattle.std.proofs.Common.{◌≡◌, ℕ, Bool, true, false, not, ◌&&◌, List, [], ◌∷◌, refl, sym, ap, ◌∙◌, inl, inr, ◌⊎◌}
 use Rattle.std.proofs.lemmas.Bool.{not-true, not_from_false, and_from}
-use Rattle.gq_number.specs.Number.{Number}
-use Rattle.gms_ast.specs.declared.declaration.Item.{Item}
-use Rattle.gms_ast.specs.declared.program.Act.{Act as ActNode}
 use Rattle.gms_grammar.specs.declared.terminal.Terminal.{Terminal}
 use Rattle.gms_grammar.specs.declared.terminal.Terminal.TheVariants.{Alias, Equation, Model, Parameter, Scalar, Set, Table, Variable, VariableType, End}
-use Rattle.gms_grammar.specs.Grammar.{the, ◌∣◌, left, right, node, yield}
+use Rattle.gms_grammar.specs.Grammar.{the, ◌∣◌, left, right, node}
 use Rattle.gms_grammar.specs.LookAhead.{may_begin}
 use Rattle.gms_grammar.specs.Terminals.{is_among}
-use Rattle.gms_grammar.specs.GamsGrammar.{KeywordStatement, SetStatement, ParameterStatement, ScalarStatement, TableStatement, VariableStatement, EquationStatement, ModelStatement, AliasStatement, productions}
+use Rattle.gms_grammar.specs.GamsGrammar.{KeywordStatement, SetStatement, ParameterStatement, ScalarStatement, TableStatement, VariableStatement, EquationStatement, ModelStatement, AliasStatement}
 use Rattle.gms_grammar.specs.GamsLookAhead.{look_ahead}
-use Rattle.gms_grammar.proofs.Sound.{sound}
 use Rattle.gms_expressions.proofs.TokenKinds.{implies, also}
-use Rattle.gms_parse.specs.declared.fault.SourceFaultOrMemory.{SourceFaultOrMemory}
-use Rattle.gms_parse.specs.declared.reader.Reader.{Reader}
-use Rattle.gms_parse.specs.declared.reader.Tables.{Tables}
-use Rattle.gms_parse.specs.Programs.{keyword_act}
 use Rattle.gms_parse.specs.Walks.{Seen, Walk, is_keyword}
-use Rattle.gms_parse.specs.Readings.{Derivation, GamsPart, Sense, IsAnswer, Holds, kind_of, seen_from}
-use Rattle.gms_parse.specs.Meanings.{IsTabled, IsStatement, other_statement}
+use Rattle.gms_parse.specs.Readings.{GamsPart, kind_of}
+use Rattle.gms_parse.specs.Meanings.{other_statement}
 use Rattle.gms_parse.proofs.TokenKinds.{IsNone, not_among, leads_by_kind}
-use Rattle.gms_parse.proofs.Alphabet.{AllPass, only, all_pass}
 use Rattle.gms_parse.proofs.Steps.{Within, within_the, within_right, within_then}
 use Rattle.gms_parse.proofs.Choices.{at_once, in_first, in_other, in_node, way_within}
-use Rattle.gms_parse.proofs.Tabled.{no_line, is_lineless, lineless, have_none}
-
--- a statement without a table, which one of the alternatives is
-pub statement_through : {F : Type 0} (value : F → Number) {limit : ℕ} {Means : Sense → Derivation → ActNode F → Type 0} {Leaves : Walk → Type 0} {p : GamsPart} {c : Derivation → Derivation} (reader : Reader) (at : ℕ) (new : Tables) (w : Walk) (result : Result (ActNode F × ℕ) SourceFaultOrMemory) →
-    Within limit reader.source.now (the KeywordStatement) w (seen_from reader at) p w (seen_from reader at) c → ((tree : Derivation) → yield (c tree) ≡ yield tree) → only is_lineless no_line p ≡ true → IsAnswer limit Means Leaves p reader at new w result → ((v : Walk) → Leaves v → Holds reader new v) →
-    ((table_items : List Seen → List (Item Number)) (sense : Sense) (tree : Derivation) (x : ActNode F) → Means sense tree x → IsStatement value reader.source.now keyword_act table_items sense (c tree) x) → IsAnswer limit (IsTabled value reader.source.now limit (IsStatement value reader.source.now keyword_act)) (Holds reader new) (the KeywordStatement) reader at new w result
-statement_through value {limit} {p = p} {c = c} reader at new w (Ok b) within same plain got holds says = record {
-  tree = c got.tree;
-  behind = got.behind;
-  gives = within.gives _ _ _ got.gives;
-  leaves = holds got.behind got.leaves;
-  means = λ sense s. record {
-    have = have_none limit reader.source.now sense.labels (yield (c got.tree))
-        (subst (λ (us : List Seen). AllPass no_line us) (sym (same got.tree)) (all_pass is_lineless no_line lineless p got.tree (sound productions look_ahead got.gives.reads).0 plain));
-    means = λ table_items all. says table_items sense got.tree b.0 (got.means sense s);
-  };
-  further = got.further;
-}
-statement_through value reader at new w (Err e) within same plain r holds says = within.refuses e r
 
 -- ---- variables
 

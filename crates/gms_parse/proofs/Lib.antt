@@ -13,11 +13,9 @@ pub mod Spelled
 pub mod Targets
 pub mod Ends
 pub mod Conditions
-pub mod Eithers
 pub mod Domains
 pub mod Ranges
 pub mod Elements
-pub mod Places
 pub mod Values
 pub mod Items
 pub mod Declaring
@@ -30,7 +28,6 @@ pub mod Models
 pub mod TableSteps
 pub mod Choices
 pub mod Looped
-pub mod Tabled
 pub mod Keyworded
 pub mod Segments
 pub mod Wholes
@@ -40,7 +37,6 @@ pub mod Named
 pub mod EndTokens
 pub mod Sources
 pub mod Members
-pub mod Orders
 pub mod Decided
 pub mod TableSound
 pub mod TableItems

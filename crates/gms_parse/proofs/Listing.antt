@@ -20,7 +20,7 @@ use Rattle.gms_parse.specs.Walks.{Walk, last_kind}
 use Rattle.gms_parse.specs.DataLists.{listed_in, each_in}
 use Rattle.gms_parse.specs.Readings.{Derivation, GamsPart, Refuses, Sense, IsSense, Starts, Stays, IsNext, IsGot, seen_from}
 use Rattle.gms_parse.proofs.TokenKinds.{is_plain, unled_next}
-use Rattle.gms_parse.proofs.Steps.{Within, within_second, within_then, within_again, gives_both, gives_no_more, refuses_again, refuses_second}
+use Rattle.gms_parse.proofs.Steps.{got_by, Within, within_second, within_then, within_again, gives_both, gives_no_more, refuses_again, refuses_second}
 use Rattle.gms_parse.proofs.Nexts.{past, gives_plain, leads_next, earlier, plain_stays, stays_then, optionless_on}
 
 -- the parts of a list behind its first one, each with a separator before it
@@ -119,11 +119,5 @@ module _ {T : Type 0} {limit : ℕ} {Means : Sense → Derivation → T → Type
 
     -- no more is to be read
     pub listing_got : leads productions look_ahead (one separator) (seen_from reader at) ≡ false → IsGot limit (AreAll Means) (Stays reader new w) (list_of separator p) reader start new w items at
-    listing_got unled = record {
-      tree = l.context none;
-      behind = l.behind;
-      gives = l.within.gives none _ _ (gives_no_more (unled_next separator p (seen_from reader at) unled));
-      leaves = l.stays;
-      means = λ sense s. subst (λ (ys : List T). AreAll Means sense (l.context none) ys) (append-nil items) (l.means sense s none [] tt);
-      further = l.further;
-    }
+    listing_got unled = got_by (l.within.gives none _ _ (gives_no_more (unled_next separator p (seen_from reader at) unled))) l.stays
+        (λ sense s. subst (λ (ys : List T). AreAll Means sense (l.context none) ys) (append-nil items) (l.means sense s none [] tt)) l.further

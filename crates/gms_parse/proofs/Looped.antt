@@ -16,7 +16,7 @@ use Rattle.gms_ast.specs.StatementView.{in_order, act_step, statement_step, stat
 use Rattle.gms_lex.specs.declared.token.Token.{Token}
 use Rattle.gms_grammar.specs.declared.terminal.Terminal.{Terminal}
 use Rattle.gms_grammar.specs.declared.terminal.Terminal.TheVariants.{Loop, LeftParen, RightParen, Comma, Semicolon, Table, Name, Suffix, Display, Option, Solve, Abort, End}
-use Rattle.gms_grammar.specs.Grammar.{the, ◌·◌, ◌∣◌, opt, leaf, pair, left, none, some, node}
+use Rattle.gms_grammar.specs.Grammar.{the, ◌·◌, ◌∣◌, opt, leaf, pair, none, some, node}
 use Rattle.gms_grammar.specs.LookAhead.{may_begin}
 use Rattle.gms_grammar.specs.Reading.{stuck, Reads, leads, in_neither}
 use Rattle.gms_grammar.specs.Terminals.{is, is_among}
@@ -37,11 +37,11 @@ use Rattle.gms_parse.specs.Readings.{Derivation, GamsPart, IsReady, IsAnswer, un
 use Rattle.gms_parse.specs.Meanings.{IsControl, IsInner, IsBody, IsAct, act_view, put_before, other_statement}
 use Rattle.gms_parse.proofs.TokenKinds.{IsNone, leads_alike, leads_of_none, unled_next}
 use Rattle.gms_parse.proofs.Walks.{room_for_none}
-use Rattle.gms_parse.proofs.Steps.{Within, within_the, within_left, within_right, within_second, within_some, within_then, gives_one, gives_both, gives_the, gives_none, refuses_the, refuses_first, refuses_second, refuses_at}
+use Rattle.gms_parse.proofs.Steps.{got_by, Within, within_the, within_left, within_right, within_second, within_some, within_then, gives_one, gives_both, gives_the, gives_none, refuses_the, refuses_first, refuses_second, refuses_at}
 use Rattle.gms_parse.proofs.Choices.{through, leads_at}
 use Rattle.gms_parse.proofs.Ends.{behind_within}
 use Rattle.gms_parse.proofs.Nexts.{past, exact, opened, open_starts, gives_open, refuses_inside, refuses_within, got_inside, refuses_lacking, leads_next, gives_exact, begun_has, begun_starts, quiet_holds, plain_starts, tableless_on, earlier}
-use Rattle.gms_parse.proofs.Places.{place_read}
+use Rattle.gms_expressions.proofs.Chains.{place_read}
 
 -- ---- statements
 
@@ -94,14 +94,8 @@ module _ {F : Type 0} (value : F → Number) {limit : ℕ} {r : Reader} {start :
   body_refused f = refuses_second c.gives (refuses_second (gives_exact {kind = Comma} m refl) f)
 
   pub looped_got : {new : Tables} {body : Vec (Stmt F) Global} {last : ℕ} → IsGot limit (IsBody value r.source.now) (Ends r new) (the LoopBody) r first new (past r c.behind Comma comma first) body last → IsGot limit (IsLooped value r.source.now) (Ends r new) loop_inside r start new v (sets, body) last
-  looped_got b = record {
-    tree = pair c.tree (pair (leaf (Comma, comma)) b.tree);
-    behind = b.behind;
-    gives = gives_both c.gives (gives_both (gives_exact {kind = Comma} m refl) b.gives);
-    leaves = b.leaves;
-    means = λ sense s. ap₂ loops (c.means sense (earlier (gives_both (gives_exact {kind = Comma} m refl) b.gives) c.leaves.stays.has.holds b.leaves.holds s)) (b.means sense s);
-    further = (let e = c.further in let f = m.further in let g = b.further in omega arith);
-  }
+  looped_got b = got_by (gives_both c.gives (gives_both (gives_exact {kind = Comma} m refl) b.gives)) b.leaves
+      (λ sense s. ap₂ loops (c.means sense (earlier (gives_both (gives_exact {kind = Comma} m refl) b.gives) c.leaves.stays.has.holds b.leaves.holds s)) (b.means sense s)) (let e = c.further in let f = m.further in let g = b.further in omega arith)
 
 module _ {reader : Reader} {at opening : ℕ} {word : Token} {old : Tables} {w : Walk} (h : Holds reader old w) (n : IsNext (is Loop) reader at word opening) where
   -- behind the keyword
@@ -125,17 +119,12 @@ module _ {reader : Reader} {at opening : ℕ} {word : Token} {old : Tables} {w :
       loop_unclosed l = refuses_the LoopStatement (refuses_second (gives_exact {kind = Loop} n refl) (refuses_second (gives_open o loop_has) (refuses_second closed.gives (refuses_lacking l))))
 
       pub loop_got : {close : Token} {behind : ℕ} → IsNext (is RightParen) reader last close behind → IsGot limit (IsAct value reader.source.now loop_act) (Ends reader new) (the LoopStatement) reader at new w (act.Loop x.0 x.1) behind
-      loop_got {close} {behind} r = record {
-        tree = node (pair (leaf (Loop, word)) (pair (leaf (LeftParen, o.token)) (pair closed.tree (leaf (RightParen, close)))));
-        behind = past reader closed.behind RightParen close behind;
-        gives = gives_the LoopStatement (gives_both (gives_exact {kind = Loop} n refl) (gives_both (gives_open o loop_has) (gives_both closed.gives (gives_one (exact {kind = RightParen} r) refl sound refl))));
-        leaves = record {
-          holds = record { open_count = (let x = closed.leaves.holds.open_count ∙ ap (λ (y : Reader). y.unclosed) o.inner_is in omega (arith, x)); names = closed.leaves.holds.names; labels = closed.leaves.holds.labels };
-          tableless = closed.leaves.tableless;
-        };
-        means = λ sense s. view-Loop value x.0 x.1 ∙ closed.means sense s;
-        further = (let a = n.further in let d = o.next.further in let g = closed.further in let i = r.further in omega arith);
-      }
+      loop_got {close} {behind} r = got_by (gives_the LoopStatement (gives_both (gives_exact {kind = Loop} n refl) (gives_both (gives_open o loop_has) (gives_both closed.gives (gives_one (exact {kind = RightParen} r) refl sound refl)))))
+          (record {
+            holds = record { open_count = (let x = closed.leaves.holds.open_count ∙ ap (λ (y : Reader). y.unclosed) o.inner_is in omega (arith, x)); names = closed.leaves.holds.names; labels = closed.leaves.holds.labels };
+            tableless = closed.leaves.tableless;
+          })
+          (λ sense s. view-Loop value x.0 x.1 ∙ closed.means sense s) (let a = n.further in let d = o.next.further in let g = closed.further in let i = r.further in omega arith)
         where
           sound : (fault : SourceFault) → IsFaulty limit reader.source.now closed.behind (RightParen, close) (kind_of (seen_from reader behind)) fault → ⊥
           sound fault (deep e d) = cc
@@ -157,25 +146,12 @@ leads_assignment ts = leads_alike (the Assignment) (any_of (Name ∷ Suffix ∷ 
 module _ {F : Type 0} (value : F → Number) where
   pub inner_got : {limit : ℕ} {reader : Reader} {at : ℕ} {new : Tables} {w : Walk} {act : ActNode F} {next : ℕ} → IsGot limit (IsAct value reader.source.now inner_act) (Ends reader new) (the InnerStatement) reader at new w act next →
       (x : Stmt F) → x.at ≡ next_place reader.source.now (seen_from reader at) → act_view value x.act ≡ act_view value act → IsGot limit (IsInner value reader.source.now) (Ends reader new) (the InnerStatement) reader at new w x next
-  inner_got got x placed same = record {
-    tree = got.tree;
-    behind = got.behind;
-    gives = got.gives;
-    leaves = got.leaves;
-    means = λ sense s. (placed ∙ sym (place_read (the InnerStatement) refl got.gives), same ∙ got.means sense s);
-    further = got.further;
-  }
+  inner_got got x placed same = got_by got.gives got.leaves (λ sense s. (placed ∙ sym (place_read (the InnerStatement) refl got.gives), same ∙ got.means sense s)) got.further
 
   pub inner_assigned : (limit : ℕ) (reader : Reader) (at : ℕ) (new : Tables) (w : Walk) (result : Result (ActNode F × ℕ) SourceFaultOrMemory) → leads productions look_ahead (any_of (Name ∷ Suffix ∷ [])) (seen_from reader at) ≡ true → Tableless w →
       IsAnswer limit (IsAct value reader.source.now assignment_act) (Stays reader new w) (the Assignment) reader at new w result → IsAnswer limit (IsAct value reader.source.now inner_act) (Ends reader new) (the InnerStatement) reader at new w result
-  inner_assigned limit reader at new w (Ok b) led other got = record {
-    tree = node (left got.tree);
-    behind = got.behind;
-    gives = (within_then (within_the InnerStatement) (within_left (leads_assignment (seen_from reader at) ∙ led))).gives _ _ _ got.gives;
-    leaves = ends_of got.leaves other;
-    means = λ sense s. got.means sense s;
-    further = got.further;
-  }
+  inner_assigned limit reader at new w (Ok b) led other got = got_by ((within_then (within_the InnerStatement) (within_left (leads_assignment (seen_from reader at) ∙ led))).gives _ _ _ got.gives) (ends_of got.leaves other)
+      (λ sense s. got.means sense s) got.further
   inner_assigned limit reader at new w (Err e) led other r = (within_then (within_the InnerStatement) (within_left (leads_assignment (seen_from reader at) ∙ led))).refuses e r
 
   pub inner_other : (limit : ℕ) (reader : Reader) (at : ℕ) (new : Tables) (w : Walk) (result : Result (ActNode F × ℕ) SourceFaultOrMemory) → leads productions look_ahead (any_of (Name ∷ Suffix ∷ [])) (seen_from reader at) ≡ false →
@@ -188,7 +164,7 @@ module _ {F : Type 0} (value : F → Number) where
 
       by : (b : Bool) → b ≡ leads productions look_ahead other_statement (seen_from reader at) → (result : Result (ActNode F × ℕ) SourceFaultOrMemory) → IsAnswer limit (IsAct value reader.source.now display_or_other) (Ends reader new) other_statement reader at new w result → (leads productions look_ahead other_statement (seen_from reader at) ≡ false → IsErrAnd result (λ e. e ≡ unexpected_at reader at)) →
           IsAnswer limit (IsAct value reader.source.now inner_act) (Ends reader new) (the InnerStatement) reader at new w result
-      by true is_led result answer k = through _ _ reader at new w result (within_then (within_the InnerStatement) (within_right not_assigned (sym is_led))) answer (λ sense tree x m. m)
+      by true is_led result answer k = through _ _ reader at new w result (within_then (within_the InnerStatement) (within_right not_assigned (sym is_led))) answer (λ v l. l) (λ sense tree x m. m)
       by false is_led (Ok b) answer k = absurd (k (sym is_led))
       by false is_led (Err e) answer k = refuses_the InnerStatement (refuses_at (in_neither not_assigned (sym is_led)) (k (sym is_led)))
 
@@ -231,14 +207,9 @@ module _ {F : Type 0} (value : F → Number) {limit : ℕ} {reader : Reader} {st
 
       -- the semicolon behind the last statement
       pub body_ended : leads productions look_ahead (any_of inner_kinds) (seen_from reader behind) ≡ false → (all : Vec (Stmt F) Global) → all.items ≡ xs → IsGot limit (IsBody value reader.source.now) (Ends reader new) (the LoopBody) reader start new w all behind
-      body_ended unled all same = record {
-        tree = l.context (some (pair (leaf (Semicolon, t)) none));
-        behind = past reader l.behind Semicolon t behind;
-        gives = semicolon_within.gives none _ _ (gives_none (leads_body (seen_from reader behind) ∙ unled));
-        leaves = semicolon_ends l.ends.holds n;
-        means = λ sense s. ap (λ (ys : List (Stmt F)). in_order value (map {B = Statements Number → Statements Number} (statement_view value) ys)) same ∙ in_order_is value xs ∙ sym (l.means sense s (some (pair (leaf (Semicolon, t)) none)));
-        further = (let a = l.further in let b = n.further in omega arith);
-      }
+      body_ended unled all same = got_by (semicolon_within.gives none _ _ (gives_none (leads_body (seen_from reader behind) ∙ unled))) (semicolon_ends l.ends.holds n)
+          (λ sense s. ap (λ (ys : List (Stmt F)). in_order value (map {B = Statements Number → Statements Number} (statement_view value) ys)) same ∙ in_order_is value xs ∙ sym (l.means sense s (some (pair (leaf (Semicolon, t)) none))))
+          (let a = l.further in let b = n.further in omega arith)
 
       module _ (led : leads productions look_ahead (any_of inner_kinds) (seen_from reader behind) ≡ true) where
         pub body_on : {newer : Tables} {x : Stmt F} {after : ℕ} → IsGot limit (IsInner value reader.source.now) (Ends reader newer) (the InnerStatement) reader behind newer (past reader l.behind Semicolon t behind) x after → (now : List (Stmt F)) → now ≡ xs ++ x ∷ [] → Bodying limit value reader start w newer now after
@@ -259,14 +230,8 @@ module _ {F : Type 0} (value : F → Number) {limit : ℕ} {reader : Reader} {st
 
     -- no semicolon
     pub body_got : leads productions look_ahead (token Semicolon) (seen_from reader at) ≡ false → (all : Vec (Stmt F) Global) → all.items ≡ xs → IsGot limit (IsBody value reader.source.now) (Ends reader new) (the LoopBody) reader start new w all at
-    body_got unled all same = record {
-      tree = l.context none;
-      behind = l.behind;
-      gives = l.within.gives none _ _ (gives_none (unled_next (is Semicolon) (opt (the LoopBody)) (seen_from reader at) unled));
-      leaves = l.ends;
-      means = λ sense s. ap (λ (ys : List (Stmt F)). in_order value (map {B = Statements Number → Statements Number} (statement_view value) ys)) same ∙ in_order_is value xs ∙ sym (l.means sense s none);
-      further = l.further;
-    }
+    body_got unled all same = got_by (l.within.gives none _ _ (gives_none (unled_next (is Semicolon) (opt (the LoopBody)) (seen_from reader at) unled))) l.ends
+        (λ sense s. ap (λ (ys : List (Stmt F)). in_order value (map {B = Statements Number → Statements Number} (statement_view value) ys)) same ∙ in_order_is value xs ∙ sym (l.means sense s none)) l.further
 
 -- ---- no statement of a loop
 

@@ -9,7 +9,7 @@ use Rattle.gms_ast.specs.declared.declaration.ModelDecl.{ModelDecl}
 use Rattle.gms_ast.specs.declared.program.Act.TheVariants as act
 use Rattle.gms_ast.specs.StatementTrees.{declares_models}
 use Rattle.gms_grammar.specs.declared.terminal.Terminal.TheVariants.{Model, Table, Name, Suffix, All, Slash, Comma, Break}
-use Rattle.gms_grammar.specs.Grammar.{the, ◌·◌, opt, many, leaf, pair, left, right, none, some, node}
+use Rattle.gms_grammar.specs.Grammar.{the, ◌·◌, opt, many}
 use Rattle.gms_grammar.specs.LookAhead.{may_begin}
 use Rattle.gms_grammar.specs.Reading.{leads}
 use Rattle.gms_grammar.specs.Terminals.{is, is_among}
@@ -25,7 +25,7 @@ use Rattle.gms_parse.specs.Walks.{Walk}
 use Rattle.gms_parse.specs.Readings.{Derivation, GamsPart, Gives, Refuses, Sense, Has, Starts, Stays, Ends, Optionless, IsNext, IsLacking, IsGot, seen_from}
 use Rattle.gms_parse.specs.Meanings.{IsNamed, AreEquations, IsModelList, IsModel, IsAct}
 use Rattle.gms_parse.proofs.TokenKinds.{leads_alike, unled_next}
-use Rattle.gms_parse.proofs.Steps.{within_the, gives_both, gives_the, gives_left, gives_right, gives_none, gives_some, refuses_first, refuses_second, refuses_the, refuses_some}
+use Rattle.gms_parse.proofs.Steps.{got_by, within_the, gives_both, gives_the, gives_left, gives_right, gives_none, gives_some, refuses_first, refuses_second, refuses_the, refuses_some}
 use Rattle.gms_parse.proofs.Nexts.{past, led_next, leads_next, refuses_lacking, gives_exact, plain_stays, plain_starts, stays_same, stays_then, earlier}
 use Rattle.gms_parse.proofs.Listing.{AreAll, all_meant, list_of}
 use Rattle.gms_parse.proofs.Acts.{led_both, refuses_more, view-Model}
@@ -38,14 +38,7 @@ equations_meant source sense tree xs h = sym (map-id xs) ∙ all_meant (IsNamed 
 
 pub equations_got : {limit : ℕ} {reader : Reader} {at next : ℕ} {new : Tables} {w : Walk} {equations : Vec Named Global} → IsGot limit (AreAll (IsNamed reader.source.now)) (Stays reader new w) (list_of (is_among (Comma ∷ Break ∷ [])) name) reader at new w equations.items next →
     IsGot limit (AreEquations reader.source.now) (Stays reader new w) (separated name) reader at new w equations next
-equations_got {reader = reader} {equations = equations} got = record {
-  tree = got.tree;
-  behind = got.behind;
-  gives = got.gives;
-  leaves = got.leaves;
-  means = λ sense m. equations_meant reader.source.now sense got.tree equations.items (got.means sense m);
-  further = got.further;
-}
+equations_got {reader = reader} {equations = equations} got = got_by got.gives got.leaves (λ sense m. equations_meant reader.source.now sense got.tree equations.items (got.means sense m)) got.further
 
 -- ---- the list of a model
 
@@ -55,14 +48,7 @@ model_lists = opt (token Slash · the ModelList · token Slash)
 
 pub list_none : {limit : ℕ} {reader : Reader} {at : ℕ} {tables : Tables} {w : Walk} (none_there : Vec Named Global) → none_there.items ≡ [] → leads productions look_ahead (token Slash) (seen_from reader at) ≡ false → Has reader tables w →
     IsGot limit (IsModelList reader.source.now) (Stays reader tables w) model_lists reader at tables w (false, none_there) at
-list_none {reader = reader} {at = at} {w = w} none_there are unled h = record {
-  tree = none;
-  behind = w;
-  gives = gives_none (unled_next (is Slash) (the ModelList · token Slash) (seen_from reader at) unled);
-  leaves = stays_same h;
-  means = λ sense m. (refl, are);
-  further = omega arith;
-}
+list_none {reader = reader} {at = at} {w = w} none_there are unled h = got_by (gives_none (unled_next (is Slash) (the ModelList · token Slash) (seen_from reader at) unled)) (stays_same h) (λ sense m. (refl, are)) (omega arith)
 
 list_led : {reader : Reader} {at start : ℕ} {t : Token} → IsNext (is Slash) reader at t start → leads productions look_ahead (token Slash · the ModelList · token Slash) (seen_from reader at) ≡ true
 list_led n = leads_next (the ModelList · token Slash) n
@@ -77,14 +63,8 @@ module _ {reader : Reader} {at start : ℕ} {t : Token} {w : Walk} (n : IsNext (
         let v = past reader w Slash t start in
         let k = plain_stays reader v All a middle refl s.has in
         let x = past reader v All a middle in
-        record {
-          tree = some (pair (leaf (Slash, t)) (pair (node (left (leaf (All, a)))) (leaf (Slash, e))));
-          behind = past reader x Slash e next;
-          gives = gives_some (list_led n) (gives_both (gives_exact n refl) (gives_both (gives_the ModelList (gives_left (led_next all) (gives_exact all refl))) (gives_exact close refl)));
-          leaves = stays_then s (stays_then k (plain_stays reader x Slash e next refl k.has));
-          means = λ sense m. (refl, are);
-          further = (let a = n.further in let b = all.further in let c = close.further in omega arith);
-        }
+        got_by (gives_some (list_led n) (gives_both (gives_exact n refl) (gives_both (gives_the ModelList (gives_left (led_next all) (gives_exact all refl))) (gives_exact close refl))))
+        (stays_then s (stays_then k (plain_stays reader x Slash e next refl k.has))) (λ sense m. (refl, are)) (let a = n.further in let b = all.further in let c = close.further in omega arith)
 
     pub list_starts : Optionless w → Starts reader old (past reader w Slash t start)
     list_starts o = plain_starts reader w Slash t start refl refl h o
@@ -95,14 +75,8 @@ module _ {reader : Reader} {at start : ℕ} {t : Token} {w : Walk} (n : IsNext (
         IsGot limit (IsModelList reader.source.now) (Stays reader new w) model_lists reader at new w (false, equations) next
     list_named {limit} {new} {equations} {middle} {next} {e} unled got close =
         let s = plain_stays reader w Slash t start refl h in
-        record {
-          tree = some (pair (leaf (Slash, t)) (pair (node (right got.tree)) (leaf (Slash, e))));
-          behind = past reader got.behind Slash e next;
-          gives = gives_some (list_led n) (gives_both (gives_exact n refl) (gives_both (gives_the ModelList (gives_right unled (led_both (many (any_of (Comma ∷ Break ∷ []) · name)) got.gives.reads) got.gives)) (gives_exact close refl)));
-          leaves = stays_then s (stays_then got.leaves (plain_stays reader got.behind Slash e next refl got.leaves.has));
-          means = λ sense m. (refl, got.means sense m);
-          further = (let a = n.further in let b = got.further in let c = close.further in omega arith);
-        }
+        got_by (gives_some (list_led n) (gives_both (gives_exact n refl) (gives_both (gives_the ModelList (gives_right unled (led_both (many (any_of (Comma ∷ Break ∷ []) · name)) got.gives.reads) got.gives)) (gives_exact close refl))))
+        (stays_then s (stays_then got.leaves (plain_stays reader got.behind Slash e next refl got.leaves.has))) (λ sense m. (refl, got.means sense m)) (let a = n.further in let b = got.further in let c = close.further in omega arith)
 
   module _ {limit : ℕ} where
     list_refused : {e : SourceFaultOrMemory} → Refuses limit reader.source.now (the ModelList · token Slash) (past reader w Slash t start) (seen_from reader start) e → Refuses limit reader.source.now model_lists w (seen_from reader at) e
@@ -123,16 +97,11 @@ module _ {reader : Reader} {at start : ℕ} {t : Token} {w : Walk} (n : IsNext (
 pub model_got : {limit : ℕ} {reader : Reader} {at middle next : ℕ} {mid new : Tables} {w : Walk} {named : Named} {all : Bool} {equations : Vec Named Global} (n : IsGot limit (IsNamed reader.source.now) (Stays reader mid w) name reader at mid w named middle) →
     IsGot limit (IsModelList reader.source.now) (Stays reader new n.behind) model_lists reader middle new n.behind (all, equations) next →
     IsGot limit (IsModel reader.source.now) (Stays reader new w) (the ModelItem) reader at new w (record { named = named; all = all; equations = equations.items }) next
-model_got n l = record {
-  tree = node (pair n.tree l.tree);
-  behind = l.behind;
-  gives = gives_the ModelItem (gives_both n.gives l.gives);
-  leaves = stays_then n.leaves l.leaves;
-  means = λ sense m.
-      let list = l.means sense m in
-      ap₂ (λ (a : Named) (b : Bool × List Named). record { named = a; all = b.0; equations = b.1 }) (n.means sense (earlier l.gives n.leaves.has.holds l.leaves.has.holds m)) (ap₂ (λ (a : Bool) (b : List Named). (a, b)) list.0 list.1);
-  further = (let a = n.further in let b = l.further in omega arith);
-}
+model_got n l = got_by (gives_the ModelItem (gives_both n.gives l.gives)) (stays_then n.leaves l.leaves)
+    (λ sense m.
+    let list = l.means sense m in
+    ap₂ (λ (a : Named) (b : Bool × List Named). record { named = a; all = b.0; equations = b.1 }) (n.means sense (earlier l.gives n.leaves.has.holds l.leaves.has.holds m)) (ap₂ (λ (a : Bool) (b : List Named). (a, b)) list.0 list.1))
+    (let a = n.further in let b = l.further in omega arith)
 
 -- ---- models
 
@@ -149,11 +118,5 @@ model_meaning source sense = model_in source sense.names sense.labels sense.valu
 pub models_got : {F : Type 0} (value : F → Rational) {limit : ℕ} {reader : Reader} {at start next : ℕ} {t : Token} {new : Tables} {w : Walk} {models : List ModelDecl} → IsNext (is Model) reader at t start →
     IsGot limit (AreItems (λ x. x) (model_meaning reader.source.now)) (Stays reader new (past reader w Model t start)) (the ModelItems) reader start new (past reader w Model t start) models next →
     IsGot limit (IsAct value reader.source.now model_act) (Ends reader new) (the ModelStatement) reader at new w (act.Model models) next
-models_got value {t = t} {models = models} n got = record {
-  tree = node (pair (leaf (Model, t)) got.tree);
-  behind = got.behind;
-  gives = gives_the ModelStatement (gives_both (gives_exact n refl) got.gives);
-  leaves = record { holds = got.leaves.has.holds; tableless = ap (is Table) got.leaves.keyword };
-  means = λ sense m. view-Model value models ∙ ap declares_models (sym (map-id models) ∙ got.means sense m);
-  further = (let a = n.further in let b = got.further in omega arith);
-}
+models_got value {t = t} {models = models} n got = got_by (gives_the ModelStatement (gives_both (gives_exact n refl) got.gives)) (record { holds = got.leaves.has.holds; tableless = ap (is Table) got.leaves.keyword })
+    (λ sense m. view-Model value models ∙ ap declares_models (sym (map-id models) ∙ got.means sense m)) (let a = n.further in let b = got.further in omega arith)

@@ -1,5 +1,5 @@
 -- Statements that begin with a name: assignments and definitions.
-use Rattle.std.proofs.Common.{◌≡◌, inl, inr, ℕ, Bool, true, false, List, [], ◌∷◌, ◌++◌, Option as Maybe, option_map, refl, sym, ap, ap₂, ◌∙◌, subst, append_assoc, arith}
+use Rattle.std.proofs.Common.{◌≡◌, inl, inr, ℕ, Bool, true, false, List, [], ◌∷◌, ◌++◌, Option as Maybe, option_map, refl, sym, ap, ap₂, ◌∙◌, arith}
 use Rattle.gq_number.specs.Number.{Number}
 use Rattle.gms_ast.specs.declared.expression.Expr.{Expr}
 use Rattle.gms_ast.specs.declared.program.Target.{Target as TargetNode}
@@ -10,31 +10,25 @@ use Rattle.gms_lex.specs.declared.token.Token.{Token}
 use Rattle.gms_grammar.specs.declared.terminal.Terminal.{Terminal}
 use Rattle.gms_grammar.specs.declared.terminal.Terminal.TheVariants.{Equals, DotDot}
 use Rattle.gms_grammar.specs.Grammar.{one, the, ◌·◌, ◌∣◌, opt, leaf, pair, left, right, node, yield}
-use Rattle.gms_grammar.specs.Reading.{read, stuck, leads, Reads, taken, refused, both, first_stuck, second_stuck, in_left_stuck, in_neither, Takes, takes_left}
+use Rattle.gms_grammar.specs.Reading.{read, stuck, leads, Reads, taken, refused, both, first_stuck, second_stuck, in_left_stuck, in_neither, takes_left}
 use Rattle.gms_grammar.specs.Terminals.{is}
 use Rattle.gms_grammar.specs.GamsGrammar.{Expression, Condition, Target, NamedStatement, AfterHead, AfterTarget, Sides, productions, token}
 use Rattle.gms_grammar.specs.GamsLookAhead.{look_ahead}
 use Rattle.gms_grammar.proofs.Basics.{both_ways}
-use Rattle.gms_grammar.proofs.Sound.{sound}
 use Rattle.gms_expressions.specs.ExpressionTrees.{second_in}
 use Rattle.gms_expressions.specs.Valuations.{number_in}
 use Rattle.gms_expressions.proofs.Valued.{number_in_is}
-use Rattle.gms_parse.specs.declared.fault.SourceFault.{SourceFault}
 use Rattle.gms_parse.specs.declared.fault.SourceFaultOrMemory.{SourceFaultOrMemory}
 use Rattle.gms_parse.specs.declared.reader.Reader.{Reader}
 use Rattle.gms_parse.specs.declared.reader.Tables.{Tables}
 use Rattle.gms_parse.specs.Statements.{named_act, target_in, condition_in, assigned, sides_in}
-use Rattle.gms_parse.specs.Walks.{Seen, Walk, kind_ahead, walk_behind, AreSound, IsFaulty}
-use Rattle.gms_parse.specs.Readings.{Derivation, GamsPart, Gives, IsStuck, IsWrong, Refuses, Sense, IsSense, IsGot, Starts, Stays, StaysOpen, Tableless, IsNext, seen_from, kind_of}
+use Rattle.gms_parse.specs.Walks.{Seen, Walk}
+use Rattle.gms_parse.specs.Readings.{Derivation, GamsPart, Gives, Refuses, Sense, IsSense, IsGot, Starts, Stays, StaysOpen, Tableless, IsNext, seen_from}
 use Rattle.gms_parse.specs.Meanings.{IsTarget, IsCondition, IsAssigned, IsDefined, IsAct, is_plain_target}
 use Rattle.gms_parse.proofs.TokenKinds.{unled_next, led_first}
-use Rattle.gms_parse.proofs.Walks.{ahead_append, walk_append, sound_append}
-use Rattle.gms_parse.proofs.Steps.{Within, gives_both, gives_the, gives_left, gives_right, refuses_the, refuses_first, refuses_second, refuses_right, by_cause, stuck_as, wrong_as, wrong_parts}
+use Rattle.gms_parse.proofs.Steps.{got_by, Within, gives_as, gives_both, gives_the, gives_left, gives_right, refuses_the, refuses_first, refuses_second, refuses_right, by_cause, stuck_as, wrong_as, stuck_behind, wrong_behind}
 use Rattle.gms_parse.proofs.Nexts.{past, exact, gives_exact, leads_next, plain_starts, kind_stays, stays_then, earlier, optionless_on, tableless_on}
 use Rattle.gms_parse.proofs.Heads.{Leading, target_stuck, target_taken, Headed, Aimed, target_goes}
-
-ahead_is : {rest : List Seen} (u us : List Seen) → rest ≡ u ++ us → kind_of rest ≡ kind_ahead u (kind_of us)
-ahead_is u us e = ap kind_of e ∙ ahead_append u us _
 
 module _ {limit : ℕ} {source : List ℕ} where
   -- what is refused as a target is refused as a statement that begins with one
@@ -42,46 +36,14 @@ module _ {limit : ℕ} {source : List ℕ} where
   target_refused r = by_cause r (λ fault s. stuck_as s (target_stuck s.reads)) (λ fault s. wrong_as s (target_taken s.takes))
 
   module _ {p inner : GamsPart} {w v : Walk} {ts rest : List Seen} {tree : Derivation} {c : Derivation → Derivation} (g : Gives limit source (the Target) w ts tree v rest) (l : Leading p ts (yield tree) inner rest c) where
-    onward : (u us : List Seen) → rest ≡ u ++ us → AreSound limit source v u (kind_of us) → AreSound limit source w (yield tree ++ u) (kind_of us)
-    onward u us e h =
-        sound_append limit source w (yield tree) u (kind_of us) (subst (λ (k : Terminal). AreSound limit source w (yield tree) k) (ahead_is u us e) g.are_sound)
-        (subst (λ (x : Walk). AreSound limit source x u (kind_of us)) (g.leaves ∙ ap (walk_behind source w (yield tree)) (ahead_is u us e)) h)
-
-    walk_on : (u us : List Seen) → rest ≡ u ++ us → walk_behind source v u (kind_of us) ≡ walk_behind source w (yield tree ++ u) (kind_of us)
-    walk_on u us e =
-        ap (λ x. walk_behind source x u (kind_of us)) (g.leaves ∙ ap (walk_behind source w (yield tree)) (ahead_is u us e)) ∙ sym (walk_append source w (yield tree) u (kind_of us))
-
     -- behind the tokens of a target another part is read
     pub within_of : Within limit source p w ts inner v rest c
     within_of = record {
-      gives = λ a x behind h.
-          let whole = gives_both g h in
-          record {
-            reads = l.reads a behind h.reads;
-            are_sound = subst (λ (u : List Seen). AreSound limit source w u (kind_of behind)) (sym (l.yields a)) whole.are_sound;
-            leaves = whole.leaves ∙ ap (λ u. walk_behind source w u (kind_of behind)) (sym (l.yields a));
-          };
-      refuses = λ e r. record { why = λ fault is. elim (r.why fault is) [ inl s ↦ inl (stuck_on fault s) | inr s ↦ inr (wrong_on fault s) ] };
+      gives = λ a x behind h. gives_as (gives_both g h) (l.reads a behind h.reads) (sym (l.yields a));
+      refuses = λ e r. by_cause r
+          (λ fault s. stuck_behind g s (l.sticks s.front s.rest s.reads))
+          (λ fault s. wrong_behind g s (l.takes (s.before ++ s.token ∷ []) s.behind s.takes));
     }
-      where
-        stuck_on : (fault : SourceFault) → IsStuck limit source inner v rest fault → IsStuck limit source p w ts fault
-        stuck_on fault s = record {
-          front = yield tree ++ s.front;
-          rest = s.rest;
-          reads = l.sticks s.front s.rest s.reads;
-          are_sound = onward s.front s.rest (sound productions look_ahead s.reads) s.are_sound;
-          is = s.is;
-        }
-
-        wrong_on : (fault : SourceFault) → IsWrong limit source inner v rest fault → IsWrong limit source p w ts fault
-        wrong_on fault s = record {
-          before = yield tree ++ s.before;
-          token = s.token;
-          behind = s.behind;
-          takes = subst (λ x. Takes productions look_ahead p ts x s.behind) (sym (append_assoc (yield tree) s.before (s.token ∷ []))) (l.takes (s.before ++ s.token ∷ []) s.behind s.takes);
-          are_sound = onward s.before (s.token ∷ s.behind) (wrong_parts s) s.are_sound;
-          is_faulty = subst (λ (x : Walk). IsFaulty limit source x s.token (kind_of s.behind) fault) (walk_on s.before (s.token ∷ s.behind) (wrong_parts s)) s.is_faulty;
-        }
 
 -- ---- `=` or `..`
 
@@ -129,24 +91,12 @@ module _ {F : Type 0} (value : F → Number) {limit : ℕ} {reader : Reader} {at
       assigned_got = elim (target_goes t.gives.reads) [ inl h ↦ by_head h | inr a ↦ by_target a ]
         where
           by_head : Headed t.tree (seen_from reader at) (seen_from reader middle) → IsGot limit (IsAct value reader.source.now named_act) (Stays reader new w) (the NamedStatement) reader at new w act next
-          by_head h = record {
-            tree = h.wrap (node (pair c.tree (left r.tree)));
-            behind = r.behind;
-            gives = (within_of t.gives h.leading).gives _ _ _ (gives_the AfterHead (gives_both c.gives (gives_left (led_pair r.gives.reads) r.gives)));
-            leaves = stays_then t.leaves.stays (stays_then c.leaves.stays r.leaves);
-            means = λ sense s. r.means sense s ∙ both_means sense s ∙ sym (h.acts reader.source.now sense (node (pair c.tree (left r.tree))));
-            further = (let x = t.further in let y = c.further in let z = r.further in omega arith);
-          }
+          by_head h = got_by ((within_of t.gives h.leading).gives _ _ _ (gives_the AfterHead (gives_both c.gives (gives_left (led_pair r.gives.reads) r.gives)))) (stays_then t.leaves.stays (stays_then c.leaves.stays r.leaves))
+              (λ sense s. r.means sense s ∙ both_means sense s ∙ sym (h.acts reader.source.now sense (node (pair c.tree (left r.tree))))) (let x = t.further in let y = c.further in let z = r.further in omega arith)
 
           by_target : Aimed t.tree (seen_from reader at) (seen_from reader middle) → IsGot limit (IsAct value reader.source.now named_act) (Stays reader new w) (the NamedStatement) reader at new w act next
-          by_target a = record {
-            tree = a.wrap (node (pair c.tree r.tree));
-            behind = r.behind;
-            gives = (within_of t.gives a.leading).gives _ _ _ (gives_the AfterTarget (gives_both c.gives r.gives));
-            leaves = stays_then t.leaves.stays (stays_then c.leaves.stays r.leaves);
-            means = λ sense s. r.means sense s ∙ both_means sense s ∙ sym (a.acts reader.source.now sense (node (pair c.tree r.tree)));
-            further = (let x = t.further in let y = c.further in let z = r.further in omega arith);
-          }
+          by_target a = got_by ((within_of t.gives a.leading).gives _ _ _ (gives_the AfterTarget (gives_both c.gives r.gives))) (stays_then t.leaves.stays (stays_then c.leaves.stays r.leaves))
+              (λ sense s. r.means sense s ∙ both_means sense s ∙ sym (a.acts reader.source.now sense (node (pair c.tree r.tree)))) (let x = t.further in let y = c.further in let z = r.further in omega arith)
 
     -- it is refused, where no `..` stands behind a plain target
     pub assigned_refused : {e : SourceFaultOrMemory} → (is_plain_target (shown_target value target) ≡ true → leads productions look_ahead (token DotDot) (seen_from reader further) ≡ false) → Refuses limit reader.source.now (token Equals · the Expression) c.behind (seen_from reader further) e →
@@ -174,19 +124,15 @@ module _ {F : Type 0} (value : F → Number) {limit : ℕ} {reader : Reader} {at
           by_head : Headed t.tree (seen_from reader at) (seen_from reader middle) → IsGot limit (IsAct value reader.source.now named_act) (Stays reader new w) (the NamedStatement) reader at new w act next
           by_head h =
               let b = node (pair c.tree (right (pair (leaf (DotDot, dots)) d.tree))) in
-              record {
-                tree = h.wrap b;
-                behind = d.behind;
-                gives = (within_of t.gives h.leading).gives _ _ _ (gives_the AfterHead (gives_both c.gives (gives_right unled (leads_next (the Sides) n) (gives_both (gives_exact {kind = DotDot} n refl) d.gives))));
-                leaves = stays_then t.leaves.stays (stays_then c.leaves.stays (stays_then (kind_stays DotDot n refl c.leaves.stays.has) d.leaves));
-                means = λ sense s.
-                    let s3 = earlier d.gives (kind_stays DotDot n refl c.leaves.stays.has).has.holds d.leaves.has.holds s in
-                    let s1 = earlier c.gives t.leaves.stays.has.holds c.leaves.stays.has.holds s3 in
-                    d.means sense s
-                    ∙ ap₂ (λ (x : TargetTree Number) y. defines (record { at = x.at; name = x.name }) x.indices y (sides_in reader.source.now sense.names sense.labels sense.value d.tree)) (t.means sense s1) (c.means sense s3)
-                    ∙ sym (h.acts reader.source.now sense b);
-                further = (let x = t.further in let y = c.further in let z = n.further in let u = d.further in omega arith);
-              }
+              got_by ((within_of t.gives h.leading).gives _ _ _ (gives_the AfterHead (gives_both c.gives (gives_right unled (leads_next (the Sides) n) (gives_both (gives_exact {kind = DotDot} n refl) d.gives)))))
+              (stays_then t.leaves.stays (stays_then c.leaves.stays (stays_then (kind_stays DotDot n refl c.leaves.stays.has) d.leaves)))
+              (λ sense s.
+              let s3 = earlier d.gives (kind_stays DotDot n refl c.leaves.stays.has).has.holds d.leaves.has.holds s in
+              let s1 = earlier c.gives t.leaves.stays.has.holds c.leaves.stays.has.holds s3 in
+              d.means sense s
+              ∙ ap₂ (λ (x : TargetTree Number) y. defines (record { at = x.at; name = x.name }) x.indices y (sides_in reader.source.now sense.names sense.labels sense.value d.tree)) (t.means sense s1) (c.means sense s3)
+              ∙ sym (h.acts reader.source.now sense b))
+              (let x = t.further in let y = c.further in let z = n.further in let u = d.further in omega arith)
 
 -- behind `..` the left side may begin
 pub dots_starts : {reader : Reader} {at behind : ℕ} {dots : Token} {old new : Tables} {w v : Walk} → Starts reader old w → StaysOpen reader new w v → IsNext (is DotDot) reader at dots behind → Starts reader new (past reader v DotDot dots behind)

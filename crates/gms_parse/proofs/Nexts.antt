@@ -19,7 +19,7 @@ use Rattle.gms_parse.specs.Walks.{Seen, Walk, ends_statement, walk_after, IsFaul
 use Rattle.gms_parse.specs.Readings.{Derivation, GamsPart, Gives, Refuses, Sense, IsSense, Holds, Has, Starts, Stays, Optionless, IsNext, IsLacking, IsOpened, IsUnopened, inside, seen_from, kind_of, IsGot}
 use Rattle.gms_parse.proofs.TokenKinds.{begins, is_quiet, is_plain, same_kind, led_first}
 use Rattle.gms_parse.proofs.Walks.{quiet_after, quiet_sound, keyword_after, begun_after, room_for_none, names_kept, labels_kept}
-use Rattle.gms_parse.proofs.Steps.{gives_one, gives_both, refuses_at, refuses_first, refuses_second}
+use Rattle.gms_parse.proofs.Steps.{got_by, gives_one, gives_both, refuses_at, refuses_first, refuses_second}
 
 -- what a token leaves, which a reader has passed
 abbrev pub past : Reader → Walk → Terminal → Token → ℕ → Walk
@@ -138,7 +138,7 @@ pub got_inside : {T : Type 0} {limit : ℕ} (Means : Reader → Sense → Deriva
     IsGot limit (Means inner) Leaves p inner from new w x next → IsGot limit (Means (inside reader (reader.unclosed + 1))) Leaves p reader from new w x next
 got_inside {limit = limit} Means {Leaves} {p} {reader} {from = from} {next = next} {new = new} {w = w} {x = x} o got =
     let g = subst (λ (r : Reader). IsGot limit (Means r) Leaves p r from new w x next) o.inner_is got in
-    record { tree = g.tree; behind = g.behind; gives = g.gives; leaves = g.leaves; means = g.means; further = g.further }
+    got_by g.gives g.leaves g.means g.further
 
 pub refuses_within : {limit : ℕ} {p : GamsPart} {reader inner : Reader} {at start : ℕ} (from : ℕ) {w : Walk} {e : SourceFaultOrMemory} → IsOpened reader at inner start →
     Refuses limit inner.source.now p w (seen_from inner from) e → Refuses limit reader.source.now p w (seen_from reader from) e

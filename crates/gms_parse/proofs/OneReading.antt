@@ -1,10 +1,8 @@
 -- A source has one program or one first fault.
 use Rattle.std.proofs.Common.{◌≡◌, ℕ, ◌≤◌, true, false, List, [], ◌∷◌, ◌++◌, length, Ok, Err, refl, sym, ap, ap₂, ◌∙◌, subst, append-nil, arith, ◌⊎◌, inl, inr}
-use Rattle.gq_number.specs.Number.{Number as Rational, neg_ℚ}
-use Rattle.gms_labels.specs.declared.place.Place.{Place}
+use Rattle.gq_number.specs.Number.{Number as Rational}
 use Rattle.gms_ast.specs.StatementTrees.{Statements}
 use Rattle.gms_lex.specs.declared.token.Token.{Token}
-use Rattle.gms_lex.specs.declared.fault.LexFault.{LexFault}
 use Rattle.gms_lex.specs.Tokens.{most_bytes}
 use Rattle.gms_lex.proofs.AnswerLemmas.{means_only}
 use Rattle.gms_grammar.specs.declared.terminal.Terminal.{Terminal}
@@ -15,27 +13,24 @@ use Rattle.gms_grammar.specs.GamsGrammar.{Program, productions}
 use Rattle.gms_grammar.proofs.Basics.{behind_same}
 use Rattle.gms_grammar.proofs.Stopping.{stops_once}
 use Rattle.gms_grammar.proofs.Language.{gams_unique}
+use Rattle.gms_grammar.specs.Rules as rules
+use Rattle.gms_grammar.proofs.FirstFaults.{no_first, one_refused}
 use Rattle.gms_expressions.specs.Outcomes.{seen}
 use Rattle.gms_expressions.specs.Valuations.{number_in}
-use Rattle.gms_parse.specs.declared.fault.SourceError.{SourceError}
-use Rattle.gms_parse.specs.declared.fault.SourceError.TheVariants.{Depth, Number as OutOfRange, TooManyLabels, NoHeading}
+use Rattle.gms_parse.specs.declared.fault.SourceError.TheVariants.{Syntax, Table}
+use Rattle.gms_expressions.specs.declared.fault.SyntaxError.TheVariants.{Depth, Number as OutOfRange, TooManyLabels}
+use Rattle.gms_table.specs.declared.fault.TableError.TheVariants.{NoHeading}
 use Rattle.gms_parse.specs.declared.fault.SourceFault.{SourceFault}
-use Rattle.gms_parse.specs.Faults.{error_of_lexical}
+use Rattle.gms_parse.specs.Faults.{lexical_fault}
 use Rattle.gms_parse.specs.Programs.{statements_of}
-use Rattle.gms_parse.specs.Outcomes.{ProgramView, HasProgram, IsProgramOf, IsFault, IsNoProgram, IsFirstFaulty, IsUnexpected}
-use Rattle.gms_parse.specs.Tables.{IsLineFault, items_given}
-use Rattle.gms_parse.specs.Walks.{Seen, Walk, start, kind_ahead, is_name, table_name, LacksRoom, lines_with, new_labels, walk_after, walk_behind, IsFaulty, deep, out_of_range, many_names, many_labels, in_table, without_lines, AreSound}
+use Rattle.gms_parse.specs.Outcomes.{ProgramView, HasProgram, IsProgramOf, IsFault, IsNoProgram, WantsMore}
+use Rattle.gms_parse.specs.Tables.{IsLineFault}
+use Rattle.gms_parse.specs.Walks.{Seen, Walk, start, kind_of, is_name, table_name, LacksRoom, lines_with, new_labels, walk_behind, source_rule, IsFaulty, deep, out_of_range, many_names, many_labels, in_table, without_lines, AreSound}
 use Rattle.gms_parse.specs.Readings.{Derivation}
 use Rattle.gms_parse.proofs.Alphabet.{pass_rest}
 use Rattle.gms_parse.proofs.EndTokens.{begins_other, is_other}
 use Rattle.gms_parse.proofs.Walks.{room_for_none}
-use Rattle.gms_parse.proofs.Orders.{Order, at_once, earlier, later, order}
 use Rattle.gms_parse.proofs.TableFaults.{one_line_fault}
-
--- the kind of the first token, where others stand behind it
-pub ahead_more : (before : List Seen) (token : Seen) (behind : List Seen) (ahead : Terminal) → kind_ahead (before ++ token ∷ behind) ahead ≡ kind_ahead before token.0
-ahead_more [] token behind ahead = refl
-ahead_more (x ∷ before) token behind ahead = refl
 
 -- what has the same names, labels and statements is seen alike
 same_view : (one other : ProgramView) → one.names ≡ other.names → one.labels ≡ other.labels → one.statements ≡ other.statements → one ≡ other
@@ -43,14 +38,6 @@ same_view one other names labels statements =
     ap₂ (λ (x : List (List ℕ) × List (List ℕ)) (s : Statements Rational). record { names = x.0; labels = x.1; statements = s }) (ap₂ (λ (a : List (List ℕ)) (b : List (List ℕ)). (a, b)) names labels) statements
 
 module _ (limit : ℕ) (source : List ℕ) where
-  -- of sound tokens none is faulty
-  pub sound_at : (walk : Walk) (before : List Seen) (token : Seen) (behind : List Seen) (ahead : Terminal) (fault : SourceFault) → AreSound limit source walk (before ++ token ∷ behind) ahead → IsFaulty limit source (walk_behind source walk before token.0) token (kind_ahead behind ahead) fault → ⊥
-  sound_at walk [] token behind ahead fault sound faulty = sound.0 fault faulty
-  sound_at walk (x ∷ before) token behind ahead fault sound faulty =
-      let same : kind_ahead (before ++ token ∷ behind) ahead ≡ kind_ahead before token.0 = ahead_more before token behind ahead in
-      sound_at (walk_after source walk x (kind_ahead before token.0)) before token behind ahead fault
-      (subst (λ k. AreSound limit source (walk_after source walk x k) (before ++ token ∷ behind) ahead) same sound.1) faulty
-
   -- ---- programs
 
   -- the tokens cease to begin a program at the end
@@ -73,9 +60,9 @@ module _ (limit : ℕ) (source : List ℕ) where
       let labels : one.labels ≡ other.labels = p.labels_are ∙ ap (λ (t : Derivation). (walk_behind source start (yield t) End).labels) trees ∙ sym q.labels_are in
       let statements : one.statements ≡ other.statements =
       p.statements_are
-      ∙ ap (λ (ns : List (List ℕ)). statements_of source ns one.labels number_in neg_ℚ (items_given source one.labels) p.tree) names
-      ∙ ap (λ (ls : List (List ℕ)). statements_of source other.names ls number_in neg_ℚ (items_given source ls) p.tree) labels
-      ∙ ap (λ (t : Derivation). statements_of source other.names other.labels number_in neg_ℚ (items_given source other.labels) t) trees
+      ∙ ap (λ (ns : List (List ℕ)). statements_of source ns one.labels number_in p.tree) names
+      ∙ ap (λ (ls : List (List ℕ)). statements_of source other.names ls number_in p.tree) labels
+      ∙ ap (λ (t : Derivation). statements_of source other.names other.labels number_in t) trees
       ∙ sym q.statements_are in
       same_view one other names labels statements
 
@@ -98,15 +85,14 @@ module _ (limit : ℕ) (source : List ℕ) where
       rest : (End, p.end) ∷ [] ≡ none.rest
       rest = behind_same (yield p.tree) ((End, p.end) ∷ []) none.rest (sym p.tokens_are ∙ none.stops.parts ∙ ap (λ w. w ++ none.rest) (sym front))
 
-      ahead : kind_ahead none.rest End ≡ End
-      ahead = ap (λ w. kind_ahead w End) (sym rest)
+      ahead : kind_of none.rest ≡ End
+      ahead = ap kind_of (sym rest)
 
-      by_cause : IsFirstFaulty limit source none.front (kind_ahead none.rest End) fault ⊎ IsUnexpected limit source none.front none.rest fault → ⊥
+      by_cause : rules.IsFirstFaulty source_rule (limit, source) start none.front (kind_of none.rest) fault ⊎ rules.IsUnexpected source_rule (limit, source) (WantsMore none.front none.rest) start none.front none.rest fault → ⊥
       by_cause (inl first) =
-          sound_at start first.before first.token first.behind (kind_ahead none.rest End) fault
-          (subst (λ k. AreSound limit source start (first.before ++ first.token ∷ first.behind) k) (sym ahead) (subst (λ w. AreSound limit source start w End) (front ∙ first.parts) p.are_sound))
-          first.is_faulty
-      by_cause (inr unexpected) = unexpected.is_none ahead (record { tree = p.tree; is_tree = p.is_tree; yields = front })
+          no_first source_rule (limit, source) start none.front (kind_of none.rest) fault first
+          (subst (λ (k : Terminal). AreSound limit source start none.front k) (sym ahead) (subst (λ (w : List Seen). AreSound limit source start w End) front p.are_sound))
+      by_cause (inr unexpected) = unexpected.wants ahead (record { tree = p.tree; is_tree = p.is_tree; yields = front })
 
   -- a source that has a program has no fault
   pub program_or_fault : (view : ProgramView) (fault : SourceFault) → HasProgram limit source view → IsFault limit source fault → ⊥
@@ -123,21 +109,21 @@ module _ (limit : ℕ) (source : List ℕ) where
 
   -- what the fault of a token of this kind is
   abbrev Tells : Walk → Terminal → Token → SourceFault → Type 0
-  Tells walk LeftParen token fault = fault ≡ record { error = Depth; at = token.at }
-  Tells walk Number token fault = fault ≡ record { error = OutOfRange; at = token.at }
+  Tells walk LeftParen token fault = fault ≡ record { error = Syntax Depth; at = token.at }
+  Tells walk Number token fault = fault ≡ record { error = Syntax OutOfRange; at = token.at }
   Tells walk TableLine token fault =
       IsLineFault limit source (table_name walk.before) walk.labels (lines_with source walk.before (TableLine, token)) fault
-  Tells walk RightParen token fault = fault ≡ record { error = NoHeading; at = table_name walk.before }
-  Tells walk _ token fault = fault ≡ record { error = TooManyLabels; at = token.at }
+  Tells walk RightParen token fault = fault ≡ record { error = Table NoHeading; at = table_name walk.before }
+  Tells walk _ token fault = fault ≡ record { error = Syntax TooManyLabels; at = token.at }
 
-  names_tell : (walk : Walk) (kind : Terminal) (token : Token) → is_name walk kind ≡ true → Tells walk kind token (record { error = TooManyLabels; at = token.at })
+  names_tell : (walk : Walk) (kind : Terminal) (token : Token) → is_name walk kind ≡ true → Tells walk kind token (record { error = Syntax TooManyLabels; at = token.at })
   names_tell walk LeftParen token h = absurd cc
   names_tell walk Number token h = absurd cc
   names_tell walk TableLine token h = absurd cc
   names_tell walk RightParen token h = absurd cc
   names_tell walk _ token h = refl
 
-  labels_tell : (walk : Walk) (kind : Terminal) (token : Token) (ahead : Terminal) → is TableLine kind ≡ false → LacksRoom walk.labels (new_labels source walk (kind, token) ahead) → Tells walk kind token (record { error = TooManyLabels; at = token.at })
+  labels_tell : (walk : Walk) (kind : Terminal) (token : Token) (ahead : Terminal) → is TableLine kind ≡ false → LacksRoom walk.labels (new_labels source walk (kind, token) ahead) → Tells walk kind token (record { error = Syntax TooManyLabels; at = token.at })
   labels_tell walk LeftParen token ahead h l = absurd (room_for_none walk.labels (new_labels source walk (LeftParen, token) ahead) refl l)
   labels_tell walk Number token ahead h l = absurd (room_for_none walk.labels (new_labels source walk (Number, token) ahead) refl l)
   labels_tell walk RightParen token ahead h l = absurd (room_for_none walk.labels (new_labels source walk (RightParen, token) ahead) refl l)
@@ -145,14 +131,14 @@ module _ (limit : ℕ) (source : List ℕ) where
   labels_tell walk _ token ahead h l = refl
 
   tells : {fault : SourceFault} (walk : Walk) (kind : Terminal) (token : Token) (ahead : Terminal) → IsFaulty limit source walk (kind, token) ahead fault → Tells walk kind token fault
-  tells walk kind token ahead (deep e d) = subst (λ (k : Terminal). Tells walk k token (record { error = Depth; at = token.at })) (sym e) refl
-  tells walk kind token ahead (out_of_range e d) = subst (λ (k : Terminal). Tells walk k token (record { error = OutOfRange; at = token.at })) (sym e) refl
+  tells walk kind token ahead (deep e d) = subst (λ (k : Terminal). Tells walk k token (record { error = Syntax Depth; at = token.at })) (sym e) refl
+  tells walk kind token ahead (out_of_range e d) = subst (λ (k : Terminal). Tells walk k token (record { error = Syntax OutOfRange; at = token.at })) (sym e) refl
   tells walk kind token ahead (many_names n d) = names_tell walk kind token n
   tells walk kind token ahead (many_labels n d) = labels_tell walk kind token ahead n d
   tells walk kind token ahead (in_table {fault} e d f) =
       subst (λ (k : Terminal). Tells walk k token fault) (sym e)
       (subst (λ (k : Terminal). IsLineFault limit source (table_name walk.before) walk.labels (lines_with source walk.before (k, token)) fault) e f)
-  tells walk kind token ahead (without_lines e d f) = subst (λ (k : Terminal). Tells walk k token (record { error = NoHeading; at = table_name walk.before })) (sym e) refl
+  tells walk kind token ahead (without_lines e d f) = subst (λ (k : Terminal). Tells walk k token (record { error = Table NoHeading; at = table_name walk.before })) (sym e) refl
 
   one_told : (walk : Walk) (kind : Terminal) (token : Token) (one other : SourceFault) → Tells walk kind token one → Tells walk kind token other → one ≡ other
   one_told walk TableLine token one other h k =
@@ -166,51 +152,9 @@ module _ (limit : ℕ) (source : List ℕ) where
   one_faulty : (walk : Walk) (token : Seen) (ahead : Terminal) (one other : SourceFault) → IsFaulty limit source walk token ahead one → IsFaulty limit source walk token ahead other → one ≡ other
   one_faulty walk token ahead one other h k = one_told walk token.0 token.1 one other (tells walk token.0 token.1 ahead h) (tells walk token.0 token.1 ahead k)
 
-  -- the first faulty one of tokens comes before another
-  not_later : (front : List Seen) (ahead : Terminal) (one other : SourceFault) (f : IsFirstFaulty limit source front ahead one) (g : IsFirstFaulty limit source front ahead other) (w : List Seen) → g.before ≡ f.before ++ (f.token ∷ w) → f.behind ≡ w ++ (g.token ∷ g.behind) → ⊥
-  not_later front ahead one other f g w e k =
-      sound_at start f.before f.token w g.token.0 one
-      (subst (λ (us : List Seen). AreSound limit source start us g.token.0) e g.are_sound)
-      (subst (λ (kind : Terminal). IsFaulty limit source (walk_behind source start f.before f.token.0) f.token kind one) (ap (λ (us : List Seen). kind_ahead us ahead) k ∙ ahead_more w g.token g.behind ahead) f.is_faulty)
-
-  one_first_faulty : (front : List Seen) (ahead : Terminal) (one other : SourceFault) → IsFirstFaulty limit source front ahead one → IsFirstFaulty limit source front ahead other → one ≡ other
-  one_first_faulty front ahead one other f g = by (order f.before f.token f.behind g.before g.token g.behind (sym f.parts ∙ g.parts))
-    where
-      by : Order f.before f.token f.behind g.before g.token g.behind → one ≡ other
-      by (earlier w e k) = absurd (not_later front ahead one other f g w e k)
-      by (later w e k) = absurd (not_later front ahead other one g f w e k)
-      by (at_once e t k) =
-          let there : IsFaulty limit source (walk_behind source start f.before f.token.0) f.token (kind_ahead f.behind ahead) other =
-          subst (λ (us : List Seen). IsFaulty limit source (walk_behind source start us f.token.0) f.token (kind_ahead f.behind ahead) other) (sym e)
-          (subst (λ (x : Seen). IsFaulty limit source (walk_behind source start g.before x.0) x (kind_ahead f.behind ahead) other) (sym t)
-          (subst (λ (us : List Seen). IsFaulty limit source (walk_behind source start g.before g.token.0) g.token (kind_ahead us ahead) other) (sym k) g.is_faulty)) in
-          one_faulty (walk_behind source start f.before f.token.0) f.token (kind_ahead f.behind ahead) one other f.is_faulty there
-
-  same_fault : (one other : SourceFault) → one.error ≡ other.error → one.at ≡ other.at → one ≡ other
-  same_fault one other e p = ap₂ (λ (x : SourceError) (y : Place). record { error = x; at = y }) e p
-
-  -- why tokens are no program, where they cease to begin one here
-  abbrev Cause : List Seen → List Seen → SourceFault → Type 0
-  Cause front rest fault = IsFirstFaulty limit source front (kind_ahead rest End) fault ⊎ IsUnexpected limit source front rest fault
-
-  -- sound tokens have no first faulty one
-  no_first : (front rest : List Seen) (fault : SourceFault) → IsFirstFaulty limit source front (kind_ahead rest End) fault → AreSound limit source start front (kind_ahead rest End) → ⊥
-  no_first front rest fault first sound =
-      sound_at start first.before first.token first.behind (kind_ahead rest End) fault (subst (λ (us : List Seen). AreSound limit source start us (kind_ahead rest End)) first.parts sound) first.is_faulty
-
-  one_cause : (front rest : List Seen) (one other : SourceFault) → Cause front rest one → Cause front rest other → one ≡ other
-  one_cause front rest one other (inl f) (inl g) = one_first_faulty front (kind_ahead rest End) one other f g
-  one_cause front rest one other (inl f) (inr u) = absurd (no_first front rest one f u.are_sound)
-  one_cause front rest one other (inr u) (inl g) = absurd (no_first front rest other g u.are_sound)
-  one_cause front rest one other (inr u) (inr v) = same_fault one other (u.error ∙ sym v.error) (u.at ∙ sym v.at)
-
   -- tokens have one first fault
-  one_refused : (tokens : List Seen) (one other : SourceFault) → IsNoProgram limit source tokens one → IsNoProgram limit source tokens other → one ≡ other
-  one_refused tokens one other f g =
-      let front = stops_once productions (the Program) tokens f.front f.rest g.front g.rest f.stops g.stops in
-      let rest = behind_same f.front f.rest g.rest (sym f.stops.parts ∙ g.stops.parts ∙ ap (λ (w : List Seen). w ++ g.rest) (sym front)) in
-      one_cause f.front f.rest one other f.cause
-      (subst (λ (us : List Seen). Cause us f.rest other) (sym front) (subst (λ (us : List Seen). Cause g.front us other) (sym rest) g.cause))
+  one_refusal : (tokens : List Seen) (one other : SourceFault) → IsNoProgram limit source tokens one → IsNoProgram limit source tokens other → one ≡ other
+  one_refusal tokens one other f g = one_refused source_rule (limit, source) one_faulty Program start tokens one other f g
 
   -- a source has one first fault
   pub one_fault : (one other : SourceFault) → IsFault limit source one → IsFault limit source other → one ≡ other
@@ -222,7 +166,7 @@ module _ (limit : ℕ) (source : List ℕ) where
   one_fault one other (inr (inl a)) (inr (inl b)) =
       let are : Err a.lexical ≡ Err b.lexical = means_only source (Err a.lexical) (Err b.lexical) a.is_first b.is_first in
       let same : a.lexical ≡ b.lexical = cc in
-      same_fault one other (a.error ∙ ap (λ (f : LexFault). error_of_lexical f.error) same ∙ sym b.error) (a.at ∙ ap (λ (f : LexFault). f.at) same ∙ sym b.at)
+      a.is ∙ ap lexical_fault same ∙ sym b.is
   one_fault one other (inr (inl a)) (inr (inr b)) =
       let are : Err a.lexical ≡ Ok b.tokens = means_only source (Err a.lexical) (Ok b.tokens) a.is_first b.are_tokens in
       absurd cc
@@ -232,4 +176,4 @@ module _ (limit : ℕ) (source : List ℕ) where
   one_fault one other (inr (inr a)) (inr (inr b)) =
       let are : Ok a.tokens ≡ Ok b.tokens = means_only source (Ok a.tokens) (Ok b.tokens) a.are_tokens b.are_tokens in
       let same : b.tokens ≡ a.tokens = cc in
-      one_refused (seen source a.tokens) one other a.refused (subst (λ (ts : List Token). IsNoProgram limit source (seen source ts) other) same b.refused)
+      one_refusal (seen source a.tokens) one other a.refused (subst (λ (ts : List Token). IsNoProgram limit source (seen source ts) other) same b.refused)

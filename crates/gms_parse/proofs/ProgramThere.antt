@@ -1,11 +1,8 @@
 -- A source without a fault has a program.
-use Rattle.std.proofs.Common.{◌≡◌, ◌≢◌, ℕ, suc, ◌+◌, ◌≤◌, Bool, true, false, cond, not, List, [], ◌∷◌, ◌++◌, length, map, reverse, take, take_while, All, Result, Ok, Err, refl, sym, ap, ◌∙◌, subst, append_assoc, append-nil, arith, inl, inr}
-use Rattle.std.specs.List.{prefix_len}
+use Rattle.std.proofs.Common.{◌≡◌, ◌≢◌, ℕ, ◌+◌, ◌≤◌, Bool, true, false, cond, not, List, [], ◌∷◌, ◌++◌, length, map, reverse, All, Result, Ok, Err, refl, sym, ap, ◌∙◌, subst, append_assoc, append-nil, inl, inr}
 use Rattle.std.proofs.lemmas.Bool.{cases_lt}
 use Rattle.std.proofs.lemmas.List.{reverse-append, reverse-reverse}
 use Rattle.std.proofs.lemmas.List.Elements.{All-head, All-tail}
-use Rattle.gq_number.specs.Number.{Number as Rational, neg_ℚ}
-use Rattle.gms_ast.specs.declared.declaration.Item.{Item}
 use Rattle.gms_lex.specs.declared.token.Token.{Token}
 use Rattle.gms_lex.specs.declared.fault.LexFault.{LexFault}
 use Rattle.gms_lex.specs.TokenTexts.{token_text}
@@ -18,29 +15,31 @@ use Rattle.gms_table.specs.TableEntries.{texts_of, IsFirstFault}
 use Rattle.gms_table.proofs.LabelLemmas.{Stay}
 use Rattle.gms_grammar.specs.declared.terminal.Terminal.{Terminal}
 use Rattle.gms_grammar.specs.declared.terminal.Terminal.TheVariants.{TableLine, End}
-use Rattle.gms_grammar.specs.Grammar.{the, yield, IsTree, Derives, Stops}
+use Rattle.gms_grammar.specs.Grammar.{the, yield, IsTree, Stops}
 use Rattle.gms_grammar.specs.Reading.{Found, read, stuck, Reads}
 use Rattle.gms_grammar.specs.Terminals.{is}
 use Rattle.gms_grammar.specs.GamsGrammar.{Program, productions}
 use Rattle.gms_grammar.specs.GamsLookAhead.{look_ahead}
 use Rattle.gms_grammar.proofs.Basics.{not_true}
 use Rattle.gms_grammar.proofs.Language.{gams_read_tree, gams_read_stops, gams_stuck_stops, gams_stuck_none, gams_finds}
-use Rattle.gms_expressions.specs.ExpressionTrees.{no_token, first_place}
+use Rattle.gms_expressions.specs.ExpressionTrees.{no_token}
 use Rattle.gms_expressions.specs.Outcomes.{seen}
 use Rattle.gms_parse.specs.declared.fault.SourceError.TheVariants.{TooLong}
 use Rattle.gms_parse.specs.declared.fault.SourceFault.{SourceFault}
-use Rattle.gms_parse.specs.Faults.{error_of_lexical, error_of_table}
+use Rattle.gms_parse.specs.Faults.{lexical_fault, error_of_table}
 use Rattle.gms_expressions.specs.Valuations.{number_in}
 use Rattle.gms_parse.specs.Programs.{statements_of}
-use Rattle.gms_parse.specs.Tables.{parts_of_tokens, labels_of_lines, IsLineFault, AreTableItems, item_of_entry, items_given}
-use Rattle.gms_parse.specs.Walks.{Seen, Walk, start, kind_ahead, table_name, lines_with, walk_after, walk_behind, IsFaulty, in_table, AreSound}
-use Rattle.gms_parse.specs.Outcomes.{unexpected_error, IsTableOf, HaveItems, HasProgram, ProgramView, IsFault, IsNoProgram}
+use Rattle.gms_parse.specs.Tables.{parts_of_tokens, labels_of_lines, IsLineFault, AreTableItems, entries_in, items_given}
+use Rattle.gms_parse.specs.Walks.{Seen, Walk, start, kind_ahead, table_name, lines_with, walk_after, walk_behind, unexpected, source_rule, IsFaulty, in_table, AreSound}
+use Rattle.gms_parse.specs.Outcomes.{WantsMore, IsTableOf, HaveItems, HasProgram, ProgramView, IsFault, IsNoProgram}
 use Rattle.gms_parse.specs.Readings.{Derivation}
 use Rattle.gms_parse.proofs.TokenKinds.{same_kind}
 use Rattle.gms_parse.proofs.Alphabet.{AllPass, pass_front, pass_rest}
-use Rattle.gms_parse.proofs.Walks.{walk_append, sound_append, labels_kept}
+use Rattle.gms_grammar.proofs.Rules.{walk_append, sound_append}
+use Rattle.gms_grammar.proofs.FirstFaults.{sound_at}
+use Rattle.gms_parse.proofs.Walks.{labels_kept}
 use Rattle.gms_parse.proofs.EndTokens.{has_end, end_alone}
-use Rattle.gms_parse.proofs.OneReading.{sound_at}
+use Rattle.gms_parse.proofs.TableSteps.{turned, run_of, run_one, run_other}
 use Rattle.gms_parse.proofs.TableSound.{sound_table, ArePlaced, placed_stay, entered_placed, placed_table, entries_there}
 
 -- ---- the last of tokens
@@ -54,23 +53,7 @@ ending : (x : Seen) (xs : List Seen) → Ending (x ∷ xs)
 ending x [] = record { others = []; last = x; are = refl }
 ending x (y ∷ xs) = let e = ending y xs in record { others = x ∷ e.others; last = e.last; are = ap (λ us. x ∷ us) e.are }
 
--- tokens in the other order
-turned : (u : Seen) (us before : List Seen) → reverse (u ∷ us) ++ before ≡ reverse us ++ (u ∷ before)
-turned u us before = ap (λ (ws : List Seen). ws ++ before) (reverse-append (u ∷ []) us) ∙ append_assoc (reverse us) (u ∷ []) before
-
 -- ---- the lines that tokens end in
-
--- the lines that tokens end in, where the last token comes first
-abbrev run_of : List Seen → List Seen
-run_of before = take_while (λ token. is TableLine token.0) before
-
-run_one : (u : Seen) (before : List Seen) → is TableLine u.0 ≡ true → run_of (u ∷ before) ≡ u ∷ run_of before
-run_one u before h =
-    let n = prefix_len (λ (token : Seen). is TableLine token.0) before in
-    ap (λ b. take (cond b (1 + n) 0) (u ∷ before)) h ∙ ap (λ k. take k (u ∷ before)) (let e : 1 + n ≡ suc n = omega arith in e)
-
-run_other : (u : Seen) (before : List Seen) → is TableLine u.0 ≡ false → run_of (u ∷ before) ≡ []
-run_other u before h = ap (λ b. take (cond b (1 + prefix_len (λ (token : Seen). is TableLine token.0) before) 0) (u ∷ before)) h
 
 run_all : (us before : List Seen) → AllPass (is TableLine) us → run_of (reverse us ++ before) ≡ reverse us ++ run_of before
 run_all [] before h = refl
@@ -136,7 +119,7 @@ module _ (limit : ℕ) (source : List ℕ) (tokens : List Seen) (sound : AreSoun
 
     no_fault_here : (fault : SourceFault) → IsLineFault limit source (table_name here.before) here.labels lines fault → ⊥
     no_fault_here fault f =
-        sound_at limit source start front (TableLine, line) k.behind End fault (subst (λ (us : List Seen). AreSound limit source start us End) tokens_are sound)
+        sound_at (source_rule (limit, source)) start front (TableLine, line) k.behind End fault (subst (λ (us : List Seen). AreSound limit source start us End) tokens_are sound)
         (in_table refl no_line_ahead (subst (λ (ls : List Seen). IsLineFault limit source (table_name here.before) here.labels ls fault) (sym lines_here) f))
 
     no_table_fault : (found : TableFault) → IsFirstFault limit here.labels (parts_of_tokens source lines) found → ⊥
@@ -154,7 +137,7 @@ module _ (limit : ℕ) (source : List ℕ) (tokens : List Seen) (sound : AreSoun
     labels_stay : Stay past.labels last_labels
     labels_stay =
         subst (λ (w : Walk). Stay past.labels w.labels)
-        (sym (ap (λ (us : List Seen). walk_behind source start us End) tokens_are ∙ walk_append source start front ((TableLine, line) ∷ k.behind) End))
+        (sym (ap (λ (us : List Seen). walk_behind source start us End) tokens_are ∙ walk_append (walk_after source) start front ((TableLine, line) ∷ k.behind) End))
         (record { stays = λ text n h. labels_kept source past k.behind End text n h })
 
     placed : ArePlaced last_labels (texts_of (parts_of_tokens source lines))
@@ -162,18 +145,17 @@ module _ (limit : ℕ) (source : List ℕ) (tokens : List Seen) (sound : AreSoun
         placed_stay past.labels last_labels labels_stay (labels_of_lines source lines)
         (subst (λ (ls : List (List ℕ)). ArePlaced ls (labels_of_lines source lines)) (sym past_labels) (entered_placed here.labels (labels_of_lines source lines)))
 
-    items_by : (items : List (Item Rational)) × AreTableItems limit source last_labels lines items
+    items_by : AreTableItems limit source last_labels lines (items_given source last_labels lines)
     items_by =
         let whole = sound_table limit here.labels (parts_of_tokens source lines) no_table_fault in
         let cells = placed_table last_labels (map (λ (line : Seen). words_of line.1.at.line (token_text source line.1)) lines) placed in
-        let es = entries_there last_labels limit here.labels [] (parts_of_tokens source lines) whole cells in
-        (map item_of_entry es.entries, (es.entries, es.are, refl))
+        (entries_in last_labels (parts_of_tokens source lines), entries_there last_labels limit here.labels [] (parts_of_tokens source lines) whole cells, refl)
 
   -- each table has items
   pub tables_have : HaveItems limit source last_labels tokens
   tables_have = λ lines k. by lines k.some k
     where
-      by : (lines : List Seen) → lines ≢ [] → IsTableOf tokens lines → (items : List (Item Rational)) × AreTableItems limit source last_labels lines items
+      by : (lines : List Seen) → lines ≢ [] → IsTableOf tokens lines → AreTableItems limit source last_labels lines (items_given source last_labels lines)
       by [] some k = absurd (some refl)
       by (x ∷ xs) some k =
           let e = ending x xs in
@@ -194,9 +176,9 @@ module _ (limit : ℕ) (source : List ℕ) (tokens : List Seen) (none : (fault :
         let ahead = kind_ahead left (kind_ahead rest End) in
         let here : (fault : SourceFault) → IsFaulty limit source (walk_behind source start before t.0) t ahead fault → ⊥ =
         λ fault f. none fault (record { front = front; rest = rest; stops = stops; cause = inl (record { before = before; token = t; behind = left; parts = e; are_sound = s; is_faulty = f }) }) in
-        let more : AreSound limit source start (before ++ t ∷ []) ahead = sound_append limit source start before (t ∷ []) ahead s (here, tt) in
+        let more : AreSound limit source start (before ++ t ∷ []) ahead = sound_append (source_rule (limit, source)) start before (t ∷ []) ahead s (here, tt) in
         let others = sound_on (before ++ t ∷ []) left (e ∙ sym (append_assoc before (t ∷ []) left)) more in
-        (here, subst (λ (w : Walk). AreSound limit source w left (kind_ahead rest End)) (walk_append source start before (t ∷ []) ahead) others)
+        (here, subst (λ (w : Walk). AreSound limit source w left (kind_ahead rest End)) (walk_append (walk_after source) start before (t ∷ []) ahead) others)
 
     pub sound_front : AreSound limit source start front (kind_ahead rest End)
     sound_front = sound_on [] front refl tt
@@ -210,13 +192,13 @@ module _ (limit : ℕ) (source : List ℕ) (none : (fault : SourceFault) → IsF
     refused : (fault : SourceFault) → IsNoProgram limit source (seen source tokens) fault → ⊥
     refused fault r = none fault (inr (inr (record { short = short; tokens = tokens; are_tokens = are; refused = r })))
 
-    unexpected : (front rest : List Seen) → Stops productions (the Program) (seen source tokens) front rest → (kind_ahead rest End ≡ End → Derives productions (the Program) front → ⊥) → ⊥
-    unexpected front rest stops is_none =
-        refused (record { error = unexpected_error rest; at = first_place rest }) (record {
+    not_there : (front rest : List Seen) → Stops productions (the Program) (seen source tokens) front rest → WantsMore front rest → ⊥
+    not_there front rest stops wants =
+        refused (unexpected source rest) (record {
           front = front;
           rest = rest;
           stops = stops;
-          cause = inr (record { is_none = is_none; are_sound = sound_front limit source (seen source tokens) refused front rest stops; error = refl; at = refl });
+          cause = inr (record { wants = wants; are_sound = sound_front limit source (seen source tokens) refused front rest stops; is = refl });
         })
 
     by_end : (tree : Derivation) (rest : List Seen) → IsTree productions (the Program) tree → Stops productions (the Program) (seen source tokens) (yield tree) rest → (b : Bool) → is End (kind_ahead rest End) ≡ b → SomeProgram limit source
@@ -226,7 +208,7 @@ module _ (limit : ℕ) (source : List ℕ) (none : (fault : SourceFault) → IsF
         let sound : AreSound limit source start (yield tree) End = subst (λ (t : Terminal). AreSound limit source start (yield tree) t) at_end (sound_front limit source (seen source tokens) refused (yield tree) rest stops) in
         let walk = walk_behind source start (yield tree) End in
         record {
-          view = record { names = walk.names; labels = walk.labels; statements = statements_of source walk.names walk.labels number_in neg_ℚ (items_given source walk.labels) tree };
+          view = record { names = walk.names; labels = walk.labels; statements = statements_of source walk.names walk.labels number_in tree };
           has = record {
             short = short;
             tokens = tokens;
@@ -245,17 +227,17 @@ module _ (limit : ℕ) (source : List ℕ) (none : (fault : SourceFault) → IsF
           };
         }
     by_end tree rest is_tree stops false e =
-        absurd (unexpected (yield tree) rest stops (λ at_end d. let no : is End (kind_ahead rest End) ≡ true = ap (is End) at_end in cc))
+        absurd (not_there (yield tree) rest stops (λ at_end d. let no : is End (kind_ahead rest End) ≡ true = ap (is End) at_end in cc))
 
     by_found : (found : Found Seen) → Reads productions look_ahead (the Program) (seen source tokens) found → SomeProgram limit source
     by_found (read tree rest) r =
         by_end tree rest (gams_read_tree Program (seen source tokens) rest tree r) (gams_read_stops no_token Program (seen source tokens) rest tree r) (is End (kind_ahead rest End)) refl
     by_found (stuck front rest) r =
-        absurd (unexpected front rest (gams_stuck_stops no_token Program (seen source tokens) front rest r) (λ at_end d. gams_stuck_none no_token Program (seen source tokens) front rest r d))
+        absurd (not_there front rest (gams_stuck_stops no_token Program (seen source tokens) front rest r) (λ at_end d. gams_stuck_none no_token Program (seen source tokens) front rest r d))
 
   by_meaning : length source ≤ most_bytes → (m : Result (List Token) LexFault) → Means source m → SomeProgram limit source
   by_meaning short (Err f) h =
-      absurd (none (record { error = error_of_lexical f.error; at = f.at }) (inr (inl (record { short = short; lexical = f; is_first = h; error = refl; at = refl }))))
+      absurd (none (lexical_fault f) (inr (inl (record { short = short; lexical = f; is_first = h; is = refl }))))
   by_meaning short (Ok tokens) h = let f = gams_finds Program (seen source tokens) in by_found short tokens h f.0 f.1
 
   -- a source without a fault has a program

@@ -18,7 +18,7 @@ use Rattle.gms_set.specs.declared.fault.SetFaultOrMemory.{SetFaultOrMemory}
 use Rattle.gms_set.specs.declared.fault.SetFaultOrMemory.TheVariants as set_fault
 use Rattle.gms_grammar.specs.declared.terminal.Terminal.{Terminal}
 use Rattle.gms_grammar.specs.declared.terminal.Terminal.TheVariants.{Label, Star}
-use Rattle.gms_grammar.specs.Grammar.{the, leaf, pair, none, some, node}
+use Rattle.gms_grammar.specs.Grammar.{the, leaf}
 use Rattle.gms_grammar.specs.Reading.{leads}
 use Rattle.gms_grammar.specs.Terminals.{is}
 use Rattle.gms_grammar.specs.GamsGrammar.{Range, productions, token}
@@ -28,7 +28,8 @@ use Rattle.gms_parse.specs.declared.data.Part.{Part as Position}
 use Rattle.gms_parse.specs.declared.fault.SourceFault.{SourceFault}
 use Rattle.gms_parse.specs.declared.fault.SourceFaultOrMemory.{SourceFaultOrMemory}
 use Rattle.gms_parse.specs.declared.fault.SourceFaultOrMemory.TheVariants.{Fault}
-use Rattle.gms_parse.specs.declared.fault.SourceError.TheVariants.{TooManyLabels}
+use Rattle.gms_parse.specs.declared.fault.SourceError.TheVariants.{Syntax}
+use Rattle.gms_expressions.specs.declared.fault.SyntaxError.TheVariants.{TooManyLabels}
 use Rattle.gms_parse.specs.declared.reader.Reader.{Reader}
 use Rattle.gms_parse.specs.declared.reader.Tables.{Tables}
 use Rattle.gms_parse.specs.DataLists.{range_labels}
@@ -38,7 +39,7 @@ use Rattle.gms_parse.specs.Walks.{Seen, Walk, last_kind, range_start, range_text
 use Rattle.gms_parse.specs.Readings.{Gives, Refuses, Sense, IsSense, IsGot, Has, Holds, Starless, Stays, IsNext, IsLacking, IsEntered, IsNotEntered, seen_from, kind_of}
 use Rattle.gms_parse.specs.Meanings.{IsLabelToken, IsEnteredRange, IsNotEnteredRange, IsAdded, AreThere, text_of_label}
 use Rattle.gms_parse.proofs.TokenKinds.{leads_by_kind}
-use Rattle.gms_parse.proofs.Steps.{gives_one, gives_both, gives_the, gives_none, gives_some, takes_next, refuses_the, refuses_first, refuses_second, refuses_some, refuses_token, refuses_memory}
+use Rattle.gms_parse.proofs.Steps.{got_by, gives_one, gives_both, gives_the, gives_none, gives_some, takes_next, refuses_the, refuses_first, refuses_second, refuses_some, refuses_token, refuses_memory}
 use Rattle.gms_parse.proofs.Nexts.{past, exact, leads_next, gives_exact, refuses_lacking, plain_stays, stays_then}
 use Rattle.gms_parse.proofs.TokenKinds.{unled_next}
 use Rattle.gms_parse.proofs.Walks.{room_for_none}
@@ -168,7 +169,7 @@ label_gives {limit} {reader} {behind = behind} {t = t} {w = w} texts n is h room
     gives_one (exact {kind = Label} n) refl (label_sound limit reader.source.now w t (kind_of (seen_from reader behind)) (λ l. room (subst (λ (ls : List (List ℕ)). LacksRoom ls texts) h.labels (subst (λ (x : List (List ℕ)). LacksRoom w.labels x) is l)))) refl
 
 label_refuses : {limit : ℕ} {reader : Reader} {at behind : ℕ} {t : Token} {w : Walk} {old : Tables} (texts : List (List ℕ)) {e : SourceFaultOrMemory} → IsNext (is Label) reader at t behind → new_labels reader.source.now w (Label, t) (kind_of (seen_from reader behind)) ≡ texts → Holds reader old w → LacksRoom old.labels texts →
-    e ≡ Fault (record { error = TooManyLabels; at = t.at }) → Refuses limit reader.source.now (token Label) w (seen_from reader at) e
+    e ≡ Fault (record { error = Syntax TooManyLabels; at = t.at }) → Refuses limit reader.source.now (token Label) w (seen_from reader at) e
 label_refuses {w = w} texts n is h lacks e =
     refuses_token (takes_next (exact {kind = Label} n) refl) (many_labels refl (subst (λ (x : List (List ℕ)). LacksRoom w.labels x) (sym is) (subst (λ (ls : List (List ℕ)). LacksRoom ls texts) (sym h.labels) lacks))) e
 
@@ -191,14 +192,11 @@ module _ {reader : Reader} {at : ℕ} {old : Tables} {w : Walk} {first : Token} 
 
   pub label_got : {limit : ℕ} (was now : Position) (new : Tables) (number : ℕ) (labels : List (List ℕ)) → leads productions look_ahead (token Star) (seen_from reader next) ≡ false → (text : List ℕ) → text ≡ text_of_label reader.source.now first → IsEntered old.labels labels text number → new.names ≡ old.names → new.labels ≡ labels →
       now.labels.items ≡ was.labels.items ++ number ∷ [] → now.bad_range ≡ was.bad_range → IsGot limit (λ sense tree x. IsAdded reader.source.now sense tree was x) (Stays reader new w) (the Range) reader at new w now next
-  label_got was now new number labels unled text spelled given names same items bad = let e = subst (λ (x : List ℕ). IsEntered old.labels labels x number) spelled given in record {
-    tree = node (pair (leaf (Label, first)) none);
-    behind = past reader w Label first next;
-    gives = gives_the Range (gives_both (label_gives (text_of_label reader.source.now first ∷ []) n (alone_new unled) h.holds (single_room old.labels (text_of_label reader.source.now first) e.room)) (gives_none (unled_next (is Star) (token Label) (seen_from reader next) unled)));
-    leaves = label_stays w first next (text_of_label reader.source.now first ∷ []) (alone_new unled) h names (same ∙ e.table);
-    means = λ sense m. (items ∙ ap (λ k. was.labels.items ++ k ∷ []) (sym (ap or_0 (m.labels (text_of_label reader.source.now first) number (ap (λ (z : List (List ℕ)). place_of z (text_of_label reader.source.now first)) same ∙ e.place)))), bad ∙ or_none was.bad_range);
-    further = (let g = n.further in omega arith);
-  }
+  label_got was now new number labels unled text spelled given names same items bad = let e = subst (λ (x : List ℕ). IsEntered old.labels labels x number) spelled given in got_by
+      (gives_the Range (gives_both (label_gives (text_of_label reader.source.now first ∷ []) n (alone_new unled) h.holds (single_room old.labels (text_of_label reader.source.now first) e.room)) (gives_none (unled_next (is Star) (token Label) (seen_from reader next) unled))))
+      (label_stays w first next (text_of_label reader.source.now first ∷ []) (alone_new unled) h names (same ∙ e.table))
+      (λ sense m. (items ∙ ap (λ k. was.labels.items ++ k ∷ []) (sym (ap or_0 (m.labels (text_of_label reader.source.now first) number (ap (λ (z : List (List ℕ)). place_of z (text_of_label reader.source.now first)) same ∙ e.place)))), bad ∙ or_none was.bad_range))
+      (let g = n.further in omega arith)
     where
       or_none : (b : Bool) → b ≡ (b || false)
       or_none true = refl
@@ -229,14 +227,9 @@ module _ {reader : Reader} {at : ℕ} {old : Tables} {w : Walk} {first : Token} 
 
     module _ {last : Token} {behind : ℕ} (k : IsNext (is Label) reader middle last behind) where
       pub range_got : {limit : ℕ} (was now : Position) (new : Tables) → IsEnteredRange reader.source.now old new was now first last → new.names ≡ old.names → IsGot limit (λ sense tree x. IsAdded reader.source.now sense tree was x) (Stays reader new w) (the Range) reader at new w now behind
-      range_got was now new e names = record {
-        tree = node (pair (leaf (Label, first)) (some (pair (leaf (Star, star)) (leaf (Label, last)))));
-        behind = past reader (past reader (past reader w Label first next) Star star middle) Label last behind;
-        gives = gives_the Range (gives_both begun_gives (gives_some (leads_next (token Label) m) (gives_both (gives_exact {kind = Star} m refl) (label_gives texts k refl star_stays.has.holds e.room))));
-        leaves = stays_then star_stays (label_stays (past reader (past reader w Label first next) Star star middle) last behind texts refl star_stays.has names e.table);
-        means = λ sense s. (e.labels ∙ ap (λ u. was.labels.items ++ u) (places sense s), e.bad_range);
-        further = (let a = n.further in let b = m.further in let c = k.further in omega arith);
-      }
+      range_got was now new e names = got_by (gives_the Range (gives_both begun_gives (gives_some (leads_next (token Label) m) (gives_both (gives_exact {kind = Star} m refl) (label_gives texts k refl star_stays.has.holds e.room)))))
+          (stays_then star_stays (label_stays (past reader (past reader w Label first next) Star star middle) last behind texts refl star_stays.has names e.table))
+          (λ sense s. (e.labels ∙ ap (λ u. was.labels.items ++ u) (places sense s), e.bad_range)) (let a = n.further in let b = m.further in let c = k.further in omega arith)
         where
           from : List ℕ
           from = text_of_label reader.source.now first

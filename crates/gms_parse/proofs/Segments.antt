@@ -1,17 +1,16 @@
 -- What stands between two semicolons: perhaps a statement that begins with a name, and statements that begin with keywords.
-use Rattle.std.proofs.Common.{◌≡◌, ◌≢◌, ℕ, ◌-◌, ◌<◌, ◌≤◌, true, false, List, [], ◌∷◌, ◌++◌, length, Vec, refl, sym, ap, ap₂, ◌∙◌, subst, arith, append_assoc}
+use Rattle.std.proofs.Common.{◌≡◌, ℕ, ◌-◌, ◌<◌, ◌≤◌, true, false, List, [], ◌∷◌, ◌++◌, length, Vec, refl, sym, ap, ap₂, ◌∙◌, arith, append_assoc}
 use Rattle.std.specs.declared.alloc.Global.{Global}
 use Rattle.std.proofs.lemmas.List.{append-nil, length-append}
-use Rattle.gq_number.specs.Number.{Number, neg_ℚ}
-use Rattle.gms_ast.specs.declared.declaration.Item.{Item}
+use Rattle.gq_number.specs.Number.{Number}
 use Rattle.gms_ast.specs.declared.program.Act.{Act as ActNode}
 use Rattle.gms_ast.specs.declared.program.Stmt.{Stmt}
 use Rattle.gms_ast.specs.StatementTrees.{Act, Statements, statement}
 use Rattle.gms_labels.specs.declared.place.Place.{Place}
 use Rattle.gms_ast.specs.StatementView.{statement_view}
 use Rattle.gms_grammar.specs.declared.terminal.Terminal.{Terminal}
-use Rattle.gms_grammar.specs.declared.terminal.Terminal.TheVariants.{Abort, Alias, Display, Equation, Loop, Model, Option, Parameter, Scalar, Set, Solve, Table, Variable, VariableType, Name, Suffix, TableLine, End}
-use Rattle.gms_grammar.specs.Grammar.{the, opt, many, pair, none, some, more, node, yield}
+use Rattle.gms_grammar.specs.declared.terminal.Terminal.TheVariants.{Abort, Alias, Display, Equation, Loop, Model, Option, Parameter, Scalar, Set, Solve, Table, Variable, VariableType, Name, Suffix}
+use Rattle.gms_grammar.specs.Grammar.{the, opt, many, pair, none, more, node, yield}
 use Rattle.gms_grammar.specs.LookAhead.{may_begin, may_be_empty}
 use Rattle.gms_grammar.specs.Reading.{leads}
 use Rattle.gms_grammar.specs.Terminals.{is_among}
@@ -27,18 +26,15 @@ use Rattle.gms_parse.specs.declared.reader.Reader.{Reader}
 use Rattle.gms_parse.specs.declared.reader.Tables.{Tables}
 use Rattle.gms_parse.specs.Programs.{keyword_act, keyword_statements, segment}
 use Rattle.gms_parse.specs.Statements.{named_act}
-use Rattle.gms_parse.specs.Walks.{Seen, Walk, kind_ahead, is_keyword}
-use Rattle.gms_parse.specs.Outcomes.{HaveItems, AreAllItems}
+use Rattle.gms_parse.specs.Walks.{Seen, Walk, is_keyword}
 use Rattle.gms_parse.specs.Readings.{Derivation, GamsPart, Gives, Refuses, Sense, IsSense, IsGot, Holds, Starts, Stays, kind_of, seen_from}
-use Rattle.gms_parse.specs.Meanings.{IsAct, IsTabled, IsStatement, IsNamedFirst, IsSegment, act_view, put_before}
+use Rattle.gms_parse.specs.Meanings.{IsAct, IsNamedFirst, IsSegment, act_view, put_before}
 use Rattle.gms_parse.proofs.TokenKinds.{leads_alike}
-use Rattle.gms_parse.proofs.Alphabet.{all_pass}
-use Rattle.gms_parse.proofs.Steps.{Within, within_the, within_second, within_again, within_then, gives_none, gives_some, gives_no_more, refuses_some, refuses_again}
+use Rattle.gms_parse.proofs.Steps.{got_by, Within, within_the, within_second, within_again, within_then, gives_none, gives_some, gives_no_more, refuses_some, refuses_again}
 use Rattle.gms_parse.proofs.Nexts.{earlier}
 use Rattle.gms_parse.proofs.Ends.{length_seen}
-use Rattle.gms_parse.proofs.Places.{place_read}
+use Rattle.gms_expressions.proofs.Chains.{place_read}
 use Rattle.gms_parse.proofs.Looped.{view-Stmt, in_order_is}
-use Rattle.gms_parse.proofs.Tabled.{no_line, is_lineless, lineless, have_none, have_both, all_before, all_behind, begins_other}
 
 -- ---- statements one after another
 
@@ -81,26 +77,13 @@ named_refused ts led r = refuses_some (leads_named ts ∙ led) r
 module _ {F : Type 0} (value : F → Number) {limit : ℕ} {reader : Reader} {at : ℕ} {w : Walk} where
   pub named_none : {tables : Tables} → Starts reader tables w → leads productions look_ahead (any_of (Name ∷ Suffix ∷ [])) (seen_from reader at) ≡ false → (statements : Vec (Stmt F) Global) →
       IsGot limit (IsNamedFirst value reader.source.now statements) (Holds reader tables) (opt (the NamedStatement)) reader at tables w statements at
-  named_none s unled statements = record {
-    tree = none;
-    behind = w;
-    gives = gives_none (leads_named (seen_from reader at) ∙ unled);
-    leaves = s.has.holds;
-    means = λ sense k. ([], sym (append-nil statements.items), λ others. refl);
-    further = omega arith;
-  }
+  named_none s unled statements = got_by (gives_none (leads_named (seen_from reader at) ∙ unled)) s.has.holds (λ sense k. ([], sym (append-nil statements.items), λ others. refl)) (omega arith)
 
   pub named_got : leads productions look_ahead (any_of (Name ∷ Suffix ∷ [])) (seen_from reader at) ≡ true → {new : Tables} {act : ActNode F} {next : ℕ} →
       IsGot limit (IsAct value reader.source.now named_act) (Stays reader new w) (the NamedStatement) reader at new w act next → (x : Stmt F) → x.at ≡ next_place reader.source.now (seen_from reader at) → act_view value x.act ≡ act_view value act →
       (old now : Vec (Stmt F) Global) → now.items ≡ old.items ++ x ∷ [] → IsGot limit (IsNamedFirst value reader.source.now old) (Holds reader new) (opt (the NamedStatement)) reader at new w now next
-  named_got led got x placed same old now one_more = record {
-    tree = some got.tree;
-    behind = got.behind;
-    gives = gives_some (leads_named (seen_from reader at) ∙ led) got.gives;
-    leaves = got.leaves.has.holds;
-    means = λ sense s. (x ∷ [], one_more, λ others. stated value x others (placed ∙ sym (place_read (the NamedStatement) refl got.gives)) (same ∙ got.means sense s));
-    further = got.further;
-  }
+  named_got led got x placed same old now one_more = got_by (gives_some (leads_named (seen_from reader at) ∙ led) got.gives) got.leaves.has.holds
+      (λ sense s. (x ∷ [], one_more, λ others. stated value x others (placed ∙ sym (place_read (the NamedStatement) refl got.gives)) (same ∙ got.means sense s))) got.further
 
 -- ---- statements that begin with keywords
 
@@ -116,9 +99,9 @@ led_keyword [] h = cc
 led_keyword (t ∷ ts) h = also (is_among keyword_kinds) is_keyword refl t.0 h
 
 -- what the statements so far mean, which were added to those before
-abbrev SegmentMeans : {F : Type 0} → (F → Number) → ℕ → List ℕ → (Derivation → Derivation) → List Seen → List (Stmt F) → List (Stmt F) → Sense → Type 0
-SegmentMeans {F} value limit source context tokens old xs sense =
-    (added : List (Stmt F)) × (xs ≡ old ++ added) × ((table_items : List Seen → List (Item Number)) → AreAllItems limit source sense.labels tokens table_items → (b : Derivation) → segment source sense.names sense.labels sense.value neg_ℚ table_items (context b) ≡ put_before value added (keyword_statements source sense.names sense.labels sense.value neg_ℚ table_items b))
+abbrev SegmentMeans : {F : Type 0} → (F → Number) → List ℕ → (Derivation → Derivation) → List (Stmt F) → List (Stmt F) → Sense → Type 0
+SegmentMeans {F} value source context old xs sense =
+    (added : List (Stmt F)) × (xs ≡ old ++ added) × ((b : Derivation) → segment source sense.names sense.labels sense.value (context b) ≡ put_before value added (keyword_statements source sense.names sense.labels sense.value b))
 
 -- so many statements of a segment were read
 pub record Segmenting {F : Type 0} (limit : ℕ) (value : F → Number) (reader : Reader) (start : ℕ) (w : Walk) (old : List (Stmt F)) (new : Tables) (xs : List (Stmt F)) (at : ℕ) : Type 0 where
@@ -126,10 +109,7 @@ pub record Segmenting {F : Type 0} (limit : ℕ) (value : F → Number) (reader 
   pub behind : Walk
   pub within : Within limit reader.source.now (the Segment) w (seen_from reader start) (many (the KeywordStatement)) behind (seen_from reader at) context
   pub holds : Holds reader new behind
-  pub tokens : List Seen
-  pub yields : (b : Derivation) → yield (context b) ≡ tokens ++ yield b
-  pub have : (sense : Sense) → IsSense new sense → HaveItems limit reader.source.now sense.labels tokens
-  pub means : (sense : Sense) → IsSense new sense → SegmentMeans value limit reader.source.now context tokens old xs sense
+  pub means : (sense : Sense) → IsSense new sense → SegmentMeans value reader.source.now context old xs sense
   pub further : start ≤ at
 
 module _ {F : Type 0} (value : F → Number) {limit : ℕ} {reader : Reader} {start : ℕ} {w : Walk} where
@@ -139,12 +119,7 @@ module _ {F : Type 0} (value : F → Number) {limit : ℕ} {reader : Reader} {st
     behind = got.behind;
     within = within_then (within_the Segment) (within_second got.gives);
     holds = got.leaves;
-    tokens = yield got.tree;
-    yields = λ b. refl;
-    have = λ sense s. have_none limit reader.source.now sense.labels (yield got.tree) (all_pass is_lineless no_line lineless (opt (the NamedStatement)) got.tree (sound productions look_ahead got.gives.reads).0 refl);
-    means = λ sense s.
-        let m = got.means sense s in
-        (m.0, m.1, λ table_items all b. sym (m.2 (keyword_statements reader.source.now sense.names sense.labels sense.value neg_ℚ table_items b)));
+    means = λ sense s. let m = got.means sense s in (m.0, m.1, λ b. sym (m.2 (keyword_statements reader.source.now sense.names sense.labels sense.value b)));
     further = got.further;
   }
 
@@ -157,51 +132,28 @@ module _ {F : Type 0} (value : F → Number) {limit : ℕ} {reader : Reader} {st
       segment_refuses r = l.within.refuses _ (refuses_again led_statement r)
 
       -- one more
-      pub segment_on : {newer : Tables} {act : ActNode F} {after : ℕ} → IsGot limit (IsTabled value reader.source.now limit (IsStatement value reader.source.now keyword_act)) (Holds reader newer) (the KeywordStatement) reader at newer l.behind act after →
+      pub segment_on : {newer : Tables} {act : ActNode F} {after : ℕ} → IsGot limit (IsAct value reader.source.now keyword_act) (Holds reader newer) (the KeywordStatement) reader at newer l.behind act after →
           (x : Stmt F) → x.at ≡ next_place reader.source.now (seen_from reader at) → act_view value x.act ≡ act_view value act → (now : List (Stmt F)) → now ≡ xs ++ x ∷ [] → Segmenting limit value reader start w old newer now after
-      segment_on {newer} {act} {after} got x placed same now one_more = record {
+      segment_on got x placed same now one_more = record {
         context = λ b. l.context (more got.tree b);
         behind = got.behind;
         within = within_then l.within (within_again led_statement got.gives);
         holds = got.leaves;
-        tokens = l.tokens ++ yield got.tree;
-        yields = λ b. l.yields (more got.tree b) ∙ sym (append_assoc l.tokens (yield got.tree) (yield b));
-        have = λ sense s. have_both limit reader.source.now sense.labels l.tokens (yield got.tree) head (l.have sense (before sense s)) (got.means sense s).have;
         means = λ sense s.
-            let m = l.means sense (before sense s) in (
+            let m = l.means sense (earlier got.gives l.holds got.leaves s) in (
               m.0 ++ x ∷ [],
               one_more ∙ ap (λ ys. ys ++ x ∷ []) m.1 ∙ append_assoc old m.0 (x ∷ []),
-              λ table_items all b.
-                  let rest = keyword_statements reader.source.now sense.names sense.labels sense.value neg_ℚ table_items b in
-                  m.2 table_items (all_before limit reader.source.now sense.labels l.tokens (yield got.tree) head table_items all) (more got.tree b)
-                  ∙ ap (put_before value m.0) (sym (stated value x rest (placed ∙ sym (place_read (the KeywordStatement) refl got.gives)) (same ∙ (got.means sense s).means table_items (all_behind limit reader.source.now sense.labels l.tokens (yield got.tree) head table_items all))))
+              λ b.
+                  let rest = keyword_statements reader.source.now sense.names sense.labels sense.value b in
+                  m.2 (more got.tree b)
+                  ∙ ap (put_before value m.0) (sym (stated value x rest (placed ∙ sym (place_read (the KeywordStatement) refl got.gives)) (same ∙ got.means sense s)))
                   ∙ sym (put_append value m.0 (x ∷ []) rest),
             );
         further = (let a = l.further in let b = got.further in omega arith);
       }
-        where
-          head : kind_ahead (yield got.tree) End ≢ TableLine
-          head = begins_other (the KeywordStatement) got.tree (sound productions look_ahead got.gives.reads).0 refl
-
-          before : (sense : Sense) → IsSense newer sense → IsSense new sense
-          before sense s = earlier got.gives l.holds got.leaves s
 
     -- no more
     pub segment_got : leads productions look_ahead (any_of keyword_kinds) (seen_from reader at) ≡ false → (before all : Vec (Stmt F) Global) → before.items ≡ old → all.items ≡ xs →
-        IsGot limit (IsTabled value reader.source.now limit (IsSegment value reader.source.now before)) (Holds reader new) (the Segment) reader start new w all at
-    segment_got unled before all was same = record {
-      tree = l.context none;
-      behind = l.behind;
-      gives = l.within.gives none _ _ (gives_no_more (leads_keyword (seen_from reader at) ∙ unled));
-      leaves = l.holds;
-      means = λ sense s. record {
-        have = subst (λ (us : List Seen). HaveItems limit reader.source.now sense.labels us) (sym none_more) (l.have sense s);
-        means = λ table_items items.
-            let m = l.means sense s in
-            (m.0, same ∙ m.1 ∙ ap (λ ys. ys ++ m.0) (sym was), in_order_is value m.0 ∙ sym (m.2 table_items (subst (λ (us : List Seen). AreAllItems limit reader.source.now sense.labels us table_items) none_more items) none));
-      };
-      further = l.further;
-    }
-      where
-        none_more : yield (l.context none) ≡ l.tokens
-        none_more = l.yields none ∙ append-nil l.tokens
+        IsGot limit (IsSegment value reader.source.now before) (Holds reader new) (the Segment) reader start new w all at
+    segment_got unled before all was same = got_by (l.within.gives none _ _ (gives_no_more (leads_keyword (seen_from reader at) ∙ unled))) l.holds
+        (λ sense s. let m = l.means sense s in (m.0, same ∙ m.1 ∙ ap (λ ys. ys ++ m.0) (sym was), in_order_is value m.0 ∙ sym (m.2 none))) l.further

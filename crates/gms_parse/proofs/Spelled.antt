@@ -1,6 +1,6 @@
 -- How names and labels are spelled: they are of ASCII, and short.
 use Rattle.std.proofs.Common.{◌≡◌, ℕ, ◌≤◌, Bool, true, false, not, ◌&&◌, cond, ltb, Option, Some, None, List, [], ◌∷◌, length, refl, sym, ap, ◌∙◌}
-use Rattle.std.proofs.lemmas.Bool.{eqb-true}
+use Rattle.std.proofs.lemmas.Bool.{eqb-true, not-true}
 use Rattle.std.specs.Str.{IsAscii}
 use Rattle.gms_lexemes.specs.declared.kind.Kind.{Kind}
 use Rattle.gms_lexemes.specs.declared.kind.Kind.TheVariants as kind
@@ -12,6 +12,7 @@ use Rattle.gms_grammar.specs.declared.terminal.Terminal.{Terminal}
 use Rattle.gms_grammar.specs.declared.terminal.Terminal.TheVariants.{Text, LongText, Label, TableLine, Break, End}
 use Rattle.gms_grammar.specs.Terminals.{is, is_among, number_of}
 use Rattle.gms_lines.specs.ControlWords.{is_among as is_listed}
+use Rattle.gms_grammar.proofs.Basics.{both_ways}
 use Rattle.gms_grammar.proofs.Checks.{left_and, right_and}
 use Rattle.gms_expressions.specs.Words.{Words, statement_words, expression_words, other_words, kind_among, or_else, or_name, terminal_of, terminal_of_word, terminal_of_symbol}
 use Rattle.gms_parse.specs.Meanings.{IsLabelToken}
@@ -24,17 +25,13 @@ use Rattle.gms_expressions.proofs.Spelled.{is_named, named_spelled}
 pub name_spelled : {reader : Reader} {at behind : ℕ} {t : Token} → IsNext is_named reader at t behind → IsAscii (token_text reader.source.now t) × (length (token_text reader.source.now t) ≤ 63)
 name_spelled {reader = reader} {t = t} n = named_spelled t.kind (token_text reader.source.now t) (ap is_named (sym n.kind_is) ∙ n.passes) n.placed.spelled
 
-label_symbol : (s : Sym) → terminal_of_symbol s ≡ Label → ⊥
-label_symbol sym_kind.EqE h = cc
-label_symbol _ h = cc
-
-label_text : (b : Bool) → cond b LongText Text ≡ Label → ⊥
-label_text true h = cc
-label_text false h = cc
+-- the kinds of the grammar that tokens of one kind alone have
+abbrev is_lone : Terminal → Bool
+is_lone = is_among (Label ∷ TableLine ∷ Break ∷ End ∷ [])
 
 -- the kinds of words are none of these
 abbrev is_of_word : Terminal → Bool
-is_of_word kind = not (is_among (Label ∷ TableLine ∷ Break ∷ End ∷ []) kind)
+is_of_word kind = not (is_lone kind)
 
 abbrev all_of_words : List Words → Bool
 all_of_words [] = true
@@ -60,27 +57,42 @@ or_name_word : (o : Option Terminal) → some_of_word o ≡ true → is_of_word 
 or_name_word None h = refl
 or_name_word (Some kind) h = h
 
-pub word_kind : (word : List ℕ) → is_of_word (terminal_of_word word) ≡ true
+word_kind : (word : List ℕ) → is_of_word (terminal_of_word word) ≡ true
 unfolding terminal_of_word
 word_kind word =
     or_name_word (or_else (kind_among word statement_words) (or_else (kind_among word expression_words) (kind_among word other_words)))
     (or_else_word (kind_among word statement_words) (or_else (kind_among word expression_words) (kind_among word other_words)) (among_words word statement_words refl)
     (or_else_word (kind_among word expression_words) (kind_among word other_words) (among_words word expression_words refl) (among_words word other_words refl)))
 
-label_word : (text : List ℕ) → terminal_of_word text ≡ Label → ⊥
-label_word text h = let k : is_of_word Label ≡ true = ap is_of_word (sym h) ∙ word_kind text in cc
+symbol_many : (s : Sym) → is_lone (terminal_of_symbol s) ≡ false
+symbol_many sym_kind.EqE = refl
+symbol_many _ = refl
 
--- what the grammar sees as a label is one
-label_kind : (k : Kind) (text : List ℕ) → terminal_of k text ≡ Label → k ≡ kind.Label
-label_kind kind.Word text h = absurd (label_word text h)
-label_kind kind.Label text h = refl
-label_kind kind.Number text h = cc
-label_kind kind.Text text h = absurd (label_text (ltb 65 (length text)) h)
-label_kind (kind.Symbol symbol) text h = absurd (label_symbol symbol h)
-label_kind kind.Break text h = cc
-label_kind kind.TableLine text h = cc
-label_kind kind.End text h = cc
+text_many : (b : Bool) → is_lone (cond b LongText Text) ≡ false
+text_many true = refl
+text_many false = refl
+
+-- the kind of tokens that has such a kind of the grammar
+abbrev lone_kind : Terminal → Kind
+lone_kind Label = kind.Label
+lone_kind TableLine = kind.TableLine
+lone_kind End = kind.End
+lone_kind _ = kind.Break
+
+only_kind : (k : Kind) (text : List ℕ) → is_lone (terminal_of k text) ≡ true → k ≡ lone_kind (terminal_of k text)
+only_kind kind.Word text h = absurd (both_ways (is_lone (terminal_of_word text)) h (not-true (is_lone (terminal_of_word text)) (word_kind text)))
+only_kind kind.Label text h = refl
+only_kind kind.Number text h = cc
+only_kind kind.Text text h = absurd (both_ways (is_lone (terminal_of kind.Text text)) h (text_many (ltb 65 (length text))))
+only_kind (kind.Symbol symbol) text h = absurd (both_ways (is_lone (terminal_of_symbol symbol)) h (symbol_many symbol))
+only_kind kind.Break text h = refl
+only_kind kind.TableLine text h = refl
+only_kind kind.End text h = refl
+
+-- what the grammar sees as one of these is a token of that kind
+pub lone_as : (x : Terminal) → is_lone x ≡ true → (k : Kind) (text : List ℕ) → terminal_of k text ≡ x → k ≡ lone_kind x
+lone_as x lone k text e = only_kind k text (ap is_lone e ∙ lone) ∙ ap lone_kind e
 
 pub label_token : {reader : Reader} {at behind : ℕ} {t : Token} → IsNext (is Label) reader at t behind → IsLabelToken reader.source.now t
 label_token {reader = reader} {t = t} n =
-    record { placed = n.placed; is = label_kind t.kind (token_text reader.source.now t) (sym n.kind_is ∙ sym (same_number Label n.kind (eqb-true (number_of Label) (number_of n.kind) n.passes))) }
+    record { placed = n.placed; is = lone_as Label refl t.kind (token_text reader.source.now t) (sym n.kind_is ∙ sym (same_number Label n.kind (eqb-true (number_of Label) (number_of n.kind) n.passes))) }

@@ -1,195 +1,49 @@
--- How what was read of parts, or why they were refused, makes up that of larger parts.
-use Rattle.std.proofs.Common.{◌≡◌, ℕ, Bool, true, false, List, [], ◌∷◌, ◌++◌, refl, sym, ap, ◌∙◌, subst, inl, inr, append_assoc}
+-- How what was read of parts, or why they were refused, makes up that of larger parts, by the rule of faults of a source.
+use Rattle.std.proofs.Common.{◌≡◌, ℕ, ◌≤◌, Bool, true, List, [], ◌∷◌}
 use Rattle.gms_grammar.specs.declared.terminal.Terminal.{Terminal}
-use Rattle.gms_grammar.specs.declared.terminal.Terminal.TheVariants.{End}
-use Rattle.gms_grammar.specs.Grammar.{one, the, ◌·◌, ◌∣◌, opt, many, leaf, pair, left, right, none, some, more, node, yield}
-use Rattle.gms_grammar.specs.Reading.{read, stuck, leads, Reads, Takes, taken, entered, entered_stuck, both, first_stuck, second_stuck, in_left, in_left_stuck, in_right, in_right_stuck, left_out, there, there_stuck, no_more, again, again_stuck, later_stuck, takes_one, takes_the, takes_first, takes_second, takes_left, takes_right, takes_opt, takes_many, takes_later}
-use Rattle.gms_grammar.specs.GamsGrammar.{Nonterminal, productions}
+use Rattle.gms_grammar.specs.Grammar.{one, leaf}
+use Rattle.gms_grammar.specs.Reading.{stuck, Reads, Takes}
+use Rattle.gms_grammar.specs.GamsGrammar.{productions}
 use Rattle.gms_grammar.specs.GamsLookAhead.{look_ahead}
-use Rattle.gms_grammar.proofs.Basics.{regrouped}
-use Rattle.gms_grammar.proofs.Sound.{sound}
-pub use Rattle.gms_expressions.proofs.Steps.{takes_next}
+use Rattle.gms_grammar.specs.Rules as rules
+use Rattle.gms_grammar.proofs.Rules as steps
+pub use Rattle.gms_grammar.proofs.Rules.{ahead_append, takes_next, gives_both, gives_the, gives_left, gives_right, gives_none, gives_some, gives_no_more, gives_again, gives_as, by_cause, wrong_as, stuck_as, wrong_behind, stuck_behind, refuses_first, refuses_second, refuses_the, refuses_left, refuses_right, refuses_some, refuses_again, refuses_later, within_the, within_second, within_again, within_some, within_left, within_right, within_then}
 use Rattle.gms_parse.specs.declared.fault.SourceFault.{SourceFault}
 use Rattle.gms_parse.specs.declared.fault.SourceFaultOrMemory.{SourceFaultOrMemory}
 use Rattle.gms_parse.specs.declared.fault.SourceFaultOrMemory.TheVariants.{Fault, Memory}
-use Rattle.gms_parse.specs.Walks.{Seen, Walk, kind_ahead, walk_after, walk_behind, AreSound, IsFaulty}
-use Rattle.gms_parse.specs.Readings.{Derivation, GamsPart, Gives, IsStuck, IsWrong, Refuses, unexpected, kind_of}
-use Rattle.gms_parse.proofs.Walks.{ahead_append, walk_append, sound_append}
+use Rattle.gms_parse.specs.Walks.{Seen, Walk, kind_of, walk_after, source_rule, IsFaulty, unexpected}
+use Rattle.gms_parse.specs.declared.reader.Reader.{Reader}
+use Rattle.gms_parse.specs.declared.reader.Tables.{Tables}
+use Rattle.gms_parse.specs.Readings.{Derivation, GamsPart, Gives, Refuses, Sense, IsSense, IsGot, seen_from}
 
--- the tokens that were gone over, and the rest
-pub takes_parts : {p : GamsPart} {ts front rest : List Seen} → Takes productions look_ahead p ts front rest → ts ≡ front ++ rest
-takes_parts (takes_one h) = refl
-takes_parts (takes_the t) = takes_parts t
-takes_parts (takes_first t) = takes_parts t
-takes_parts (takes_second r t) = regrouped _ _ _ _ _ (sound productions look_ahead r).1 (takes_parts t)
-takes_parts (takes_left t) = takes_parts t
-takes_parts (takes_right t) = takes_parts t
-takes_parts (takes_opt t) = takes_parts t
-takes_parts (takes_many t) = takes_parts t
-takes_parts (takes_later r t) = regrouped _ _ _ _ _ (sound productions look_ahead r).1 (takes_parts t)
+-- where a part is to be read within a larger one, and the tree around its tree
+abbrev pub Within : ℕ → List ℕ → GamsPart → Walk → List Seen → GamsPart → Walk → List Seen → (Derivation → Derivation) → Type 0
+Within limit source part w ts inner v rest context = rules.Within source_rule (limit, source) part w ts inner v rest context
 
--- what stands ahead of a part, by what stands behind it
-ahead_is : (u us : List Seen) {rest : List Seen} → rest ≡ u ++ us → kind_of rest ≡ kind_ahead u (kind_of us)
-ahead_is u us e = ap kind_of e ∙ ahead_append u us End
+-- a fault that is told is the one that was told
+told_once : {found : SourceFault} {e : SourceFaultOrMemory} → e ≡ Fault found → (fault : SourceFault) → e ≡ Fault fault → found ≡ fault
+told_once is fault k = cc
 
 module _ {limit : ℕ} {source : List ℕ} where
-  -- the tokens of a part, and the rest
-  pub given_parts : {p : GamsPart} {w v : Walk} {ts rest : List Seen} {a : Derivation} → Gives limit source p w ts a v rest → ts ≡ yield a ++ rest
-  given_parts g = (sound productions look_ahead g.reads).1
-
-  -- what is sound behind a part is sound behind its tokens
-  onward : {p : GamsPart} {w v : Walk} {ts rest : List Seen} {a : Derivation} → Gives limit source p w ts a v rest → (u us : List Seen) → rest ≡ u ++ us → AreSound limit source v u (kind_of us) → AreSound limit source w (yield a ++ u) (kind_of us)
-  onward {w = w} {a = a} g u us e h =
-      sound_append limit source w (yield a) u (kind_of us) (subst (λ (k : Terminal). AreSound limit source w (yield a) k) (ahead_is u us e) g.are_sound)
-      (subst (λ (x : Walk). AreSound limit source x u (kind_of us)) (g.leaves ∙ ap (walk_behind source w (yield a)) (ahead_is u us e)) h)
-
-  walk_on : {p : GamsPart} {w v : Walk} {ts rest : List Seen} {a : Derivation} → Gives limit source p w ts a v rest → (u us : List Seen) → rest ≡ u ++ us → walk_behind source v u (kind_of us) ≡ walk_behind source w (yield a ++ u) (kind_of us)
-  walk_on {w = w} {a = a} g u us e =
-      ap (λ x. walk_behind source x u (kind_of us)) (g.leaves ∙ ap (walk_behind source w (yield a)) (ahead_is u us e)) ∙ sym (walk_append source w (yield a) u (kind_of us))
-
-  -- parts that were read
-  pub gives_both : {p q : GamsPart} {w v x : Walk} {ts between rest : List Seen} {a b : Derivation} →
-      Gives limit source p w ts a v between → Gives limit source q v between b x rest → Gives limit source (p · q) w ts (pair a b) x rest
-  gives_both {rest = rest} {b = b} g h = record {
-    reads = both g.reads h.reads;
-    are_sound = onward g (yield b) rest (given_parts h) h.are_sound;
-    leaves = h.leaves ∙ walk_on g (yield b) rest (given_parts h);
-  }
-
-  pub gives_the : (n : Nonterminal) {w v : Walk} {ts rest : List Seen} {a : Derivation} → Gives limit source (productions n) w ts a v rest → Gives limit source (the n) w ts (node a) v rest
-  gives_the n g = record { reads = entered g.reads; are_sound = g.are_sound; leaves = g.leaves }
-
-  pub gives_left : {p q : GamsPart} {w v : Walk} {ts rest : List Seen} {a : Derivation} → leads productions look_ahead p ts ≡ true → Gives limit source p w ts a v rest → Gives limit source (p ∣ q) w ts (left a) v rest
-  gives_left h g = record { reads = in_left h g.reads; are_sound = g.are_sound; leaves = g.leaves }
-
-  pub gives_right : {p q : GamsPart} {w v : Walk} {ts rest : List Seen} {a : Derivation} → leads productions look_ahead p ts ≡ false → leads productions look_ahead q ts ≡ true → Gives limit source q w ts a v rest → Gives limit source (p ∣ q) w ts (right a) v rest
-  gives_right h k g = record { reads = in_right h k g.reads; are_sound = g.are_sound; leaves = g.leaves }
-
-  pub gives_none : {p : GamsPart} {w : Walk} {ts : List Seen} → leads productions look_ahead p ts ≡ false → Gives limit source (opt p) w ts none w ts
-  gives_none h = record { reads = left_out h; are_sound = tt; leaves = refl }
-
-  pub gives_some : {p : GamsPart} {w v : Walk} {ts rest : List Seen} {a : Derivation} → leads productions look_ahead p ts ≡ true → Gives limit source p w ts a v rest → Gives limit source (opt p) w ts (some a) v rest
-  gives_some h g = record { reads = there h g.reads; are_sound = g.are_sound; leaves = g.leaves }
-
-  pub gives_no_more : {p : GamsPart} {w : Walk} {ts : List Seen} → leads productions look_ahead p ts ≡ false → Gives limit source (many p) w ts none w ts
-  gives_no_more h = record { reads = no_more h; are_sound = tt; leaves = refl }
-
-  pub gives_again : {p : GamsPart} {w v x : Walk} {ts between rest : List Seen} {a b : Derivation} → leads productions look_ahead p ts ≡ true →
-      Gives limit source p w ts a v between → Gives limit source (many p) v between b x rest → Gives limit source (many p) w ts (more a b) x rest
-  gives_again {rest = rest} {b = b} l g h = record {
-    reads = again l g.reads h.reads;
-    are_sound = onward g (yield b) rest (given_parts h) h.are_sound;
-    leaves = h.leaves ∙ walk_on g (yield b) rest (given_parts h);
-  }
-
-  -- parts that were refused: each cause is handed on
-  pub by_cause : {p q : GamsPart} {w v : Walk} {ts us : List Seen} {e : SourceFaultOrMemory} →
-      Refuses limit source p w ts e →
-      ((fault : SourceFault) → IsStuck limit source p w ts fault → IsStuck limit source q v us fault) →
-      ((fault : SourceFault) → IsWrong limit source p w ts fault → IsWrong limit source q v us fault) → Refuses limit source q v us e
-  by_cause r f g = record { why = λ fault is. elim (r.why fault is) [ inl s ↦ inl (f fault s) | inr s ↦ inr (g fault s) ] }
-
-  -- a token is wrong, within a larger part that goes over the same tokens
-  pub wrong_as : {p q : GamsPart} {w : Walk} {ts : List Seen} {fault : SourceFault} → (s : IsWrong limit source p w ts fault) → Takes productions look_ahead q ts (s.before ++ s.token ∷ []) s.behind → IsWrong limit source q w ts fault
-  wrong_as s t = record { before = s.before; token = s.token; behind = s.behind; takes = t; are_sound = s.are_sound; is_faulty = s.is_faulty }
-
-  pub stuck_as : {p q : GamsPart} {w : Walk} {ts : List Seen} {fault : SourceFault} → (s : IsStuck limit source p w ts fault) → Reads productions look_ahead q ts (stuck s.front s.rest) → IsStuck limit source q w ts fault
-  stuck_as s r = record { front = s.front; rest = s.rest; reads = r; are_sound = s.are_sound; is = s.is }
-
-  -- the tokens behind a part, where a token there is wrong
-  pub wrong_parts : {p : GamsPart} {w : Walk} {ts : List Seen} {fault : SourceFault} → (s : IsWrong limit source p w ts fault) → ts ≡ s.before ++ s.token ∷ s.behind
-  wrong_parts s = takes_parts s.takes ∙ append_assoc s.before (s.token ∷ []) s.behind
-
-  -- a token is wrong behind a part
-  wrong_behind : {p q r : GamsPart} {w v : Walk} {ts between : List Seen} {a : Derivation} {fault : SourceFault} → Gives limit source p w ts a v between → (s : IsWrong limit source q v between fault) →
-      Takes productions look_ahead r ts (yield a ++ (s.before ++ s.token ∷ [])) s.behind → IsWrong limit source r w ts fault
-  wrong_behind {r = r} {ts = ts} {a = a} {fault = fault} g s t = record {
-    before = yield a ++ s.before;
-    token = s.token;
-    behind = s.behind;
-    takes = subst (λ x. Takes productions look_ahead r ts x s.behind) (sym (append_assoc (yield a) s.before (s.token ∷ []))) t;
-    are_sound = onward g s.before (s.token ∷ s.behind) (wrong_parts s) s.are_sound;
-    is_faulty = subst (λ (x : Walk). IsFaulty limit source x s.token (kind_of s.behind) fault) (walk_on g s.before (s.token ∷ s.behind) (wrong_parts s)) s.is_faulty;
-  }
-
-  pub refuses_first : {p q : GamsPart} {w : Walk} {ts : List Seen} {e : SourceFaultOrMemory} → Refuses limit source p w ts e → Refuses limit source (p · q) w ts e
-  refuses_first r = by_cause r (λ fault s. stuck_as s (first_stuck s.reads)) (λ fault s. wrong_as s (takes_first s.takes))
-
-  pub refuses_second : {p q : GamsPart} {w v : Walk} {ts between : List Seen} {a : Derivation} {e : SourceFaultOrMemory} → Gives limit source p w ts a v between → Refuses limit source q v between e → Refuses limit source (p · q) w ts e
-  refuses_second {a = a} g r = by_cause r
-      (λ fault s. record { front = yield a ++ s.front; rest = s.rest; reads = second_stuck g.reads s.reads; are_sound = onward g s.front s.rest (sound productions look_ahead s.reads) s.are_sound; is = s.is })
-      (λ fault s. wrong_behind g s (takes_second g.reads s.takes))
-
-  pub refuses_the : (n : Nonterminal) {w : Walk} {ts : List Seen} {e : SourceFaultOrMemory} → Refuses limit source (productions n) w ts e → Refuses limit source (the n) w ts e
-  refuses_the n r = by_cause r (λ fault s. stuck_as s (entered_stuck s.reads)) (λ fault s. wrong_as s (takes_the s.takes))
-
-  pub refuses_left : {p q : GamsPart} {w : Walk} {ts : List Seen} {e : SourceFaultOrMemory} → leads productions look_ahead p ts ≡ true → Refuses limit source p w ts e → Refuses limit source (p ∣ q) w ts e
-  refuses_left h r = by_cause r (λ fault s. stuck_as s (in_left_stuck h s.reads)) (λ fault s. wrong_as s (takes_left s.takes))
-
-  pub refuses_right : {p q : GamsPart} {w : Walk} {ts : List Seen} {e : SourceFaultOrMemory} → leads productions look_ahead p ts ≡ false → leads productions look_ahead q ts ≡ true → Refuses limit source q w ts e → Refuses limit source (p ∣ q) w ts e
-  refuses_right h k r = by_cause r (λ fault s. stuck_as s (in_right_stuck h k s.reads)) (λ fault s. wrong_as s (takes_right s.takes))
-
-  pub refuses_some : {p : GamsPart} {w : Walk} {ts : List Seen} {e : SourceFaultOrMemory} → leads productions look_ahead p ts ≡ true → Refuses limit source p w ts e → Refuses limit source (opt p) w ts e
-  refuses_some h r = by_cause r (λ fault s. stuck_as s (there_stuck h s.reads)) (λ fault s. wrong_as s (takes_opt s.takes))
-
-  pub refuses_again : {p : GamsPart} {w : Walk} {ts : List Seen} {e : SourceFaultOrMemory} → leads productions look_ahead p ts ≡ true → Refuses limit source p w ts e → Refuses limit source (many p) w ts e
-  refuses_again h r = by_cause r (λ fault s. stuck_as s (again_stuck h s.reads)) (λ fault s. wrong_as s (takes_many s.takes))
-
-  pub refuses_later : {p : GamsPart} {w v : Walk} {ts between : List Seen} {a : Derivation} {e : SourceFaultOrMemory} → leads productions look_ahead p ts ≡ true → Gives limit source p w ts a v between → Refuses limit source (many p) v between e → Refuses limit source (many p) w ts e
-  refuses_later {a = a} l g r = by_cause r
-      (λ fault s. record { front = yield a ++ s.front; rest = s.rest; reads = later_stuck l g.reads s.reads; are_sound = onward g s.front s.rest (sound productions look_ahead s.reads) s.are_sound; is = s.is })
-      (λ fault s. wrong_behind g s (takes_later g.reads s.takes))
+  -- one token was read
+  pub gives_one : {test : Terminal → Bool} {w v : Walk} {ts rest : List Seen} {token : Seen} → ts ≡ token ∷ rest → test token.0 ≡ true →
+      ((fault : SourceFault) → IsFaulty limit source w token (kind_of rest) fault → ⊥) → v ≡ walk_after source w token (kind_of rest) → Gives limit source (one test) w ts (leaf token) v rest
+  gives_one is h sound l = steps.gives_one {rules = source_rule} {key = (limit, source)} is h sound l
 
   -- nothing of a part was read, since the next token is unexpected
   pub refuses_at : {p : GamsPart} {w : Walk} {ts : List Seen} {e : SourceFaultOrMemory} → Reads productions look_ahead p ts (stuck [] ts) → e ≡ Fault (unexpected source ts) → Refuses limit source p w ts e
-  refuses_at {ts = ts} r is = record {
-    why = λ fault k.
-        let same : fault ≡ unexpected source ts = cc in
-        inl (record { front = []; rest = ts; reads = r; are_sound = tt; is = same });
-  }
+  refuses_at r is = steps.refuses_at {rules = source_rule} {key = (limit, source)} r (told_once is)
 
   -- the first token has a fault
   pub refuses_token : {p : GamsPart} {w : Walk} {ts rest : List Seen} {token : Seen} {found : SourceFault} {e : SourceFaultOrMemory} → Takes productions look_ahead p ts (token ∷ []) rest →
       IsFaulty limit source w token (kind_of rest) found → e ≡ Fault found → Refuses limit source p w ts e
-  refuses_token {w = w} {rest = rest} {token = token} {found = found} t f is = record {
-    why = λ fault k.
-        let same : fault ≡ found = cc in
-        inr (record { before = []; token = token; behind = rest; takes = t; are_sound = tt; is_faulty = subst (λ (x : SourceFault). IsFaulty limit source w token (kind_of rest) x) (sym same) f });
-  }
+  refuses_token t f is = steps.refuses_token {rules = source_rule} {key = (limit, source)} t f (told_once is)
 
   -- want of memory
   pub refuses_memory : {p : GamsPart} {w : Walk} {ts : List Seen} {e : SourceFaultOrMemory} → e ≡ Memory → Refuses limit source p w ts e
-  refuses_memory h = record { why = λ fault is. cc }
+  refuses_memory {e = e} h = record { why = λ fault k. let told : e ≡ Fault fault = k in cc }
 
-  -- one token was read
-  pub gives_one : {test : Terminal → Bool} {w v : Walk} {ts rest : List Seen} {token : Seen} → ts ≡ token ∷ rest → test token.0 ≡ true →
-      ((fault : SourceFault) → IsFaulty limit source w token (kind_of rest) fault → ⊥) → v ≡ walk_after source w token (kind_of rest) → Gives limit source (one test) w ts (leaf token) v rest
-  gives_one {test = test} {rest = rest} {token = token} is h sound l =
-      record { reads = subst (λ u. Reads productions look_ahead (one test) u (read (leaf token) rest)) (sym is) (taken h); are_sound = (sound, tt); leaves = l }
-
--- where a part is to be read within a larger one, and the tree around its tree
-pub record Within (limit : ℕ) (source : List ℕ) (part : GamsPart) (w : Walk) (ts : List Seen) (inner : GamsPart) (v : Walk) (rest : List Seen) (context : Derivation → Derivation) : Type 0 where
-  pub gives : (a : Derivation) (x : Walk) (behind : List Seen) → Gives limit source inner v rest a x behind → Gives limit source part w ts (context a) x behind
-  pub refuses : (e : SourceFaultOrMemory) → Refuses limit source inner v rest e → Refuses limit source part w ts e
-
-module _ {limit : ℕ} {source : List ℕ} where
-  pub within_the : (n : Nonterminal) {w : Walk} {ts : List Seen} → Within limit source (the n) w ts (productions n) w ts node
-  within_the n = record { gives = λ a x behind g. gives_the n g; refuses = λ e r. refuses_the n r }
-
-  pub within_second : {p q : GamsPart} {w v : Walk} {ts between : List Seen} {a : Derivation} → Gives limit source p w ts a v between → Within limit source (p · q) w ts q v between (λ b. pair a b)
-  within_second g = record { gives = λ a x behind h. gives_both g h; refuses = λ e r. refuses_second g r }
-
-  pub within_again : {p : GamsPart} {w v : Walk} {ts between : List Seen} {a : Derivation} → leads productions look_ahead p ts ≡ true → Gives limit source p w ts a v between → Within limit source (many p) w ts (many p) v between (λ b. more a b)
-  within_again l g = record { gives = λ a x behind h. gives_again l g h; refuses = λ e r. refuses_later l g r }
-
-  pub within_some : {p : GamsPart} {w : Walk} {ts : List Seen} → leads productions look_ahead p ts ≡ true → Within limit source (opt p) w ts p w ts some
-  within_some l = record { gives = λ a x behind h. gives_some l h; refuses = λ e r. refuses_some l r }
-
-  pub within_left : {p q : GamsPart} {w : Walk} {ts : List Seen} → leads productions look_ahead p ts ≡ true → Within limit source (p ∣ q) w ts p w ts left
-  within_left l = record { gives = λ a x behind h. gives_left l h; refuses = λ e r. refuses_left l r }
-
-  pub within_right : {p q : GamsPart} {w : Walk} {ts : List Seen} → leads productions look_ahead p ts ≡ false → leads productions look_ahead q ts ≡ true → Within limit source (p ∣ q) w ts q w ts right
-  within_right h l = record { gives = λ a x behind g. gives_right h l g; refuses = λ e r. refuses_right h l r }
-
-  pub within_then : {p q s : GamsPart} {w v x : Walk} {ts us vs : List Seen} {c d : Derivation → Derivation} → Within limit source p w ts q v us c → Within limit source q v us s x vs d → Within limit source p w ts s x vs (λ b. c (d b))
-  within_then {d = d} h k = record { gives = λ a y behind g. h.gives (d a) y behind (k.gives a y behind g); refuses = λ e r. h.refuses e (k.refuses e r) }
+-- A part was read at a place: what its tokens give, what they leave, what was read of it means, and the place behind it.
+pub got_by : {T : Type 0} {limit : ℕ} {Means : Sense → Derivation → T → Type 0} {Leaves : Walk → Type 0} {part : GamsPart} {reader : Reader} {at : ℕ} {new : Tables} {w v : Walk} {x : T} {next : ℕ} {tree : Derivation} →
+    Gives limit reader.source.now part w (seen_from reader at) tree v (seen_from reader next) → Leaves v → ((sense : Sense) → IsSense new sense → Means sense tree x) → at ≤ next → IsGot limit Means Leaves part reader at new w x next
+got_by {v = v} {tree = tree} gives leaves means further = record { tree = tree; behind = v; gives = gives; leaves = leaves; means = means; further = further }

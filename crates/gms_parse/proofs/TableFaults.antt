@@ -10,12 +10,12 @@ use Rattle.gms_parse.specs.declared.fault.SourceFault.{SourceFault}
 use Rattle.gms_parse.specs.Faults.{error_of_table}
 use Rattle.gms_parse.specs.Tables.{parts_of_tokens, IsLineFault}
 use Rattle.gms_parse.specs.Walks.{Seen}
-use Rattle.gms_parse.proofs.Orders.{Order, at_once, earlier, later, order, some_there}
+use Rattle.gms_grammar.proofs.Orders.{Order, at_once, earlier, later, order, some_there}
 
 -- the error of a number
 abbrev error_of_code : ℕ → TableError
 error_of_code n =
-    if n == 1 then NoColumn else (if n == 2 then TwoColumns else (if n == 3 then RepeatedEntry else (if n == 4 then BadRow else (if n == 5 then NoHeading else Labels))))
+    if n == 21 then NoColumn else (if n == 22 then TwoColumns else (if n == 23 then RepeatedEntry else (if n == 24 then BadRow else (if n == 25 then NoHeading else Labels))))
 
 error_is : (error : TableError) → error_of_code (error_code error) ≡ error
 error_is NoColumn = refl

@@ -4,17 +4,19 @@ use Rattle.std.proofs.lemmas.Bool.{cases_lt}
 use Rattle.gq_number.specs.Number.{Number as Rational}
 use Rattle.gms_labels.specs.Labels.{place_of, entered}
 use Rattle.gms_labels.proofs.Places.{place_of-entered}
-use Rattle.gms_table.specs.declared.entry.Entry.{Entry}
 use Rattle.gms_table.specs.declared.fault.TableError.{TableError}
 use Rattle.gms_table.specs.declared.fault.TableError.TheVariants.{NoColumn, TwoColumns, BadRow}
 use Rattle.gms_table.specs.declared.fault.TableFault.{TableFault}
 use Rattle.gms_table.specs.Faults.{error_code}
 use Rattle.gms_table.specs.Words.{Word}
 use Rattle.gms_table.specs.WordLabels.{AreNumbers, names_of, all_entered}
-use Rattle.gms_table.specs.CellNumbers.{IsValue}
+use Rattle.gms_table.specs.CellNumbers.{unsigned, signed, IsValue}
 use Rattle.gms_table.specs.TableEntries.{Part, name, cell, is_plus, under, table_of, texts_of, place_of_part, meet, met, IsEntry, AreEntries, Stands, AreSound, IsFirstFault}
 use Rattle.gms_table.proofs.LabelLemmas.{Stay, Stay-all_entered}
 use Rattle.gms_table.proofs.PartLemmas.{texts_of-append, AreSound-push}
+use Rattle.gms_expressions.specs.ExpressionTrees.{or_0}
+use Rattle.gms_expressions.proofs.Valued.{number_in_is}
+use Rattle.gms_parse.specs.Tables.{numbers_of, entry_under, entries_in}
 use Rattle.gms_parse.proofs.Decided.{value_told}
 
 -- ---- a table without a fault is sound
@@ -84,16 +86,10 @@ entered_placed labels (t ∷ texts) =
     let there : Placed (all_entered (entered labels t) texts) t = record { n = p.n; at = stay.stays t p.n p.at } in
     (there, entered_placed (entered labels t) texts)
 
--- the numbers of texts
-record Numbered (labels texts : List (List ℕ)) : Type 0 where
-  numbers : List ℕ
-  are : AreNumbers labels numbers texts
-
-numbered : (labels texts : List (List ℕ)) → ArePlaced labels texts → Numbered labels texts
-numbered labels [] h = record { numbers = []; are = refl }
-numbered labels (t ∷ texts) h =
-    let others = numbered labels texts h.1 in
-    record { numbers = h.0.n ∷ others.numbers; are = ap₂ (λ (a : Option ℕ) (b : List (Option ℕ)). a ∷ b) (sym h.0.at) others.are }
+-- these are the numbers of texts that have some
+numbered : (labels texts : List (List ℕ)) → ArePlaced labels texts → AreNumbers labels (numbers_of labels texts) texts
+numbered labels [] h = refl
+numbered labels (t ∷ texts) h = ap₂ (λ (a : Option ℕ) (b : List (Option ℕ)). a ∷ b) (ap (λ (o : Option ℕ). Some (or_0 o)) h.0.at ∙ sym h.0.at) (numbered labels texts h.1)
 
 -- ---- the rows and headings of numbers
 
@@ -165,41 +161,29 @@ module _ (labels : List (List ℕ)) where
 
   -- ---- entries
 
-  record SomeEntry (limit : ℕ) (row : Word) (headings : List Word) (word : Word) : Type 0 where
-    entry : Entry Rational
-    is : IsEntry limit (λ x. x) labels row headings word entry
-
-  pub record SomeEntries (limit : ℕ) (parts : List Part) : Type 0 where
-    pub entries : List (Entry Rational)
-    pub are : AreEntries limit (λ x. x) labels parts entries
-
   module _ (limit : ℕ) (old : List (List ℕ)) where
-    cell_entry : (before : List Part) (row : Word) (headings : List Word) (word : Word) → CellPlaced row headings → ((error : TableError) → Stands limit old before (cell row headings word) error → ⊥) → SomeEntry limit row headings word
+    cell_entry : (before : List Part) (row : Word) (headings : List Word) (word : Word) → CellPlaced row headings → ((error : TableError) → Stands limit old before (cell row headings word) error → ⊥) → IsEntry limit (λ x. x) labels row headings word (entry_under labels row word (met headings word))
     cell_entry before row headings word there none = by_value (value_told limit word.text)
       where
-        by_met : (x : Rational) → IsValue limit word.text x → (found : List Word) → met headings word ≡ found → HavePlaces found → SomeEntry limit row headings word
+        by_met : (x : Rational) → IsValue limit word.text x → (found : List Word) → met headings word ≡ found → HavePlaces found → IsEntry limit (λ x. x) labels row headings word (entry_under labels row word found)
         by_met x value [] e h = absurd (none NoColumn ((value.magnitude, value.means), e))
-        by_met x value (heading ∷ []) e h =
-            let rows = numbered labels (names_of row) there.row_there in
-            let columns = numbered labels (names_of heading) h.0 in
-            record {
-              entry = record { at = word.at; row = rows.numbers; column = columns.numbers; value = x };
-              is = record { heading = heading; under_one = e; at = refl; row_is = rows.are; column_is = columns.are; value_is = value };
-            }
+        by_met x value (heading ∷ []) e h = record {
+          heading = heading;
+          under_one = e;
+          at = refl;
+          row_is = numbered labels (names_of row) there.row_there;
+          column_is = numbered labels (names_of heading) h.0;
+          value_is = record { magnitude = value.magnitude; means = value.means; fits = value.fits; value = ap (signed word.text) (number_in_is (unsigned word.text) value.magnitude value.means) };
+        }
         by_met x value (heading ∷ (other ∷ others)) e h =
             let many : length (met headings word) ≡ suc (suc (length others)) = ap length e in
             absurd (none TwoColumns ((value.magnitude, value.means), omega (arith, many)))
 
-        by_value : ((x : Rational) × IsValue limit word.text x) ⊎ ((x : Rational) → IsValue limit word.text x → ⊥) → SomeEntry limit row headings word
+        by_value : ((x : Rational) × IsValue limit word.text x) ⊎ ((x : Rational) → IsValue limit word.text x → ⊥) → IsEntry limit (λ x. x) labels row headings word (entry_under labels row word (met headings word))
         by_value (inl v) = by_met v.0 v.1 (met headings word) refl (met_placed headings word there.headings_there)
         by_value (inr without) = absurd (none BadRow without)
 
-    pub entries_there : (before parts : List Part) → AreSound limit old before parts → CellsPlaced parts → SomeEntries limit parts
-    entries_there before [] sound placed = record { entries = []; are = refl }
-    entries_there before (name word ∷ parts) sound placed =
-        let others = entries_there (before ++ name word ∷ []) parts sound.1 placed in
-        record { entries = others.entries; are = others.are }
-    entries_there before (cell row headings word ∷ parts) sound placed =
-        let one = cell_entry before row headings word placed.0 sound.0 in
-        let others = entries_there (before ++ cell row headings word ∷ []) parts sound.1 placed.1 in
-        record { entries = one.entry ∷ others.entries; are = (one.is, others.are) }
+    pub entries_there : (before parts : List Part) → AreSound limit old before parts → CellsPlaced parts → AreEntries limit (λ x. x) labels parts (entries_in labels parts)
+    entries_there before [] sound placed = refl
+    entries_there before (name word ∷ parts) sound placed = entries_there (before ++ name word ∷ []) parts sound.1 placed
+    entries_there before (cell row headings word ∷ parts) sound placed = (cell_entry before row headings word placed.0 sound.0, entries_there (before ++ cell row headings word ∷ []) parts sound.1 placed.1)

@@ -1,17 +1,13 @@
 -- Tables: their lines, the entries that these give, and the statement.
-use Rattle.std.proofs.Common.{◌≡◌, ◌≢◌, ℕ, suc, ◌+◌, ◌≤◌, Bool, true, false, not, ◌&&◌, ◌||◌, cond, ltb, List, [], ◌∷◌, ◌++◌, map, reverse, take, take_while, length, string_bytes, string_len, All, Option as Maybe, Some, Vec, refl, sym, ap, ap₂, ◌∙◌, subst, arith, append_assoc, inl, inr, ◌⊎◌}
+use Rattle.std.proofs.Common.{◌≡◌, ℕ, suc, ◌+◌, ◌≤◌, Bool, true, false, not, ◌&&◌, ◌||◌, cond, List, [], ◌∷◌, ◌++◌, map, reverse, take, take_while, length, string_bytes, string_len, All, Option as Maybe, Vec, refl, sym, ap, ap₂, ◌∙◌, subst, arith, append_assoc, inl, inr, ◌⊎◌}
 use Rattle.std.specs.Str.{IsAscii}
 use Rattle.std.specs.List.{prefix_len}
 use Rattle.std.specs.declared.alloc.Global.{Global}
-use Rattle.std.proofs.lemmas.List.{append-nil, map-append, reverse-append}
+use Rattle.std.proofs.lemmas.List.{map-append, reverse-append}
 use Rattle.std.proofs.lemmas.List.Elements.{All-nil, All-cons, All-head, All-tail, All-append}
-use Rattle.gq_number.specs.Number.{Number as Rational, neg_ℚ}
-use Rattle.gms_labels.specs.Labels.{place_of}
+use Rattle.gq_number.specs.Number.{Number as Rational}
 use Rattle.gms_labels.specs.declared.place.Place.{Place}
 use Rattle.gms_lexemes.specs.declared.kind.Kind.{Kind}
-use Rattle.gms_lexemes.specs.declared.kind.Kind.TheVariants as token_kind
-use Rattle.gms_lexemes.specs.declared.kind.Sym.{Sym}
-use Rattle.gms_lexemes.specs.declared.kind.Sym.TheVariants as sym_kind
 use Rattle.gms_lex.specs.declared.token.Token.{Token}
 use Rattle.gms_lex.specs.TokenTexts.{token_text, IsSpelled}
 use Rattle.gms_ast.specs.declared.word.Named.{Named}
@@ -28,72 +24,51 @@ use Rattle.gms_table.specs.declared.fault.TableFault.{TableFault}
 use Rattle.gms_table.specs.declared.fault.TableFaultOrMemory.{TableFaultOrMemory}
 use Rattle.gms_table.specs.declared.fault.TableFaultOrMemory.TheVariants as answer
 use Rattle.gms_table.specs.Words.{Word, words_of}
-use Rattle.gms_table.specs.WordLabels.{AreNumbers, names_of}
 use Rattle.gms_table.specs.TableEntries as entries
-use Rattle.gms_table.specs.TableEntries.{Part, name as name_part, cell, table_of, parts_of, AreEntries, Stands, IsFirstFault, IsTable, IsRefusal}
+use Rattle.gms_table.specs.TableEntries.{Part, name as name_part, cell, table_of, parts_of, Stands, IsFirstFault, IsTable, IsRefusal}
 use Rattle.gms_grammar.specs.declared.terminal.Terminal.{Terminal}
-use Rattle.gms_grammar.specs.declared.terminal.Terminal.TheVariants.{Table, Name, Suffix, Text, LongText, Label, TableLine, Break, End}
+use Rattle.gms_grammar.specs.declared.terminal.Terminal.TheVariants.{Table, Name, Suffix, TableLine}
 use Rattle.gms_grammar.specs.Grammar.{the, ◌·◌, many, leaf, pair, none, more, node, yield}
 use Rattle.gms_grammar.specs.Reading.{read, leads, Reads, taken, takes_one}
 use Rattle.gms_grammar.specs.Terminals.{is, is_among}
 use Rattle.gms_grammar.specs.GamsGrammar.{Nonterminal, Expression, Domain, DomainList, DomainPosition, TableStatement, productions, token, name}
 use Rattle.gms_grammar.specs.GamsLookAhead.{look_ahead}
 use Rattle.gms_grammar.proofs.Sound.{sound}
-use Rattle.gms_expressions.specs.Words.{terminal_of, terminal_of_word, terminal_of_symbol}
 use Rattle.gms_expressions.specs.Outcomes.{next_place}
 use Rattle.gms_expressions.proofs.TokenKinds.{also}
-use Rattle.gms_parse.specs.declared.fault.SourceError.TheVariants.{NoHeading}
+use Rattle.gms_parse.specs.declared.fault.SourceError.TheVariants as source_error
+use Rattle.gms_table.specs.declared.fault.TableError.TheVariants.{NoHeading}
 use Rattle.gms_parse.specs.declared.fault.SourceFault.{SourceFault}
 use Rattle.gms_parse.specs.declared.fault.SourceFaultOrMemory.{SourceFaultOrMemory}
 use Rattle.gms_parse.specs.declared.fault.SourceFaultOrMemory.TheVariants.{Fault}
 use Rattle.gms_parse.specs.declared.reader.Reader.{Reader}
 use Rattle.gms_parse.specs.declared.reader.Tables.{Tables}
 use Rattle.gms_parse.specs.Faults.{error_of_table, fault_at, table_fault_at, fault_of_table}
-use Rattle.gms_parse.specs.Tables.{parts_of_tokens, labels_of_lines, IsLineFault, item_of_entry, AreTableItems}
+use Rattle.gms_parse.specs.Tables.{parts_of_tokens, labels_of_lines, IsLineFault, item_of_entry, entries_in, items_given}
 use Rattle.gms_parse.specs.TableReadings.{IsTableRead, IsTableRefused}
-use Rattle.gms_parse.specs.Declarations.{table_act, items_of_lines}
-use Rattle.gms_parse.specs.Outcomes.{IsTableOf, HaveItems, AreAllItems}
+use Rattle.gms_parse.specs.Declarations.{table_act}
 use Rattle.gms_table.specs.WordLabels.{all_entered}
 use Rattle.gms_parse.specs.Walks.{Seen, Walk, kind_ahead, last_kind, ends_statement, table_name, lines_with, walk_after, walk_behind, IsFaulty, deep, out_of_range, many_names, many_labels, in_table, without_lines}
 use Rattle.gms_parse.specs.Readings.{Derivation, Gives, Refuses, Sense, IsSense, Holds, Starts, Stays, IsNext, IsGot, IsLines, ends_head, seen_from, kind_of}
-use Rattle.gms_parse.specs.Meanings.{IsNamed, IsDomain, IsTabled, IsStatement}
+use Rattle.gms_parse.specs.Meanings.{IsNamed, IsDomain, IsAct}
 use Rattle.gms_parse.proofs.TokenKinds.{same_kind}
-use Rattle.gms_parse.proofs.Alphabet.{AllPass, pass_append, pass_front, pass_rest, only, all_pass}
-use Rattle.gms_parse.proofs.Spelled.{word_kind}
-use Rattle.gms_parse.proofs.TableItems.{entries_only}
-use Rattle.gms_parse.proofs.Steps.{gives_one, gives_both, gives_the, gives_no_more, gives_again, refuses_first, refuses_second, refuses_the, refuses_again, refuses_later, refuses_token, refuses_memory}
+use Rattle.gms_parse.proofs.Alphabet.{AllPass, only, all_pass}
+use Rattle.gms_parse.proofs.Spelled.{lone_as}
+use Rattle.gms_parse.proofs.TableItems.{items_only}
+use Rattle.gms_parse.proofs.TableFaults.{stands_not}
+use Rattle.gms_grammar.proofs.Orders.{some_there}
+use Rattle.gms_parse.proofs.Steps.{got_by, gives_one, gives_both, gives_the, gives_no_more, gives_again, refuses_first, refuses_second, refuses_the, refuses_again, refuses_later, refuses_token, refuses_memory}
 use Rattle.gms_parse.proofs.Nexts.{past, exact, gives_exact, begun_starts, earlier}
 use Rattle.gms_parse.proofs.Domains.{name_pushed, name_kept, not_no}
 use Rattle.gms_parse.proofs.Views.{view-Declare}
 
 -- ---- how lines are spelled
 
-line_symbol : (s : Sym) → terminal_of_symbol s ≡ TableLine → ⊥
-line_symbol sym_kind.EqE h = cc
-line_symbol _ h = cc
-
-line_text : (b : Bool) → cond b LongText Text ≡ TableLine → ⊥
-line_text true h = cc
-line_text false h = cc
-
-line_word : (text : List ℕ) → terminal_of_word text ≡ TableLine → ⊥
-line_word text h = let k : not (is_among (Label ∷ TableLine ∷ Break ∷ End ∷ []) TableLine) ≡ true = ap (λ kind. not (is_among (Label ∷ TableLine ∷ Break ∷ End ∷ []) kind)) (sym h) ∙ word_kind text in cc
-
-line_kind : (k : Kind) (text : List ℕ) → terminal_of k text ≡ TableLine → k ≡ token_kind.TableLine
-line_kind token_kind.Word text h = absurd (line_word text h)
-line_kind token_kind.Label text h = cc
-line_kind token_kind.Number text h = cc
-line_kind token_kind.Text text h = absurd (line_text (ltb 65 (length text)) h)
-line_kind (token_kind.Symbol symbol) text h = absurd (line_symbol symbol h)
-line_kind token_kind.Break text h = cc
-line_kind token_kind.TableLine text h = refl
-line_kind token_kind.End text h = cc
-
 -- a line is of ASCII, and short
 pub line_spelled : {reader : Reader} {at behind : ℕ} {t : Token} → IsNext (is TableLine) reader at t behind → IsAscii (token_text reader.source.now t) × (length (token_text reader.source.now t) ≤ 32768)
 line_spelled {reader = reader} {t = t} n =
     let text = token_text reader.source.now t in
-    let k = line_kind t.kind text (sym n.kind_is ∙ sym (same_kind TableLine n.kind n.passes)) in
+    let k = lone_as TableLine refl t.kind text (sym n.kind_is ∙ sym (same_kind TableLine n.kind n.passes)) in
     subst (λ (kind : Kind). IsSpelled kind text) k n.placed.spelled
 
 -- ---- lines that were read so far
@@ -150,14 +125,6 @@ lined_all (l ∷ ls) h =
     let k : l.0 ≡ TableLine = All-head (λ (line : Seen). line.0 ≡ TableLine) l ls h in
     record { tokens = l.1 ∷ others.tokens; are = ap₂ (λ (kind : Terminal) (us : List Seen). (kind, l.1) ∷ us) k others.are }
 
-all_lined : (ts : List Token) → All (λ line. line.0 ≡ TableLine) (map lined ts)
-all_lined [] = All-nil (λ line. line.0 ≡ TableLine)
-all_lined (t ∷ ts) = All-cons (λ line. line.0 ≡ TableLine) (lined t) (map lined ts) refl (all_lined ts)
-
-pass_lined : (ts : List Token) → AllPass (is TableLine) (map lined ts)
-pass_lined [] = tt
-pass_lined (t ∷ ts) = (refl, pass_lined ts)
-
 -- the tree of lines
 abbrev lines_tree : List Token → Derivation
 lines_tree [] = none
@@ -168,15 +135,15 @@ lines_yield [] = refl
 lines_yield (t ∷ ts) = ap (λ us. lined t ∷ us) (lines_yield ts)
 
 -- the lines that tokens end in, the last first
-abbrev run_of : List Seen → List Seen
+abbrev pub run_of : List Seen → List Seen
 run_of before = take_while (λ token. is TableLine token.0) before
 
-run_line : (t : Token) (before : List Seen) → run_of (lined t ∷ before) ≡ lined t ∷ run_of before
-run_line t before =
+pub run_one : (u : Seen) (before : List Seen) → is TableLine u.0 ≡ true → run_of (u ∷ before) ≡ u ∷ run_of before
+run_one u before h =
     let n = prefix_len (λ (token : Seen). is TableLine token.0) before in
-    ap (λ k. take k (lined t ∷ before)) (let e : 1 + n ≡ suc n = omega arith in e)
+    ap (λ b. take (cond b (1 + n) 0) (u ∷ before)) h ∙ ap (λ k. take k (u ∷ before)) (let e : 1 + n ≡ suc n = omega arith in e)
 
-run_other : (x : Seen) (before : List Seen) → is TableLine x.0 ≡ false → run_of (x ∷ before) ≡ []
+pub run_other : (x : Seen) (before : List Seen) → is TableLine x.0 ≡ false → run_of (x ∷ before) ≡ []
 run_other x before h = ap (λ b. take (cond b (1 + prefix_len (λ (token : Seen). is TableLine token.0) before) 0) (x ∷ before)) h
 
 -- within the lines of a table of which these were read, and whose name stands here
@@ -186,7 +153,7 @@ record AtLines (w : Walk) (run : List Seen) (at : Place) : Type 0 where
   behind : is Table (last_kind w.before) ≡ false
 
 lines_on : (source : List ℕ) {w : Walk} (t : Token) {run : List Seen} {at : Place} → AtLines w run at → AtLines (walk_after source w (lined t) TableLine) (lined t ∷ run) at
-lines_on source {w} t a = record { run_is = run_line t w.before ∙ ap (λ us. lined t ∷ us) a.run_is; named = name_pushed (lined t) w.before a.behind ∙ a.named; behind = refl }
+lines_on source {w} t a = record { run_is = run_one (lined t) w.before refl ∙ ap (λ us. lined t ∷ us) a.run_is; named = name_pushed (lined t) w.before a.behind ∙ a.named; behind = refl }
 
 -- a line before another has no fault
 line_sound : (limit : ℕ) (source : List ℕ) (w : Walk) (t : Token) (fault : SourceFault) → IsFaulty limit source w (lined t) TableLine fault → ⊥
@@ -212,8 +179,9 @@ ahead_other (t ∷ rest) h = h
 last_lines : (source : List ℕ) (w : Walk) (run : List Seen) (t : Token) → run_of w.before ≡ run → lines_with source w.before (lined t) ≡ reverse run ++ lined t ∷ []
 last_lines source w run t e = ap (λ us. reverse (lined t ∷ us)) e ∙ reverse-append (lined t ∷ []) run
 
-rerun : (run : List Seen) (t : Token) (ls : List Seen) → reverse (lined t ∷ run) ++ ls ≡ reverse run ++ (lined t ∷ ls)
-rerun run t ls = ap (λ us. us ++ ls) (reverse-append (lined t ∷ []) run) ∙ append_assoc (reverse run) (lined t ∷ []) ls
+-- tokens in the other order
+pub turned : (u : Seen) (us before : List Seen) → reverse (u ∷ us) ++ before ≡ reverse us ++ (u ∷ before)
+turned u us before = ap (λ (ws : List Seen). ws ++ before) (reverse-append (u ∷ []) us) ∙ append_assoc (reverse us) (u ∷ []) before
 
 -- the fault of all lines is that of the last one
 fault_of_last : (limit : ℕ) (source : List ℕ) (w : Walk) (run : List Seen) (at : Place) (t : Token) (fault : SourceFault) → AtLines w run at → IsLineFault limit source (table_name w.before) w.labels (lines_with source w.before (lined t)) fault → IsLineFault limit source at w.labels (reverse run ++ lined t ∷ []) fault
@@ -243,7 +211,7 @@ module _ (limit : ℕ) (source : List ℕ) (rest : List Seen) (unled : leads pro
   }
   lines_give t (u ∷ ts) w run at a none_there =
       let v = walk_after source w (lined t) TableLine in
-      let again = rerun run t (map lined (u ∷ ts)) in
+      let again = turned (lined t) run (map lined (u ∷ ts)) in
       let g = lines_give u ts v (lined t ∷ run) at (lines_on source t a) (λ fault f. none_there fault (subst (λ (ls : List Seen). IsLineFault limit source at w.labels ls fault) again f)) in
       record {
         behind = g.behind;
@@ -258,126 +226,15 @@ module _ (limit : ℕ) (source : List ℕ) (rest : List Seen) (unled : leads pro
   lines_wrong t [] w run at a fault f e is = refuses_again refl (refuses_token (takes_one refl) (in_table refl (ahead_other rest unled) (fault_for_last limit source w run at t fault a f)) is)
   lines_wrong t (u ∷ ts) w run at a fault f e is =
       refuses_later refl (gives_one refl refl (line_sound limit source w t) refl)
-      (lines_wrong u ts (walk_after source w (lined t) TableLine) (lined t ∷ run) at (lines_on source t a) fault (subst (λ (ls : List Seen). IsLineFault limit source at w.labels ls fault) (sym (rerun run t (map lined (u ∷ ts)))) f) e is)
+      (lines_wrong u ts (walk_after source w (lined t) TableLine) (lined t ∷ run) at (lines_on source t a) fault (subst (λ (ls : List Seen). IsLineFault limit source at w.labels ls fault) (sym (turned (lined t) run (map lined (u ∷ ts)))) f) e is)
 
--- ---- the lines among the tokens of the statement
+-- ---- kinds
 
 abbrev no_line : Terminal → Bool
 no_line kind = not (is TableLine kind)
 
 abbrev no_table : Terminal → Bool
 no_table kind = not (is Table kind)
-
-record LastOf (us : List Seen) : Type 0 where
-  others : List Seen
-  token : Seen
-  are : us ≡ others ++ token ∷ []
-  line : token.0 ≡ TableLine
-
-last_of : (b : Seen) (bs : List Seen) → AllPass (is TableLine) (b ∷ bs) → LastOf (b ∷ bs)
-last_of b [] h = record { others = []; token = b; are = refl; line = sym (same_kind TableLine b.0 h.0) }
-last_of b (c ∷ bs) h =
-    let k = last_of c bs h.1 in
-    record { others = b ∷ k.others; token = k.token; are = ap (λ us. b ∷ us) k.are; line = k.line }
-
--- behind tokens that are no lines these are the only lines
-only_lines : (front before : List Seen) (u : Token) (us : List Token) (behind : List Seen) (ts : List Token) → AllPass no_line front → front ++ map lined ts ≡ before ++ (map lined (u ∷ us) ++ behind) →
-    ((others : List Seen) (token : Seen) → before ≡ others ++ token ∷ [] → token.0 ≢ TableLine) → kind_ahead behind End ≢ TableLine → map lined (u ∷ us) ≡ map lined ts
-only_lines (f ∷ front) [] u us behind ts h e outside over =
-    let k : f ≡ lined u = cc in
-    let line : no_line f.0 ≡ false = ap (λ (x : Seen). no_line x.0) k in
-    let other = h.0 in
-    cc
-only_lines (f ∷ front) (b ∷ before) u us behind ts h e outside over =
-    let k : front ++ map lined ts ≡ before ++ (map lined (u ∷ us) ++ behind) = cc in
-    only_lines front before u us behind ts h.1 k (λ others token is. outside (b ∷ others) token (ap (λ vs. b ∷ vs) is)) over
-only_lines [] [] u us [] ts h e outside over = sym (e ∙ append-nil (map lined (u ∷ us)))
-only_lines [] [] u us (b ∷ behind) ts h e outside over =
-    let p = pass_rest (is TableLine) (map lined (u ∷ us)) (b ∷ behind) (subst (λ (vs : List Seen). AllPass (is TableLine) vs) e (pass_lined ts)) in
-    absurd (over (sym (same_kind TableLine b.0 p.0)))
-only_lines [] (b ∷ before) u us behind ts h e outside over =
-    let p = pass_front (is TableLine) (b ∷ before) (map lined (u ∷ us) ++ behind) (subst (λ (vs : List Seen). AllPass (is TableLine) vs) e (pass_lined ts)) in
-    let l = last_of b before p in
-    absurd (outside l.others l.token l.are l.line)
-
-lines_are : (tokens front : List Seen) (ts : List Token) (lines : List Seen) → tokens ≡ front ++ map lined ts → AllPass no_line front → IsTableOf tokens lines → lines ≡ map lined ts
-lines_are tokens front ts lines e h k = go (lined_all lines k.are_lines)
-  where
-    go : AreLined lines → lines ≡ map lined ts
-    go l = by l.tokens l.are
-      where
-        by : (us : List Token) → lines ≡ map lined us → lines ≡ map lined ts
-        by [] same = absurd (k.some same)
-        by (u ∷ us) same = same ∙ only_lines front k.before u us k.behind ts h (sym e ∙ k.parts ∙ ap (λ vs. (k.before ++ vs) ++ k.behind) same ∙ append_assoc k.before (map lined (u ∷ us)) k.behind) k.none_before k.none_behind
-
--- where there are no lines there is no table
-no_lines : (tokens lines : List Seen) → AllPass no_line tokens → IsTableOf tokens lines → ⊥
-no_lines tokens lines h k = go (lined_all lines k.are_lines)
-  where
-    go : AreLined lines → ⊥
-    go l = by l.tokens l.are
-      where
-        by : (us : List Token) → lines ≡ map lined us → ⊥
-        by [] same = k.some same
-        by (u ∷ us) same =
-            let p = pass_rest no_line k.before (map lined (u ∷ us) ++ k.behind) (subst (λ (vs : List Seen). AllPass no_line vs) (k.parts ∙ ap (λ vs. (k.before ++ vs) ++ k.behind) same ∙ append_assoc k.before (map lined (u ∷ us)) k.behind) h) in
-            let q = p.0 in
-            cc
-
--- the lines are a table
-table_there : (tokens front : List Seen) (t : Token) (ts : List Token) → tokens ≡ front ++ map lined (t ∷ ts) → AllPass no_line front → IsTableOf tokens (map lined (t ∷ ts))
-table_there tokens front t ts e h = record {
-  before = front;
-  behind = [];
-  parts = e ∙ sym (append-nil (front ++ map lined (t ∷ ts)));
-  are_lines = all_lined (t ∷ ts);
-  some = λ is. let bad : lined t ∷ map lined ts ≡ [] = is in cc;
-  none_before = λ others token is line.
-      let p = (pass_rest no_line others (token ∷ []) (subst (λ (vs : List Seen). AllPass no_line vs) is h)).0 in
-      let q : no_line token.0 ≡ false = ap no_line line in
-      cc;
-  none_behind = λ is. cc;
-}
-
--- ---- entries
-
--- an entry over numbers
-abbrev entry_in : {F : Type 0} → (F → Rational) → Entry F → Entry Rational
-entry_in value e = record { at = e.at; row = e.row; column = e.column; value = value e.value }
-
-abbrev Keep : List (List ℕ) → List (List ℕ) → Type 0
-Keep labels later = (text : List ℕ) (n : ℕ) → place_of labels text ≡ Some n → place_of later text ≡ Some n
-
-numbers_kept : (labels later : List (List ℕ)) → Keep labels later → (ns : List ℕ) (texts : List (List ℕ)) → AreNumbers labels ns texts → AreNumbers later ns texts
-numbers_kept labels later keep [] [] h = refl
-numbers_kept labels later keep [] (text ∷ texts) h = let bad : [] ≡ place_of labels text ∷ map (place_of labels) texts = h in cc
-numbers_kept labels later keep (n ∷ ns) [] h = let bad : Some n ∷ map Some ns ≡ [] = h in cc
-numbers_kept labels later keep (n ∷ ns) (text ∷ texts) h =
-    let whole : Some n ∷ map Some ns ≡ place_of labels text ∷ map (place_of labels) texts = h in
-    let first : Some n ≡ place_of labels text = cc in
-    let others : map Some ns ≡ map (place_of labels) texts = cc in
-    ap₂ (λ a b. a ∷ b) (sym (keep text n (sym first))) (numbers_kept labels later keep ns texts others)
-
-entries_kept : {F : Type 0} (limit : ℕ) (value : F → Rational) (labels later : List (List ℕ)) → Keep labels later → (parts : List Part) (es : List (Entry F)) → AreEntries limit value labels parts es → AreEntries limit (λ x. x) later parts (map (entry_in value) es)
-entries_kept limit value labels later keep [] es h = ap (map (entry_in value)) h
-entries_kept limit value labels later keep (name_part word ∷ parts) es h = entries_kept limit value labels later keep parts es h
-entries_kept limit value labels later keep (cell row headings word ∷ parts) [] h = absurd h
-entries_kept limit value labels later keep (cell row headings word ∷ parts) (e ∷ es) h =
-    let k = h.0 in (
-      record {
-        heading = k.heading;
-        under_one = k.under_one;
-        at = k.at;
-        row_is = numbers_kept labels later keep e.row (names_of row) k.row_is;
-        column_is = numbers_kept labels later keep e.column (names_of k.heading) k.column_is;
-        value_is = k.value_is;
-      },
-      entries_kept limit value labels later keep parts es h.1,
-    )
-
-items_shown : {F : Type 0} (value : F → Rational) (es : List (Entry F)) → map (item_in value) (map item_of_entry es) ≡ map item_of_entry (map (entry_in value) es)
-items_shown value [] = refl
-items_shown value (e ∷ es) = ap (λ us. item_in value (item_of_entry e) ∷ us) (items_shown value es)
 
 -- ---- the words of the lines
 
@@ -412,15 +269,6 @@ told limit labels error.TwoColumns at place before part h = refl
 told limit labels error.RepeatedEntry at place before part h = refl
 told limit labels error.BadRow at place before part h = refl
 told limit labels error.Labels at place before part h = refl
-
--- a sound part has no fault
-sound_none : (limit : ℕ) (labels : List (List ℕ)) (pre before : List Part) (part : Part) (behind : List Part) → entries.AreSound limit labels pre (before ++ part ∷ behind) → (found : TableError) → Stands limit labels (pre ++ before) part found → ⊥
-sound_none limit labels pre [] part behind h found s = h.0 found (subst (λ (ps : List Part). Stands limit labels ps part found) (append-nil pre) s)
-sound_none limit labels pre (p ∷ before) part behind h found s = sound_none limit labels (pre ++ p ∷ []) before part behind h.1 found (subst (λ (ps : List Part). Stands limit labels ps part found) (sym (append_assoc pre (p ∷ []) before)) s)
-
-no_parts : (before : List Part) (part : Part) (behind : List Part) → [] ≡ before ++ part ∷ behind → ⊥
-no_parts [] part behind e = cc
-no_parts (p ∷ before) part behind e = cc
 
 -- ---- what stands before the lines
 
@@ -467,7 +315,7 @@ module _ {reader : Reader} {at start : ℕ} {t : Token} {old : Tables} {w : Walk
 -- what an answer of a domain is
 abbrev DomainAnswer : ℕ → Reader → Tables → Walk → ℕ → Vec (Maybe Named) Global → ℕ → Type 0
 DomainAnswer limit reader new walk at domain after =
-    (ends_head walk (seen_from reader after) ≡ false → IsGot limit (IsDomain reader.source.now) (Stays reader new walk) (the Domain) reader at new walk domain after) × (ends_head walk (seen_from reader after) ≡ true → is Table (last_kind walk.before) ≡ false → Refuses limit reader.source.now (the Domain) walk (seen_from reader at) (Fault (record { error = NoHeading; at = table_name walk.before })))
+    (ends_head walk (seen_from reader after) ≡ false → IsGot limit (IsDomain reader.source.now) (Stays reader new walk) (the Domain) reader at new walk domain after) × (ends_head walk (seen_from reader after) ≡ true → is Table (last_kind walk.before) ≡ false → Refuses limit reader.source.now (the Domain) walk (seen_from reader at) (Fault (record { error = source_error.Table NoHeading; at = table_name walk.before })))
 
 module _ {limit : ℕ} {reader : Reader} {at start : ℕ} {t : Token} (w : Walk) (n : IsNext (is Table) reader at t start) {mid : Tables} {named : Named} {middle : ℕ} (m : IsGot limit (IsNamed reader.source.now) (Stays reader mid (past reader w Table t start)) name reader start mid (past reader w Table t start) named middle) where
   pub table_refused : {e : SourceFaultOrMemory} → Refuses limit reader.source.now (the Domain · many (token TableLine)) m.behind (seen_from reader middle) e → Refuses limit reader.source.now (the TableStatement) w (seen_from reader at) e
@@ -500,52 +348,34 @@ module _ {limit : ℕ} {reader : Reader} {at start : ℕ} {t : Token} (w : Walk)
       behind = ap (λ (x : Walk). is Table (last_kind x.before)) d.gives.leaves ∙ last_kept reader.source.now m.behind (yield d.tree) (kind_of (seen_from reader after)) domain_tableless not_table;
     }
 
-    abbrev front : List Seen
-    front = (Table, t) ∷ (yield m.tree ++ yield d.tree)
-
-    front_lineless : AllPass no_line front
-    front_lineless = (refl, pass_append no_line (yield m.tree) (yield d.tree) (all_pass in_domain no_line domains_no_line name m.tree (sound productions look_ahead m.gives.reads).0 refl) domain_lineless)
-
     abbrev statement_tree : List Token → Derivation
     statement_tree ts = node (pair (leaf (Table, t)) (pair m.tree (pair d.tree (lines_tree ts))))
-
-    statement_yield : (ts : List Token) → yield (statement_tree ts) ≡ front ++ map lined ts
-    statement_yield ts = ap (λ u. (Table, t) ∷ (yield m.tree ++ (yield d.tree ++ u))) (lines_yield ts) ∙ ap (λ u. (Table, t) ∷ u) (sym (append_assoc (yield m.tree) (yield d.tree) (map lined ts)))
 
     module _ {F : Type 0} (value : F → Rational) where
       -- the statement, by what its lines give
       table_got : (ts : List Token) {v : Walk} {next : ℕ} → Gives limit reader.source.now (many (token TableLine)) d.behind (seen_from reader after) (lines_tree ts) v (seen_from reader next) → {last : Tables} → Holds reader last v → after ≤ next → (items : List (Item F)) →
-          ((sense : Sense) → IsSense last sense → HaveItems limit reader.source.now sense.labels (yield (statement_tree ts))) →
-          ((sense : Sense) → IsSense last sense → (table_items : List Seen → List (Item Rational)) → AreAllItems limit reader.source.now sense.labels (yield (statement_tree ts)) table_items → map (item_in value) items ≡ items_of_lines reader.source.now sense.names sense.labels sense.value neg_ℚ table_items (yield (lines_tree ts))) →
-          IsGot limit (IsTabled value reader.source.now limit (IsStatement value reader.source.now table_act)) (Holds reader last) (the TableStatement) reader at last w (act.Declare kind.Table (record { named = named; domain = domain.items; items = items } ∷ [])) next
-      table_got ts {v} {next} g {last} holds ahead items have shown = record {
-        tree = statement_tree ts;
-        behind = v;
-        gives = gives_the TableStatement (gives_both (gives_exact n refl) (gives_both m.gives (gives_both d.gives g)));
-        leaves = holds;
-        means = λ sense s.
-            let s2 = earlier g d.leaves.has.holds holds s in
-            let s1 = earlier d.gives m.leaves.has.holds d.leaves.has.holds s2 in
-            record {
-              have = have sense s;
-              means = λ table_items all.
-                  view-Declare value kind.Table (record { named = named; domain = domain.items; items = items } ∷ []) ∙ ap₂ (λ (a : Named × List (Maybe Named)) (b : List (Item Rational)). declares kind.Table (record { named = a.0; domain = a.1; items = b } ∷ [])) (ap₂ (λ (a : Named) (b : List (Maybe Named)). (a, b)) (m.means sense s1) (d.means sense s2)) (shown sense s table_items all);
-            };
-        further = (let a = n.further in let b = m.further in let c = d.further in let e = ahead in omega arith);
-      }
+          ((sense : Sense) → IsSense last sense → map (item_in value) items ≡ items_given reader.source.now sense.labels (map lined ts)) →
+          IsGot limit (IsAct value reader.source.now table_act) (Holds reader last) (the TableStatement) reader at last w (act.Declare kind.Table (record { named = named; domain = domain.items; items = items } ∷ [])) next
+      table_got ts {v} {next} g {last} holds ahead items shown = got_by (gives_the TableStatement (gives_both (gives_exact n refl) (gives_both m.gives (gives_both d.gives g)))) holds
+          (λ sense s.
+          let s2 = earlier g d.leaves.has.holds holds s in
+          let s1 = earlier d.gives m.leaves.has.holds d.leaves.has.holds s2 in
+          view-Declare value kind.Table (record { named = named; domain = domain.items; items = items } ∷ [])
+          ∙ ap₂ (λ (a : Named × List (Maybe Named)) (b : List (Item Rational)). declares kind.Table (record { named = a.0; domain = a.1; items = b } ∷ []))
+          (ap₂ (λ (a : Named) (b : List (Maybe Named)). (a, b)) (m.means sense s1) (d.means sense s2)) (shown sense s ∙ ap (items_given reader.source.now sense.labels) (sym (lines_yield ts))))
+          (let a = n.further in let b = m.further in let c = d.further in let e = ahead in omega arith)
 
       -- none where it has no lines
       table_empty : {next : ℕ} → seen_from reader after ≡ seen_from reader next → leads productions look_ahead (token TableLine) (seen_from reader next) ≡ false → after ≤ next → {last : Tables} → last.names ≡ new.names → last.labels ≡ new.labels → (items : List (Item F)) → items ≡ [] →
-          IsGot limit (IsTabled value reader.source.now limit (IsStatement value reader.source.now table_act)) (Holds reader last) (the TableStatement) reader at last w (act.Declare kind.Table (record { named = named; domain = domain.items; items = items } ∷ [])) next
+          IsGot limit (IsAct value reader.source.now table_act) (Holds reader last) (the TableStatement) reader at last w (act.Declare kind.Table (record { named = named; domain = domain.items; items = items } ∷ [])) next
       table_empty {next} same unled ahead {last} names labels items none_there =
           let holds = d.leaves.has.holds in
-          let pass = subst (λ (us : List Seen). AllPass no_line us) (sym (statement_yield [])) (pass_append no_line front [] front_lineless tt) in
           table_got [] (subst (λ (us : List Seen). Gives limit reader.source.now (many (token TableLine)) d.behind us none d.behind (seen_from reader next)) (sym same) (gives_no_more unled)) (record { open_count = holds.open_count; names = holds.names ∙ sym names; labels = holds.labels ∙ sym labels }) ahead items
-          (λ sense s lines k. absurd (no_lines (yield (statement_tree [])) lines pass k)) (λ sense s table_items all. ap (map (item_in value)) none_there)
+          (λ sense s. ap (map (item_in value)) none_there)
 
       -- the items that its lines give
       table_full : {next : ℕ} {lines : List Line} (k : IsLines reader after lines next) (u : Token) (us : List Token) → k.seen_lines ≡ map lined (u ∷ us) → {last : Tables} → last.names ≡ new.names → (es : List (Entry F)) → IsTable limit value lines new.labels last.labels es → (items : List (Item F)) → items ≡ map item_of_entry es →
-          IsGot limit (IsTabled value reader.source.now limit (IsStatement value reader.source.now table_act)) (Holds reader last) (the TableStatement) reader at last w (act.Declare kind.Table (record { named = named; domain = domain.items; items = items } ∷ [])) next
+          IsGot limit (IsAct value reader.source.now table_act) (Holds reader last) (the TableStatement) reader at last w (act.Declare kind.Table (record { named = named; domain = domain.items; items = items } ∷ [])) next
       table_full {next} {lines} k u us are {last} names es tb items items_are =
           let source = reader.source.now in
           let holds = d.leaves.has.holds in
@@ -556,21 +386,16 @@ module _ {limit : ℕ} {reader : Reader} {at start : ℕ} {t : Token} (w : Walk)
           let labels : g.behind.labels ≡ last.labels = g.labels ∙ ap₂ (λ a b. all_entered a (entries.texts_of b)) holds.labels (sym parts) ∙ sym tb.labels_are in
           table_got (u ∷ us) (subst (λ (vs : List Seen). Gives limit source (many (token TableLine)) d.behind vs (lines_tree (u ∷ us)) g.behind (seen_from reader next)) (sym same) g.gives)
           (record { open_count = g.open_count ∙ holds.open_count; names = g.names ∙ holds.names ∙ sym names; labels = labels }) k.further items
-          (λ sense s others j. subst (λ (vs : List Seen). (its : List (Item Rational)) × AreTableItems limit source sense.labels vs its) (sym (lines_are (yield (statement_tree (u ∷ us))) front (u ∷ us) others (statement_yield (u ∷ us)) front_lineless j))
-          (map item_of_entry (map (entry_in value) es), (map (entry_in value) es, kept parts sense.labels (λ text i p. s.labels text i p), refl)))
-          (λ sense s table_items all.
-          let whole = all ls (table_there (yield (statement_tree (u ∷ us))) front u us (statement_yield (u ∷ us)) front_lineless) in
-          ap (map (item_in value)) items_are ∙ items_shown value es ∙ ap (map item_of_entry) (entries_only sense.labels limit (parts_of_tokens source ls) (map (entry_in value) es) (kept parts sense.labels (λ text i p. s.labels text i p)) ∙ sym (entries_only sense.labels limit (parts_of_tokens source ls) whole.0 whole.1)) ∙ sym whole.2 ∙ ap table_items (sym (lines_yield (u ∷ us))))
+          (λ sense s.
+          ap (map (item_in value)) items_are ∙ items_only limit value last.labels sense.labels (λ text i p. s.labels text i p) (parts_of lines) es tb.entries_are
+          ∙ ap (λ (ps : List Part). map item_of_entry (entries_in sense.labels ps)) parts)
         where
-          kept : {ps : List Part} → parts_of lines ≡ ps → (later : List (List ℕ)) → Keep last.labels later → AreEntries limit (λ x. x) later ps (map (entry_in value) es)
-          kept parts later keep = subst (λ (ps : List Part). AreEntries limit (λ x. x) later ps (map (entry_in value) es)) parts (entries_kept limit value last.labels later keep (parts_of lines) es tb.entries_are)
-
           fault_none : {ps : List Part} {ls : List (List ℕ)} → parts_of lines ≡ ps → ls ≡ new.labels → (parts_of lines ≡ [] → ⊥) → entries.AreSound limit new.labels [] (parts_of lines) → (fault : SourceFault) →
-              ((ps ≡ []) × (fault ≡ record { error = NoHeading; at = next_place reader.source.now (seen_from reader start) })) ⊎ ((found : TableFault) × IsFirstFault limit ls ps found × (fault ≡ record { error = error_of_table found.error; at = found.at })) → ⊥
+              ((ps ≡ []) × (fault ≡ record { error = source_error.Table NoHeading; at = next_place reader.source.now (seen_from reader start) })) ⊎ ((found : TableFault) × IsFirstFault limit ls ps found × (fault ≡ record { error = error_of_table found.error; at = found.at })) → ⊥
           fault_none parts labels headed clean fault (inl f) = headed (parts ∙ f.0)
           fault_none {ps} {ls} parts labels headed clean fault (inr f) =
               let first : IsFirstFault limit new.labels ps f.0 = subst (λ (x : List (List ℕ)). IsFirstFault limit x ps f.0) labels f.1 in
-              sound_none limit new.labels [] first.before first.part first.behind (subst (λ (x : List Part). entries.AreSound limit new.labels [] x) (parts ∙ first.parts_are) clean) f.0.error first.stands
+              stands_not limit new.labels [] first.before first.part first.behind f.0.error (subst (λ (x : List Part). entries.AreSound limit new.labels [] x) (parts ∙ first.parts_are) clean) first.stands
 
   -- ---- a table that is refused, and one that is read
 
@@ -586,10 +411,10 @@ module _ {limit : ℕ} {reader : Reader} {at start : ℕ} {t : Token} (w : Walk)
     refused_empty are {e} ends (answer.Fault fault) (inl r) is =
         let same : seen_from reader after ≡ seen_from reader next = k.is ∙ ap (λ vs. vs ++ seen_from reader next) are in
         let place = next_place reader.source.now (seen_from reader start) in
-        let told_is : e ≡ fault_at NoHeading place = is ∙ ap (λ (f : TableFault). table_fault_at f.error f.at place) r.1 in
+        let told_is : e ≡ fault_at (source_error.Table NoHeading) place = is ∙ ap (λ (f : TableFault). table_fault_at f.error f.at place) r.1 in
         let refuses = dd.1 (ends_is (seen_from reader after) ∙ ap (λ ts. ends_statement (kind_of ts)) same ∙ ends) not_table in
-        table_refused (refuses_first (subst (λ (x : SourceFaultOrMemory). Refuses limit reader.source.now (the Domain) m.behind (seen_from reader middle) x) (ap (λ (p : Place). Fault (record { error = NoHeading; at = p })) named_at ∙ sym told_is) refuses))
-    refused_empty are ends (answer.Fault fault) (inr r) is = absurd (no_parts r.before r.part r.behind (sym (ap parts_of (no_seen are)) ∙ r.parts_are))
+        table_refused (refuses_first (subst (λ (x : SourceFaultOrMemory). Refuses limit reader.source.now (the Domain) m.behind (seen_from reader middle) x) (ap (λ (p : Place). Fault (record { error = source_error.Table NoHeading; at = p })) named_at ∙ sym told_is) refuses))
+    refused_empty are ends (answer.Fault fault) (inr r) is = absurd (some_there r.before r.part r.behind (sym (ap parts_of (no_seen are)) ∙ r.parts_are))
 
     refused_full : (u : Token) (us : List Token) → k.seen_lines ≡ map lined (u ∷ us) → {e : SourceFaultOrMemory} → (found : TableFaultOrMemory) → IsRefusal limit lines new.labels found → e ≡ fault_of_table found (next_place reader.source.now (seen_from reader start)) → Refuses limit reader.source.now (the TableStatement) w (seen_from reader at) e
     refused_full u us are answer.Memory r is = table_refused (refuses_memory is)
@@ -604,10 +429,10 @@ module _ {limit : ℕ} {reader : Reader} {at start : ℕ} {t : Token} (w : Walk)
         (lines_wrong limit reader.source.now (seen_from reader next) k.none_behind u us d.behind [] place (at_lines d) f.0 f.1 e f.2)))
       where
         line_fault : {ps : List Part} {labels : List (List ℕ)} → parts_of lines ≡ ps → labels ≡ new.labels → ((parts_of lines ≡ []) × (fault ≡ record { error = error.NoHeading; at = entries.nowhere })) ⊎ IsFirstFault limit new.labels (parts_of lines) fault → e ≡ table_fault_at fault.error fault.at (next_place reader.source.now (seen_from reader start)) →
-            (told_of : SourceFault) × (((ps ≡ []) × (told_of ≡ record { error = NoHeading; at = next_place reader.source.now (seen_from reader start) })) ⊎ ((found : TableFault) × IsFirstFault limit labels ps found × (told_of ≡ record { error = error_of_table found.error; at = found.at }))) × (e ≡ Fault told_of)
+            (told_of : SourceFault) × (((ps ≡ []) × (told_of ≡ record { error = source_error.Table NoHeading; at = next_place reader.source.now (seen_from reader start) })) ⊎ ((found : TableFault) × IsFirstFault limit labels ps found × (told_of ≡ record { error = error_of_table found.error; at = found.at }))) × (e ≡ Fault told_of)
         line_fault parts labels (inl r) is =
             let place = next_place reader.source.now (seen_from reader start) in
-            (record { error = NoHeading; at = place }, inl (sym parts ∙ r.0, refl), is ∙ ap (λ (f : TableFault). table_fault_at f.error f.at place) r.1)
+            (record { error = source_error.Table NoHeading; at = place }, inl (sym parts ∙ r.0, refl), is ∙ ap (λ (f : TableFault). table_fault_at f.error f.at place) r.1)
         line_fault {ps} {labels} parts same (inr r) is =
             let place = next_place reader.source.now (seen_from reader start) in
             let first : IsFirstFault limit labels ps fault = subst (λ (x : List (List ℕ)). IsFirstFault limit x ps fault) (sym same) (subst (λ (x : List Part). IsFirstFault limit new.labels x fault) parts r) in
@@ -622,7 +447,7 @@ module _ {limit : ℕ} {reader : Reader} {at start : ℕ} {t : Token} (w : Walk)
 
     module _ {F : Type 0} (value : F → Rational) {last : Tables} (names : last.names ≡ new.names) (items : List (Item F)) (es : List (Entry F)) (items_are : items ≡ map item_of_entry es) where
       read_empty : k.seen_lines ≡ [] → ((lines ≡ []) × (ends_statement (kind_of (seen_from reader next)) ≡ false) × (es ≡ []) × (last.labels ≡ new.labels)) ⊎ IsTable limit value lines new.labels last.labels es →
-          IsGot limit (IsTabled value reader.source.now limit (IsStatement value reader.source.now table_act)) (Holds reader last) (the TableStatement) reader at last w (act.Declare kind.Table (record { named = named; domain = domain.items; items = items } ∷ [])) next
+          IsGot limit (IsAct value reader.source.now table_act) (Holds reader last) (the TableStatement) reader at last w (act.Declare kind.Table (record { named = named; domain = domain.items; items = items } ∷ [])) next
       read_empty are (inl e) =
           let same : seen_from reader after ≡ seen_from reader next = k.is ∙ ap (λ vs. vs ++ seen_from reader next) are in
           let d = dd.0 (ends_is (seen_from reader after) ∙ ap (λ ts. ends_statement (kind_of ts)) same ∙ e.1) in
@@ -630,15 +455,15 @@ module _ {limit : ℕ} {reader : Reader} {at start : ℕ} {t : Token} (w : Walk)
       read_empty are (inr tb) = absurd (tb.headed (ap parts_of (no_seen are)))
 
       read_full : (u : Token) (us : List Token) → k.seen_lines ≡ map lined (u ∷ us) → ((lines ≡ []) × (ends_statement (kind_of (seen_from reader next)) ≡ false) × (es ≡ []) × (last.labels ≡ new.labels)) ⊎ IsTable limit value lines new.labels last.labels es →
-          IsGot limit (IsTabled value reader.source.now limit (IsStatement value reader.source.now table_act)) (Holds reader last) (the TableStatement) reader at last w (act.Declare kind.Table (record { named = named; domain = domain.items; items = items } ∷ [])) next
+          IsGot limit (IsAct value reader.source.now table_act) (Holds reader last) (the TableStatement) reader at last w (act.Declare kind.Table (record { named = named; domain = domain.items; items = items } ∷ [])) next
       read_full u us are (inl e) = absurd (some_texts reader.source.now lines u us e.0 (k.texts ∙ ap (map {B = ℕ × List ℕ} (λ line. (line.1.at.line, token_text reader.source.now line.1))) are))
       read_full u us are (inr tb) = table_full (headed u us are) value k u us are names es tb items items_are
 
       read_by : (us : List Token) → k.seen_lines ≡ map lined us → ((lines ≡ []) × (ends_statement (kind_of (seen_from reader next)) ≡ false) × (es ≡ []) × (last.labels ≡ new.labels)) ⊎ IsTable limit value lines new.labels last.labels es →
-          IsGot limit (IsTabled value reader.source.now limit (IsStatement value reader.source.now table_act)) (Holds reader last) (the TableStatement) reader at last w (act.Declare kind.Table (record { named = named; domain = domain.items; items = items } ∷ [])) next
+          IsGot limit (IsAct value reader.source.now table_act) (Holds reader last) (the TableStatement) reader at last w (act.Declare kind.Table (record { named = named; domain = domain.items; items = items } ∷ [])) next
       read_by [] are = read_empty are
       read_by (u ∷ us) are = read_full u us are
 
     pub table_read : {F : Type 0} (value : F → Rational) {last : Tables} → last.names ≡ new.names → {items : List (Item F)} → IsTableRead limit value lines (ends_statement (kind_of (seen_from reader next))) new.labels last.labels items →
-        IsGot limit (IsTabled value reader.source.now limit (IsStatement value reader.source.now table_act)) (Holds reader last) (the TableStatement) reader at last w (act.Declare kind.Table (record { named = named; domain = domain.items; items = items } ∷ [])) next
+        IsGot limit (IsAct value reader.source.now table_act) (Holds reader last) (the TableStatement) reader at last w (act.Declare kind.Table (record { named = named; domain = domain.items; items = items } ∷ [])) next
     table_read value names {items} r = let l = lined_all k.seen_lines k.are_lines in read_by value names items r.entries r.items_are l.tokens l.are r.entries_are

@@ -14,7 +14,7 @@ use Rattle.gms_expressions.proofs.TokenKinds.{implies, also, same_number}
 use Rattle.gms_expressions.proofs.Leading.{unless}
 pub use Rattle.gms_expressions.proofs.TokenKinds.{leads_by_kind}
 pub use Rattle.gms_expressions.proofs.Leading.{leads_of, IsNone, not_among, leads_of_none}
-pub use Rattle.gms_expressions.proofs.Nexts.{unled_next}
+pub use Rattle.gms_grammar.proofs.Eithers.{unled_next}
 use Rattle.gms_parse.specs.Walks.{Seen, is_keyword}
 use Rattle.gms_parse.specs.Readings.{GamsPart, kind_of}
 

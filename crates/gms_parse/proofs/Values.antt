@@ -10,7 +10,7 @@ use Rattle.gms_lex.specs.declared.token.Token.{Token}
 use Rattle.gms_lex.specs.TokenTexts.{token_text}
 use Rattle.gms_grammar.specs.declared.terminal.Terminal.{Terminal}
 use Rattle.gms_grammar.specs.declared.terminal.Terminal.TheVariants.{Number, Infinity, NotAvailable, Sign, Equals, Slash}
-use Rattle.gms_grammar.specs.Grammar.{the, one, ◌·◌, ◌∣◌, opt, leaf, pair, left, right, none, some, node}
+use Rattle.gms_grammar.specs.Grammar.{the, one, ◌·◌, ◌∣◌, opt, leaf}
 use Rattle.gms_grammar.specs.Reading.{read, stuck, leads, Reads, taken, refused, first_stuck, second_stuck, in_right_stuck, in_neither, left_out, there, there_stuck, takes_right}
 use Rattle.gms_grammar.specs.Terminals.{is, is_among}
 use Rattle.gms_grammar.specs.GamsGrammar.{Value, productions, token, any_of}
@@ -20,7 +20,7 @@ use Rattle.gms_expressions.specs.ExpressionTrees.{second_in}
 use Rattle.gms_expressions.specs.Outcomes.{next_place}
 use Rattle.gms_parse.proofs.TokenKinds.{is_quiet, same_kind, unled_next}
 use Rattle.gms_parse.proofs.Walks.{quiet_sound}
-use Rattle.gms_parse.proofs.Places.{place_read}
+use Rattle.gms_expressions.proofs.Chains.{place_read}
 use Rattle.gms_parse.specs.declared.fault.SourceFaultOrMemory.{SourceFaultOrMemory}
 use Rattle.gms_parse.specs.declared.reader.Reader.{Reader}
 use Rattle.gms_parse.specs.declared.reader.Tables.{Tables}
@@ -28,7 +28,7 @@ use Rattle.gms_parse.specs.DataLists.{opposed, signed_value}
 use Rattle.gms_parse.specs.Walks.{Seen, Walk}
 use Rattle.gms_parse.specs.Readings.{Derivation, GamsPart, Gives, Refuses, IsGot, Has, Stays, IsNext, IsLacking, IsValue, seen_from, kind_of}
 use Rattle.gms_parse.specs.Meanings.{IsSign, IsUnsigned, IsGiven, IsScalarValue}
-use Rattle.gms_parse.proofs.Steps.{gives_one, gives_both, gives_the, gives_left, gives_right, gives_none, gives_some, refuses_at, refuses_the, refuses_first, refuses_second, refuses_some, by_cause, stuck_as, wrong_as}
+use Rattle.gms_parse.proofs.Steps.{got_by, gives_one, gives_both, gives_the, gives_left, gives_right, gives_none, gives_some, refuses_at, refuses_the, refuses_first, refuses_second, refuses_some, by_cause, stuck_as, wrong_as}
 use Rattle.gms_parse.proofs.Nexts.{past, exact, led_next, leads_next, gives_exact, refuses_lacking, plain_stays, stays_then, stays_same, earlier}
 use Rattle.gms_parse.proofs.Entering.{number_gives, number_stays}
 
@@ -38,26 +38,14 @@ gives_kind {limit} test kind {reader} {behind = behind} {t = t} {w = w} n h q = 
 
 -- an infinity
 pub infinity_got : {F : Type 0} (value : F → Rational) {limit : ℕ} {reader : Reader} {at behind : ℕ} {t : Token} {tables : Tables} {w : Walk} → IsNext (is Infinity) reader at t behind → Has reader tables w → IsGot limit (IsUnsigned {F = F} value reader.source.now) (Stays reader tables w) (any_of (Number ∷ Infinity ∷ [])) reader at tables w ext.PlusInf behind
-infinity_got value {reader = reader} {behind = behind} {t = t} {w = w} n h = record {
-  tree = leaf (Infinity, t);
-  behind = past reader w Infinity t behind;
-  gives = gives_kind (is_among (Number ∷ Infinity ∷ [])) Infinity n refl refl;
-  leaves = plain_stays reader w Infinity t behind refl h;
-  means = λ sense s. refl;
-  further = (let g = n.further in omega arith);
-}
+infinity_got value {reader = reader} {behind = behind} {t = t} {w = w} n h = got_by (gives_kind (is_among (Number ∷ Infinity ∷ [])) Infinity n refl refl) (plain_stays reader w Infinity t behind refl h) (λ sense s. refl)
+    (let g = n.further in omega arith)
 
 -- a number
 pub numeral_got : {F : Type 0} (value : F → Rational) {limit : ℕ} {reader : Reader} {at behind : ℕ} {t : Token} {tables : Tables} {w : Walk} (v : F) → IsNext (is Number) reader at t behind → IsValue limit value (token_text reader.source.now t) v → Has reader tables w →
     IsGot limit (IsUnsigned {F = F} value reader.source.now) (Stays reader tables w) (any_of (Number ∷ Infinity ∷ [])) reader at tables w (ext.Number v) behind
-numeral_got value {reader = reader} {behind = behind} {t = t} {w = w} v n within h = record {
-  tree = leaf (Number, t);
-  behind = past reader w Number t behind;
-  gives = number_gives (value v) n refl within.0 within.1;
-  leaves = number_stays behind h;
-  means = λ sense s. ap ext.Number (sym (s.value (token_text reader.source.now t) (value v) within.0));
-  further = (let g = n.further in omega arith);
-}
+numeral_got value {reader = reader} {behind = behind} {t = t} {w = w} v n within h = got_by (number_gives (value v) n refl within.0 within.1) (number_stays behind h)
+    (λ sense s. ap ext.Number (sym (s.value (token_text reader.source.now t) (value v) within.0))) (let g = n.further in omega arith)
 
 pub neither_led : (ts : List Seen) → leads productions look_ahead (token Infinity) ts ≡ false → leads productions look_ahead (token Number) ts ≡ false → leads productions look_ahead (any_of (Number ∷ Infinity ∷ [])) ts ≡ false
 neither_led [] h k = refl
@@ -89,49 +77,31 @@ stuck_signed {f = f} {g = g} no_first (second_stuck (there h (taken {token = t} 
 pub value_got : {F : Type 0} (value : F → Rational) {limit : ℕ} {reader : Reader} {at start next : ℕ} {tables : Tables} {w : Walk} {minus : Bool} {v found : Ext F} → leads productions look_ahead (token NotAvailable) (seen_from reader at) ≡ false →
     (s : IsGot limit IsSign (Stays reader tables w) (opt (token Sign)) reader at tables w minus start) → IsGot limit (IsUnsigned value reader.source.now) (Stays reader tables s.behind) (any_of (Number ∷ Infinity ∷ [])) reader start tables s.behind v next →
     extended_in value found ≡ cond minus (opposed neg_ℚ (extended_in value v)) (extended_in value v) → IsGot limit (IsGiven value reader.source.now) (Stays reader tables w) (the Value) reader at tables w found next
-value_got value {reader = reader} {v = v} unled s u shown = record {
-  tree = node (right (pair s.tree u.tree));
-  behind = u.behind;
-  gives = gives_the Value (gives_right unled (led_signed s.gives.reads u.gives.reads) (gives_both s.gives u.gives));
-  leaves = stays_then s.leaves u.leaves;
-  means = λ sense m. shown ∙ sym (s.means sense (earlier u.gives s.leaves.has.holds u.leaves.has.holds m) (extended_in value v)) ∙ ap (signed_value neg_ℚ s.tree) (u.means sense m);
-  further = (let a = s.further in let b = u.further in omega arith);
-}
+value_got value {reader = reader} {v = v} unled s u shown = got_by (gives_the Value (gives_right unled (led_signed s.gives.reads u.gives.reads) (gives_both s.gives u.gives))) (stays_then s.leaves u.leaves)
+    (λ sense m. shown ∙ sym (s.means sense (earlier u.gives s.leaves.has.holds u.leaves.has.holds m) (extended_in value v)) ∙ ap (signed_value neg_ℚ s.tree) (u.means sense m)) (let a = s.further in let b = u.further in omega arith)
 
 pub value_refused : {limit : ℕ} {source : List ℕ} {w v : Walk} {ts between : List Seen} {a : Derivation} {e : SourceFaultOrMemory} → leads productions look_ahead (token NotAvailable) ts ≡ false → Gives limit source (opt (token Sign)) w ts a v between → Refuses limit source (any_of (Number ∷ Infinity ∷ [])) v between e → Refuses limit source (the Value) w ts e
 value_refused unled g r = refuses_the Value (by_cause (refuses_second g r) (λ fault s. stuck_as s (stuck_signed unled s.reads)) (λ fault s. wrong_as s (takes_right s.takes)))
 
 -- NA
 pub not_available_got : {F : Type 0} (value : F → Rational) {limit : ℕ} {reader : Reader} {at behind : ℕ} {t : Token} {tables : Tables} {w : Walk} → IsNext (is NotAvailable) reader at t behind → Has reader tables w → IsGot limit (IsGiven {F = F} value reader.source.now) (Stays reader tables w) (the Value) reader at tables w ext.Na behind
-not_available_got value {reader = reader} {behind = behind} {t = t} {w = w} n h = record {
-  tree = node (left (leaf (NotAvailable, t)));
-  behind = past reader w NotAvailable t behind;
-  gives = gives_the Value (gives_left (led_next n) (gives_exact {kind = NotAvailable} n refl));
-  leaves = plain_stays reader w NotAvailable t behind refl h;
-  means = λ sense s. refl;
-  further = (let g = n.further in omega arith);
-}
+not_available_got value {reader = reader} {behind = behind} {t = t} {w = w} n h = got_by (gives_the Value (gives_left (led_next n) (gives_exact {kind = NotAvailable} n refl))) (plain_stays reader w NotAvailable t behind refl h) (λ sense s. refl)
+    (let g = n.further in omega arith)
 
 -- ---- values of entries, perhaps behind `=`
 
 pub equals_got : {F : Type 0} (value : F → Rational) {limit : ℕ} {reader : Reader} {at behind next : ℕ} {t : Token} {tables : Tables} {w : Walk} {v : Ext F} → Has reader tables w → IsNext (is Equals) reader at t behind →
     IsGot limit (IsGiven value reader.source.now) (Stays reader tables (past reader w Equals t behind)) (the Value) reader behind tables (past reader w Equals t behind) v next →
     IsGot limit (λ sense tree v. IsGiven value reader.source.now sense (second_in tree) v) (Stays reader tables w) (opt (token Equals) · the Value) reader at tables w v next
-equals_got value {reader = reader} {behind = behind} {t = t} {w = w} h n got = record {
-  tree = pair (some (leaf (Equals, t))) got.tree;
-  behind = got.behind;
-  gives = gives_both (gives_some (led_next n) (gives_exact {kind = Equals} n refl)) got.gives;
-  leaves = stays_then (plain_stays reader w Equals t behind refl h) got.leaves;
-  means = got.means;
-  further = (let a = n.further in let b = got.further in omega arith);
-}
+equals_got value {reader = reader} {behind = behind} {t = t} {w = w} h n got = got_by (gives_both (gives_some (led_next n) (gives_exact {kind = Equals} n refl)) got.gives) (stays_then (plain_stays reader w Equals t behind refl h) got.leaves)
+    got.means (let a = n.further in let b = got.further in omega arith)
 
 pub equals_refused : {limit : ℕ} {reader : Reader} {at behind : ℕ} {t : Token} {w : Walk} {e : SourceFaultOrMemory} → IsNext (is Equals) reader at t behind → Refuses limit reader.source.now (the Value) (past reader w Equals t behind) (seen_from reader behind) e → Refuses limit reader.source.now (opt (token Equals) · the Value) w (seen_from reader at) e
 equals_refused n r = refuses_second (gives_some (led_next n) (gives_exact {kind = Equals} n refl)) r
 
 pub no_equals_got : {F : Type 0} (value : F → Rational) {limit : ℕ} {reader : Reader} {at next : ℕ} {tables : Tables} {w : Walk} {v : Ext F} → leads productions look_ahead (token Equals) (seen_from reader at) ≡ false →
     IsGot limit (IsGiven value reader.source.now) (Stays reader tables w) (the Value) reader at tables w v next → IsGot limit (λ sense tree v. IsGiven value reader.source.now sense (second_in tree) v) (Stays reader tables w) (opt (token Equals) · the Value) reader at tables w v next
-no_equals_got value unled got = record { tree = pair none got.tree; behind = got.behind; gives = gives_both (gives_none unled) got.gives; leaves = got.leaves; means = got.means; further = got.further }
+no_equals_got value unled got = got_by (gives_both (gives_none unled) got.gives) got.leaves got.means got.further
 
 pub no_equals_refused : {limit : ℕ} {source : List ℕ} {w : Walk} {ts : List Seen} {e : SourceFaultOrMemory} → leads productions look_ahead (token Equals) ts ≡ false → Refuses limit source (the Value) w ts e → Refuses limit source (opt (token Equals) · the Value) w ts e
 no_equals_refused unled r = refuses_second (gives_none unled) r
@@ -140,14 +110,7 @@ no_equals_refused unled r = refuses_second (gives_none unled) r
 
 pub no_value : {F : Type 0} (value : F → Rational) {limit : ℕ} {reader : Reader} {at : ℕ} {tables : Tables} {w : Walk} (items : Vec (Item F) Global) → items.items ≡ [] → leads productions look_ahead (token Slash) (seen_from reader at) ≡ false → Has reader tables w →
     IsGot limit (IsScalarValue value reader.source.now) (Stays reader tables w) (opt (token Slash · the Value · token Slash)) reader at tables w items at
-no_value value {reader = reader} {at = at} {w = w} items none_yet unled h = record {
-  tree = none;
-  behind = w;
-  gives = gives_none (unled_next (is Slash) (the Value · token Slash) (seen_from reader at) unled);
-  leaves = stays_same h;
-  means = λ sense s. ap (map (item_in value)) none_yet;
-  further = omega arith;
-}
+no_value value {reader = reader} {at = at} {w = w} items none_yet unled h = got_by (gives_none (unled_next (is Slash) (the Value · token Slash) (seen_from reader at) unled)) (stays_same h) (λ sense s. ap (map (item_in value)) none_yet) (omega arith)
 
 pub slash_stays : {reader : Reader} {at behind : ℕ} {t : Token} {tables : Tables} {w : Walk} → Has reader tables w → IsNext (is Slash) reader at t behind → Stays reader tables w (past reader w Slash t behind)
 slash_stays {reader} {behind = behind} {t = t} {w = w} h n = plain_stays reader w Slash t behind refl h
@@ -156,14 +119,11 @@ module _ {limit : ℕ} {reader : Reader} {at behind : ℕ} {t : Token} {tables :
   pub some_value : {F : Type 0} (value : F → Rational) {v : Ext F} {next after : ℕ} {end : Token} (items : Vec (Item F) Global) (item : Item F) → items.items ≡ item ∷ [] → item_in value item ≡ record { at = next_place reader.source.now (seen_from reader behind); parts = []; value = Some (extended_in value v); bad_range = false } →
       IsGot limit (IsGiven value reader.source.now) (Stays reader tables (past reader w Slash t behind)) (the Value) reader behind tables (past reader w Slash t behind) v next → IsNext (is Slash) reader next end after →
       IsGot limit (IsScalarValue value reader.source.now) (Stays reader tables w) (opt (token Slash · the Value · token Slash)) reader at tables w items after
-  some_value value {v} {after = after} {end = end} items item one_item shown got m = record {
-    tree = some (pair (leaf (Slash, t)) (pair got.tree (leaf (Slash, end))));
-    behind = past reader got.behind Slash end after;
-    gives = gives_some (leads_next (the Value · token Slash) n) (gives_both (gives_exact {kind = Slash} n refl) (gives_both got.gives (gives_exact {kind = Slash} m refl)));
-    leaves = stays_then (slash_stays h n) (stays_then got.leaves (plain_stays reader got.behind Slash end after refl got.leaves.has));
-    means = λ sense s. ap (map (item_in value)) one_item ∙ ap (λ x. x ∷ []) (shown ∙ ap₂ (λ p x. record { at = p; parts = []; value = Some x; bad_range = false }) (sym (place_read (the Value) refl got.gives)) (got.means sense s));
-    further = (let a = n.further in let b = got.further in let c = m.further in omega arith);
-  }
+  some_value value {v} {after = after} {end = end} items item one_item shown got m = got_by
+      (gives_some (leads_next (the Value · token Slash) n) (gives_both (gives_exact {kind = Slash} n refl) (gives_both got.gives (gives_exact {kind = Slash} m refl))))
+      (stays_then (slash_stays h n) (stays_then got.leaves (plain_stays reader got.behind Slash end after refl got.leaves.has)))
+      (λ sense s. ap (map (item_in value)) one_item ∙ ap (λ x. x ∷ []) (shown ∙ ap₂ (λ p x. record { at = p; parts = []; value = Some x; bad_range = false }) (sym (place_read (the Value) refl got.gives)) (got.means sense s)))
+      (let a = n.further in let b = got.further in let c = m.further in omega arith)
 
   pub value_unclosed : {F : Type 0} (value : F → Rational) {v : Ext F} {next : ℕ} {e : SourceFaultOrMemory} → IsGot limit (IsGiven value reader.source.now) (Stays reader tables (past reader w Slash t behind)) (the Value) reader behind tables (past reader w Slash t behind) v next → IsLacking (is Slash) reader next e →
       Refuses limit reader.source.now (opt (token Slash · the Value · token Slash)) w (seen_from reader at) e

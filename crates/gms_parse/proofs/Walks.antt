@@ -1,52 +1,34 @@
 -- What tokens leave, one after another.
-use Rattle.std.proofs.Common.{◌≡◌, ℕ, Bool, true, false, not, cond, List, [], ◌∷◌, ◌++◌, Some, refl, sym, ap, ◌∙◌, subst}
-use Rattle.gms_labels.specs.Labels.{place_of, entered}
-use Rattle.gms_labels.proofs.Places.{place_of-entered_kept}
+use Rattle.std.proofs.Common.{◌≡◌, ℕ, true, false, not, cond, List, [], ◌∷◌, Some, refl, sym, ap, ◌∙◌}
+use Rattle.gms_labels.specs.Labels.{place_of}
 use Rattle.gms_lex.specs.declared.token.Token.{Token}
 use Rattle.gms_lex.specs.TokenTexts.{token_text}
 use Rattle.gms_grammar.specs.declared.terminal.Terminal.{Terminal}
 use Rattle.gms_grammar.specs.declared.terminal.Terminal.TheVariants.{LeftParen, RightParen, Name, Suffix, Text, Label, Number, TableLine}
 use Rattle.gms_grammar.specs.Terminals.{is_among}
 use Rattle.gms_grammar.proofs.Checks.{left_and}
+use Rattle.gms_grammar.proofs.Orders.{some_there}
+use Rattle.gms_grammar.proofs.Rules.{all_keep}
 use Rattle.gms_expressions.proofs.TokenKinds.{also}
+use Rattle.gms_expressions.proofs.Walks.{kept_by}
 use Rattle.gms_parse.specs.declared.fault.SourceFault.{SourceFault}
 use Rattle.gms_table.specs.WordLabels.{all_entered}
 use Rattle.gms_table.proofs.LabelLemmas.{Stay-all_entered}
-use Rattle.gms_parse.specs.Walks.{Seen, Walk, kind_ahead, is_name, LacksRoom, new_labels, walk_after, walk_behind, IsFaulty, deep, out_of_range, many_names, many_labels, in_table, without_lines, AreSound}
+use Rattle.gms_parse.specs.Walks.{Seen, Walk, is_name, LacksRoom, new_labels, walk_after, walk_behind, IsFaulty, deep, out_of_range, many_names, many_labels, in_table, without_lines}
 use Rattle.gms_parse.proofs.TokenKinds.{begins, is_quiet}
-
--- what stands ahead of tokens is the first of those behind them, where there are none
-pub ahead_append : (u v : List Seen) (ahead : Terminal) → kind_ahead (u ++ v) ahead ≡ kind_ahead u (kind_ahead v ahead)
-ahead_append [] v ahead = refl
-ahead_append (t ∷ u) v ahead = refl
-
-pub walk_append : (source : List ℕ) (w : Walk) (u v : List Seen) (ahead : Terminal) → walk_behind source w (u ++ v) ahead ≡ walk_behind source (walk_behind source w u (kind_ahead v ahead)) v ahead
-walk_append source w [] v ahead = refl
-walk_append source w (t ∷ u) v ahead =
-    ap (λ k. walk_behind source (walk_after source w t k) (u ++ v) ahead) (ahead_append u v ahead) ∙ walk_append source (walk_after source w t (kind_ahead u (kind_ahead v ahead))) u v ahead
-
-pub sound_append : (limit : ℕ) (source : List ℕ) (w : Walk) (u v : List Seen) (ahead : Terminal) → AreSound limit source w u (kind_ahead v ahead) → AreSound limit source (walk_behind source w u (kind_ahead v ahead)) v ahead → AreSound limit source w (u ++ v) ahead
-sound_append limit source w [] v ahead h k = k
-sound_append limit source w (t ∷ u) v ahead h k =
-    subst (λ (kind : Terminal). ((fault : SourceFault) → IsFaulty limit source w t kind fault → ⊥) × AreSound limit source (walk_after source w t kind) (u ++ v) ahead) (sym (ahead_append u v ahead))
-    (h.0, sound_append limit source (walk_after source w t (kind_ahead u (kind_ahead v ahead))) u v ahead h.1 k)
 
 -- texts that are entered keep the places of others
 pub places_kept : (texts more : List (List ℕ)) (other : List ℕ) (n : ℕ) → place_of texts other ≡ Some n → place_of (all_entered texts more) other ≡ Some n
 places_kept texts more other n h = (Stay-all_entered texts more).stays other n h
 
-kept_by : (c : Bool) (texts : List (List ℕ)) (text other : List ℕ) (n : ℕ) → place_of texts other ≡ Some n → place_of (cond c (entered texts text) texts) other ≡ Some n
-kept_by true texts text other n h = place_of-entered_kept texts text other n h
-kept_by false texts text other n h = h
-
 -- tokens keep the places of names and labels
 pub names_kept : (source : List ℕ) (w : Walk) (u : List Seen) (ahead : Terminal) (text : List ℕ) (n : ℕ) → place_of w.names text ≡ Some n → place_of (walk_behind source w u ahead).names text ≡ Some n
-names_kept source w [] ahead text n h = h
-names_kept source w (t ∷ u) ahead text n h = names_kept source (walk_after source w t (kind_ahead u ahead)) u ahead text n (kept_by (is_name w t.0) w.names (token_text source t.1) text n h)
+names_kept source w u ahead text n h =
+    all_keep (walk_after source) (λ (x : Walk). place_of x.names text ≡ Some n) (λ (x : Walk) (t : Seen) (k : Terminal). kept_by (is_name x t.0) x.names (token_text source t.1) text n) w u ahead h
 
 pub labels_kept : (source : List ℕ) (w : Walk) (u : List Seen) (ahead : Terminal) (text : List ℕ) (n : ℕ) → place_of w.labels text ≡ Some n → place_of (walk_behind source w u ahead).labels text ≡ Some n
-labels_kept source w [] ahead text n h = h
-labels_kept source w (t ∷ u) ahead text n h = labels_kept source (walk_after source w t (kind_ahead u ahead)) u ahead text n (places_kept w.labels (new_labels source w t (kind_ahead u ahead)) text n h)
+labels_kept source w u ahead text n h =
+    all_keep (walk_after source) (λ (x : Walk). place_of x.labels text ≡ Some n) (λ (x : Walk) (t : Seen) (k : Terminal). places_kept x.labels (new_labels source x t k) text n) w u ahead h
 
 -- parentheses, names and labels are as they were
 pub record IsQuiet (w v : Walk) : Type 0 where
@@ -83,11 +65,7 @@ begun_after source w token ahead h = (ap (λ c. cond c token.0 w.keyword) h, ap 
 
 -- no texts find room
 pub room_for_none : (labels texts : List (List ℕ)) → texts ≡ [] → LacksRoom labels texts → ⊥
-room_for_none labels texts e l = no_nil l.before l.text l.behind (sym e ∙ l.parts)
-  where
-    no_nil : (u : List (List ℕ)) (x : List ℕ) (v : List (List ℕ)) → [] ≡ u ++ (x ∷ v) → ⊥
-    no_nil [] x v e = cc
-    no_nil (y ∷ u) x v e = cc
+room_for_none labels texts e l = some_there l.before l.text l.behind (sym e ∙ l.parts)
 
 -- a quiet token has no fault
 pub quiet_sound : (limit : ℕ) (source : List ℕ) (w : Walk) (kind : Terminal) (token : Token) (ahead : Terminal) → is_quiet kind ≡ true → (fault : SourceFault) → IsFaulty limit source w (kind, token) ahead fault → ⊥

@@ -1,16 +1,15 @@
 -- A whole program: what stands between semicolons, up to the end.
-use Rattle.std.proofs.Common.{◌≡◌, ◌≢◌, ℕ, Bool, true, false, not, ◌||◌, List, [], ◌∷◌, ◌++◌, map, Vec, refl, sym, ap, ◌∙◌, subst, arith, append_assoc, inl, inr}
+use Rattle.std.proofs.Common.{◌≡◌, ℕ, Bool, true, false, not, ◌||◌, List, [], ◌∷◌, ◌++◌, map, Vec, refl, sym, ap, ◌∙◌, subst, arith, inl, inr}
 use Rattle.std.specs.declared.alloc.Global.{Global}
 use Rattle.std.proofs.lemmas.List.{append-nil, map-append}
-use Rattle.gq_number.specs.Number.{Number, neg_ℚ}
+use Rattle.gq_number.specs.Number.{Number}
 use Rattle.gms_lex.specs.declared.token.Token.{Token}
 use Rattle.gms_lex.specs.Tokens.{tokens_of, end_token}
-use Rattle.gms_ast.specs.declared.declaration.Item.{Item}
 use Rattle.gms_ast.specs.declared.program.Stmt.{Stmt}
 use Rattle.gms_ast.specs.StatementTrees.{Statements, no_statement, statement, followed_by}
 use Rattle.gms_ast.specs.StatementView.{in_order, statement_view}
 use Rattle.gms_grammar.specs.declared.terminal.Terminal.{Terminal}
-use Rattle.gms_grammar.specs.declared.terminal.Terminal.TheVariants.{Semicolon, TableLine, End}
+use Rattle.gms_grammar.specs.declared.terminal.Terminal.TheVariants.{Semicolon, End}
 use Rattle.gms_grammar.specs.Grammar.{the, ◌·◌, many, leaf, pair, none, more, node, yield}
 use Rattle.gms_grammar.specs.Reading.{leads}
 use Rattle.gms_grammar.specs.Terminals.{is}
@@ -21,18 +20,16 @@ use Rattle.gms_parse.specs.declared.fault.SourceFaultOrMemory.{SourceFaultOrMemo
 use Rattle.gms_parse.specs.declared.reader.Reader.{Reader}
 use Rattle.gms_parse.specs.declared.reader.Tables.{Tables}
 use Rattle.gms_parse.specs.Programs.{segments, statements_of}
-use Rattle.gms_parse.specs.Walks.{Seen, Walk, start, kind_ahead}
-use Rattle.gms_parse.specs.Outcomes.{HaveItems, AreAllItems}
-use Rattle.gms_parse.specs.Readings.{Derivation, Gives, Refuses, Sense, IsSense, IsReady, IsGot, IsNext, Holds, Starts, IsWhole, RefusesWhole, unexpected, unexpected_at, kind_of, seen_from}
-use Rattle.gms_parse.specs.Meanings.{IsTabled, IsSegment, AreStatements, act_view, put_before}
+use Rattle.gms_parse.specs.Walks.{Seen, Walk, start, unexpected}
+use Rattle.gms_parse.specs.Readings.{Derivation, Gives, Refuses, Sense, IsSense, IsReady, IsGot, IsNext, Holds, Starts, IsWhole, RefusesWhole, unexpected_at, kind_of, seen_from}
+use Rattle.gms_parse.specs.Meanings.{IsSegment, AreStatements, act_view, put_before}
 use Rattle.gms_parse.proofs.TokenKinds.{same_kind, unled_next}
 use Rattle.gms_parse.proofs.Alphabet.{AllPass, pass_rest, only, all_pass}
-use Rattle.gms_parse.proofs.Steps.{Within, within_the, within_second, within_again, within_then, gives_both, gives_no_more, refuses_second, refuses_again}
+use Rattle.gms_parse.proofs.Steps.{got_by, Within, within_the, within_second, within_again, within_then, gives_both, gives_no_more, refuses_second, refuses_again}
 use Rattle.gms_parse.proofs.Nexts.{past, gives_exact, leads_next, earlier}
 use Rattle.gms_parse.proofs.Ends.{seen_token}
 use Rattle.gms_parse.proofs.Looped.{view-Stmt, in_order_is}
 use Rattle.gms_parse.proofs.Segments.{put_append}
-use Rattle.gms_parse.proofs.Tabled.{have_none, have_both, all_before, all_behind, begins_other}
 
 -- ---- before the first token
 
@@ -50,39 +47,28 @@ module _ {F : Type 0} (value : F → Number) where
   followed [] others = refl
   followed (x ∷ xs) others = ap (λ ys. followed_by ys others) (view-Stmt value x (put_before value xs no_statement)) ∙ ap (statement x.at (act_view value x.act)) (followed xs others) ∙ sym (view-Stmt value x (put_before value xs others))
 
--- what the statements so far mean
-abbrev WholeMeans : {F : Type 0} → (F → Number) → ℕ → List ℕ → (Derivation → Derivation) → List Seen → List (Stmt F) → Sense → Type 0
-WholeMeans value limit source context tokens xs sense =
-    (table_items : List Seen → List (Item Number)) → AreAllItems limit source sense.labels tokens table_items → (b : Derivation) → statements_of source sense.names sense.labels sense.value neg_ℚ table_items (context b) ≡ put_before value xs (segments source sense.names sense.labels sense.value neg_ℚ table_items b)
-
--- so many segments of a program were read
+-- so many segments of a program were read, and these statements are what they mean
 pub record Whole {F : Type 0} (limit : ℕ) (value : F → Number) (reader : Reader) (new : Tables) (xs : List (Stmt F)) (at : ℕ) : Type 0 where
   pub context : Derivation → Derivation
   pub behind : Walk
   pub within : Within limit reader.source.now (the Program) start (seen_from reader 0) (many (token Semicolon · the Segment)) behind (seen_from reader at) context
   pub holds : Holds reader new behind
-  pub tokens : List Seen
-  pub yields : (b : Derivation) → yield (context b) ≡ tokens ++ yield b
-  pub have : (sense : Sense) → IsSense new sense → HaveItems limit reader.source.now sense.labels tokens
-  pub means : (sense : Sense) → IsSense new sense → WholeMeans value limit reader.source.now context tokens xs sense
+  pub means : (sense : Sense) → IsSense new sense → (b : Derivation) → statements_of reader.source.now sense.names sense.labels sense.value (context b) ≡ put_before value xs (segments reader.source.now sense.names sense.labels sense.value b)
 
 -- why a part of the program is refused is why the program is
 pub refuses_whole : {limit : ℕ} {reader : Reader} {e : SourceFaultOrMemory} → Refuses limit reader.source.now (the Program) start (seen_from reader 0) e → RefusesWhole limit reader e
 refuses_whole r = record { why = λ fault is. inl (r.why fault is) }
 
 module _ {F : Type 0} (value : F → Number) {limit : ℕ} {reader : Reader} where
-  pub whole_start : {new : Tables} (old : Vec (Stmt F) Global) {now : Vec (Stmt F) Global} {at : ℕ} → old.items ≡ [] → IsGot limit (IsTabled value reader.source.now limit (IsSegment value reader.source.now old)) (Holds reader new) (the Segment) reader 0 new start now at → Whole limit value reader new now.items at
+  pub whole_start : {new : Tables} (old : Vec (Stmt F) Global) {now : Vec (Stmt F) Global} {at : ℕ} → old.items ≡ [] → IsGot limit (IsSegment value reader.source.now old) (Holds reader new) (the Segment) reader 0 new start now at → Whole limit value reader new now.items at
   whole_start old {now = now} none_before got = record {
     context = λ b. node (pair got.tree b);
     behind = got.behind;
     within = within_then (within_the Program) (within_second got.gives);
     holds = got.leaves;
-    tokens = yield got.tree;
-    yields = λ b. refl;
-    have = λ sense s. (got.means sense s).have;
-    means = λ sense s table_items all b.
-        let m = (got.means sense s).means table_items all in
-        let rest = segments reader.source.now sense.names sense.labels sense.value neg_ℚ table_items b in
+    means = λ sense s b.
+        let m = got.means sense s in
+        let rest = segments reader.source.now sense.names sense.labels sense.value b in
         ap (λ ys. followed_by ys rest) (sym m.2 ∙ in_order_is value m.0) ∙ followed value m.0 rest ∙ ap (λ ys. put_before value ys rest) (sym (m.1 ∙ ap (λ ys. ys ++ m.0) none_before));
   }
 
@@ -91,40 +77,22 @@ module _ {F : Type 0} (value : F → Number) {limit : ℕ} {reader : Reader} whe
     whole_refuses r = refuses_whole (l.within.refuses _ (refuses_again (leads_next (the Segment) n) (refuses_second (gives_exact {kind = Semicolon} n refl) r)))
 
     -- one more
-    pub whole_on : {newer : Tables} (old : Vec (Stmt F) Global) {now : Vec (Stmt F) Global} {after : ℕ} → old.items ≡ xs → IsGot limit (IsTabled value reader.source.now limit (IsSegment value reader.source.now old)) (Holds reader newer) (the Segment) reader behind newer (past reader l.behind Semicolon t behind) now after →
+    pub whole_on : {newer : Tables} (old : Vec (Stmt F) Global) {now : Vec (Stmt F) Global} {after : ℕ} → old.items ≡ xs → IsGot limit (IsSegment value reader.source.now old) (Holds reader newer) (the Segment) reader behind newer (past reader l.behind Semicolon t behind) now after →
         Whole limit value reader newer now.items after
-    whole_on {newer} old {now} {after} was got = record {
+    whole_on old {after = after} was got = record {
       context = λ b. l.context (more (pair (leaf (Semicolon, t)) got.tree) b);
       behind = got.behind;
       within = within_then l.within (within_again (leads_next (the Segment) n) gives);
       holds = got.leaves;
-      tokens = l.tokens ++ more_tokens;
-      yields = λ b. l.yields (more (pair (leaf (Semicolon, t)) got.tree) b) ∙ sym (append_assoc l.tokens more_tokens (yield b));
-      have = λ sense s. have_both limit reader.source.now sense.labels l.tokens more_tokens head (l.have sense (before sense s)) (have_more sense s);
-      means = λ sense s table_items all b.
-          let m = (got.means sense s).means table_items (all_behind limit reader.source.now sense.labels ((Semicolon, t) ∷ []) (yield got.tree) ahead table_items (all_behind limit reader.source.now sense.labels l.tokens more_tokens head table_items all)) in
-          let rest = segments reader.source.now sense.names sense.labels sense.value neg_ℚ table_items b in
-          l.means sense (before sense s) table_items (all_before limit reader.source.now sense.labels l.tokens more_tokens head table_items all) (more (pair (leaf (Semicolon, t)) got.tree) b)
+      means = λ sense s b.
+          let m = got.means sense s in
+          let rest = segments reader.source.now sense.names sense.labels sense.value b in
+          l.means sense (earlier gives l.holds got.leaves s) (more (pair (leaf (Semicolon, t)) got.tree) b)
           ∙ ap (put_before value xs) (ap (λ ys. followed_by ys rest) (sym m.2 ∙ in_order_is value m.0) ∙ followed value m.0 rest) ∙ sym (put_append value xs m.0 rest) ∙ ap (λ ys. put_before value ys rest) (sym (m.1 ∙ ap (λ ys. ys ++ m.0) was));
     }
       where
-        more_tokens : List Seen
-        more_tokens = (Semicolon, t) ∷ yield got.tree
-
-        ahead : kind_ahead (yield got.tree) End ≢ TableLine
-        ahead = begins_other (the Segment) got.tree (sound productions look_ahead got.gives.reads).0 refl
-
-        head : kind_ahead more_tokens End ≢ TableLine
-        head = λ h. cc
-
         gives : Gives limit reader.source.now (token Semicolon · the Segment) l.behind (seen_from reader at) (pair (leaf (Semicolon, t)) got.tree) got.behind (seen_from reader after)
         gives = gives_both (gives_exact {kind = Semicolon} n refl) got.gives
-
-        before : (sense : Sense) → IsSense newer sense → IsSense new sense
-        before sense s = earlier gives l.holds got.leaves s
-
-        have_more : (sense : Sense) → IsSense newer sense → HaveItems limit reader.source.now sense.labels more_tokens
-        have_more sense s = have_both limit reader.source.now sense.labels ((Semicolon, t) ∷ []) (yield got.tree) ahead (have_none limit reader.source.now sense.labels ((Semicolon, t) ∷ []) (refl, tt)) (got.means sense s).have
 
 -- ---- the end
 
@@ -163,26 +131,12 @@ module _ {F : Type 0} (value : F → Number) {limit : ℕ} {reader : Reader} {ne
   gives_whole : Gives limit reader.source.now (the Program) start (seen_from reader 0) (l.context none) l.behind (seen_from reader at)
   gives_whole = l.within.gives none _ _ (gives_no_more (unled_next (is Semicolon) (the Segment) (seen_from reader at) unled))
 
-  pub whole_got : leads productions look_ahead (token End) (seen_from reader at) ≡ true → (all : Vec (Stmt F) Global) → all.items ≡ xs → IsWhole limit (IsTabled value reader.source.now limit (AreStatements value reader.source.now)) reader new all
+  pub whole_got : leads productions look_ahead (token End) (seen_from reader at) ≡ true → (all : Vec (Stmt F) Global) → all.items ≡ xs → IsWhole limit (AreStatements value reader.source.now) reader new all
   whole_got led all same = record {
     next = at;
-    got = record {
-      tree = l.context none;
-      behind = l.behind;
-      gives = gives_whole;
-      leaves = l.holds;
-      means = λ sense s. record {
-        have = subst (λ (us : List Seen). HaveItems limit reader.source.now sense.labels us) (sym none_more) (l.have sense s);
-        means = λ table_items items.
-            ap (λ (ys : List (Stmt F)). in_order value (map {B = Statements Number → Statements Number} (statement_view value) ys)) same ∙ in_order_is value xs ∙ sym (l.means sense s table_items (subst (λ (us : List Seen). AreAllItems limit reader.source.now sense.labels us table_items) none_more items) none);
-      };
-      further = omega arith;
-    };
+    got = got_by gives_whole l.holds (λ sense s. ap (λ (ys : List (Stmt F)). in_order value (map {B = Statements Number → Statements Number} (statement_view value) ys)) same ∙ in_order_is value xs ∙ sym (l.means sense s none)) (omega arith);
     at_end = led_end (seen_from reader at) led;
   }
-    where
-      none_more : yield (l.context none) ≡ l.tokens
-      none_more = l.yields none ∙ append-nil l.tokens
 
   -- another token than the end comes next
   pub whole_over : IsReady reader → leads productions look_ahead (token End) (seen_from reader at) ≡ false → {e : SourceFaultOrMemory} → e ≡ unexpected_at reader at → RefusesWhole limit reader e

@@ -1,6 +1,7 @@
 -- What the derivations of declarations mean: names of a kind, each with its domain and its data; and models with their equations
 -- (GAMS User's Guide, "Sets", "Data Entry", "Variables", "Equations", "Model and Solve Statements").
 use Rattle.std.specs.Prelude.{ℕ, Bool, true, false, if◌then◌else◌, List, [], ◌∷◌, Option, Some, None, codes}
+use Rattle.gq_number.specs.Number.{Number, neg_ℚ}
 use Rattle.gms_lex.specs.declared.token.Token.{Token}
 use Rattle.gms_grammar.specs.declared.terminal.Terminal.{Terminal}
 use Rattle.gms_grammar.specs.Grammar.{Tree, pair, left, right, some, node, yield}
@@ -14,6 +15,7 @@ use Rattle.gms_lex.specs.TokenTexts.{token_text}
 use Rattle.gms_expressions.specs.ExpressionTrees.{is_word, token_of, first_in, second_in, inside, name_in}
 use Rattle.gms_ast.specs.StatementTrees.{Act, declares, declares_models}
 use Rattle.gms_parse.specs.DataLists.{listed_in, optional_in, between, elements_in, entries_in, scalar_in}
+use Rattle.gms_parse.specs.Tables.{items_given}
 
 -- The items of a declaration, which its grammar nests: behind an item there may be a comma and further items, or a line end and
 -- perhaps further items.
@@ -93,10 +95,10 @@ module _ {N : Type 0} (source : List ℕ) (names labels : List (List ℕ)) (valu
   abbrev pub model_act : Tree (Terminal × Token) → Act N
   model_act statement = declares_models (items_in model_in (second_in (inside statement)))
 
--- The same where numbers have these opposites, and the lines of a table give these items.
-module _ {N : Type 0} (source : List ℕ) (names labels : List (List ℕ)) (value : List ℕ → N) (opposite : N → N) (table_items : List (Terminal × Token) → List (Item N)) where
+-- The same for data, which are numbers.
+module _ (source : List ℕ) (names labels : List (List ℕ)) (value : List ℕ → Number) where
   -- what stands behind the name of a set or a parameter: its domain, and its data between slashes, which mean these items
-  abbrev pub data_in : (Tree (Terminal × Token) → List (Item N)) → Tree (Terminal × Token) → Decl N
+  abbrev pub data_in : (Tree (Terminal × Token) → List (Item Number)) → Tree (Terminal × Token) → Decl Number
   data_in meaning item =
       record {
         named = named_in source names labels value (first_in (inside item));
@@ -105,45 +107,40 @@ module _ {N : Type 0} (source : List ℕ) (names labels : List (List ℕ)) (valu
       }
 
   -- a set that is declared
-  abbrev pub set_in : Tree (Terminal × Token) → Decl N
-  set_in item = data_in (elements_in source labels value opposite) item
+  abbrev pub set_in : Tree (Terminal × Token) → Decl Number
+  set_in item = data_in (elements_in source labels value neg_ℚ) item
 
   -- a parameter that is declared
-  abbrev pub parameter_in : Tree (Terminal × Token) → Decl N
-  parameter_in item = data_in (entries_in source labels value opposite) item
+  abbrev pub parameter_in : Tree (Terminal × Token) → Decl Number
+  parameter_in item = data_in (entries_in source labels value neg_ℚ) item
 
   -- a scalar that is declared: its name, and its value between slashes
-  abbrev pub scalar_item_in : Tree (Terminal × Token) → Decl N
+  abbrev pub scalar_item_in : Tree (Terminal × Token) → Decl Number
   scalar_item_in item =
       record {
         named = named_in source names labels value (first_in (inside item));
         domain = [];
-        items = optional_in [] (λ list. scalar_in source labels value opposite (between list)) (second_in (inside item));
+        items = optional_in [] (λ list. scalar_in source labels value neg_ℚ (between list)) (second_in (inside item));
       }
 
   -- the statement of sets
-  abbrev pub set_act : Tree (Terminal × Token) → Act N
+  abbrev pub set_act : Tree (Terminal × Token) → Act Number
   set_act statement = declares kind.Set (items_in set_in (second_in (inside statement)))
 
   -- the statement of parameters
-  abbrev pub parameter_act : Tree (Terminal × Token) → Act N
+  abbrev pub parameter_act : Tree (Terminal × Token) → Act Number
   parameter_act statement = declares kind.Parameter (items_in parameter_in (second_in (inside statement)))
 
   -- the statement of scalars
-  abbrev pub scalar_act : Tree (Terminal × Token) → Act N
+  abbrev pub scalar_act : Tree (Terminal × Token) → Act Number
   scalar_act statement = declares kind.Scalar (items_in scalar_item_in (second_in (inside statement)))
 
-  -- the items that the lines of a table give, where it has any
-  abbrev pub items_of_lines : List (Terminal × Token) → List (Item N)
-  items_of_lines [] = []
-  items_of_lines (line ∷ lines) = table_items (line ∷ lines)
-
   -- the statement of a table: its name, its domain, and the items that its lines give
-  abbrev pub table_act : Tree (Terminal × Token) → Act N
+  abbrev pub table_act : Tree (Terminal × Token) → Act Number
   table_act statement =
       let behind = second_in (inside statement) in
       declares kind.Table (record {
         named = named_in source names labels value (first_in behind);
         domain = domain_in source names labels value (between behind);
-        items = items_of_lines (yield (second_in (second_in behind)));
+        items = items_given source labels (yield (second_in (second_in behind)));
       } ∷ [])

@@ -9,7 +9,7 @@ use Rattle.gms_lex.specs.TokenTexts.{token_text, unquoted, IsPlaced}
 use Rattle.gms_set.specs.Ranges.{is_range}
 use Rattle.gq_number.specs.Number.{Number, neg_ℚ}
 use Rattle.gq_extended.specs.declared.extended.Ext.{Ext}
-use Rattle.gms_grammar.specs.Grammar.{the, ◌∣◌, yield}
+use Rattle.gms_grammar.specs.Grammar.{the, ◌∣◌}
 use Rattle.gms_grammar.specs.GamsGrammar.{Nonterminal, DisplayStatement, OptionStatement, SolveStatement, AbortStatement, LoopStatement, Element, Entry, SetList, ParameterList, SetItem, SetItems, ParameterItem, ParameterItems, ScalarItem, ScalarItems, PlainItem, PlainItems, token}
 use Rattle.gms_ast.specs.declared.word.Named.{Named}
 use Rattle.gms_ast.specs.declared.word.Word.{Word}
@@ -35,7 +35,8 @@ use Rattle.gms_ast.specs.Numbers.{control_in_numbers}
 use Rattle.gms_ast.specs.StatementTrees.{Act, declares, assigns, defines, Statements, Target, Sides}
 use Rattle.gms_ast.specs.StatementView.{extended_in, item_in, declared_in, setting_in, shown_tree, shown_indices, shown_target, in_order, act_step, statement_step, statement_view}
 use Rattle.gms_expressions.specs.ExpressionTrees.{or_0, negated_by, negated_primary, expression, primary, control, suffix_in, first_in, second_in, inside as inside_of, place_in, token_of}
-use Rattle.gms_parse.specs.declared.fault.SourceError.TheVariants.{TooManyLabels}
+use Rattle.gms_parse.specs.declared.fault.SourceError.TheVariants.{Syntax as in_syntax}
+use Rattle.gms_expressions.specs.declared.fault.SyntaxError.TheVariants.{TooManyLabels}
 use Rattle.gms_parse.specs.declared.fault.SourceFaultOrMemory.{SourceFaultOrMemory}
 use Rattle.gms_parse.specs.declared.fault.SourceFaultOrMemory.TheVariants.{Fault, Memory}
 use Rattle.gms_parse.specs.declared.assign.Relation.{Relation}
@@ -51,8 +52,7 @@ use Rattle.gms_parse.specs.Declarations.{variable_kind, items_in, named_in, posi
 use Rattle.gms_parse.specs.Statements.{bytes_in, word_in, shown_in, shown_list, setting_in as setting_of, condition_in, target_in, side_of, sides_in, is_maximizing}
 use Rattle.gms_parse.specs.Programs.{loop_body, inner_act, named_first, segment, statements_of}
 use Rattle.gms_table.specs.WordLabels.{all_entered}
-use Rattle.gms_parse.specs.Walks.{Seen, LacksRoom, range_texts}
-use Rattle.gms_parse.specs.Outcomes.{HaveItems, AreAllItems}
+use Rattle.gms_parse.specs.Walks.{LacksRoom, range_texts}
 use Rattle.gms_parse.specs.Readings.{Derivation, GamsPart, Sense}
 
 module _ (source : List ℕ) (sense : Sense) (tree : Derivation) where
@@ -142,7 +142,7 @@ pub record IsEnteredRange (source : List ℕ) (old new : Tables) (was now : Posi
 
 -- there is no room for a member of a range, or want of memory
 pub record IsNotEnteredRange (source : List ℕ) (old : Tables) (first last : Token) (refusal : SourceFaultOrMemory) : Type 0 where
-  pub why : (refusal ≡ Memory) ⊎ ((refusal ≡ Fault (record { error = TooManyLabels; at = last.at })) × LacksRoom old.labels (range_texts source (text_of_label source first) (text_of_label source last)))
+  pub why : (refusal ≡ Memory) ⊎ ((refusal ≡ Fault (record { error = in_syntax TooManyLabels; at = last.at })) × LacksRoom old.labels (range_texts source (text_of_label source first) (text_of_label source last)))
 
 -- a sign, where there is one
 abbrev pub IsSign : Sense → Derivation → Bool → Type 0
@@ -201,9 +201,9 @@ items_part form.Plain = PlainItems
 
 -- what is declared, where no table is
 abbrev pub item_meaning : Form → List ℕ → List (List ℕ) → List (List ℕ) → (List ℕ → Number) → Derivation → Decl Number
-item_meaning form.Set source names labels value tree = set_in source names labels value neg_ℚ (λ lines. []) tree
-item_meaning form.Parameter source names labels value tree = parameter_in source names labels value neg_ℚ (λ lines. []) tree
-item_meaning form.Scalar source names labels value tree = scalar_item_in source names labels value neg_ℚ (λ lines. []) tree
+item_meaning form.Set source names labels value tree = set_in source names labels value tree
+item_meaning form.Parameter source names labels value tree = parameter_in source names labels value tree
+item_meaning form.Scalar source names labels value tree = scalar_item_in source names labels value tree
 item_meaning form.Plain source names labels value tree = plain_in source names labels value tree
 
 -- the statements that a loop may have besides assignments
@@ -326,14 +326,6 @@ module _ {F : Type 0} (value : F → Number) (source : List ℕ) where
   IsDefined equation condition sense tree act =
       act_view value act ≡ defines (record { at = equation.at; name = equation.name }) (shown_indices value equation.indices) (option_map (shown_tree value) condition) (sides_in source sense.names sense.labels sense.value tree)
 
-  -- the same, where the statement has tables
-  pub record IsTabled {T : Type 0} (limit : ℕ) (Means : (List Seen → List (Item Number)) → Sense → Derivation → T → Type 0) (sense : Sense) (tree : Derivation) (x : T) : Type 0 where
-    pub have : HaveItems limit source sense.labels (yield tree)
-    pub means : (table_items : List Seen → List (Item Number)) → AreAllItems limit source sense.labels (yield tree) table_items → Means table_items sense tree x
-
-  abbrev pub IsStatement : (List ℕ → List (List ℕ) → List (List ℕ) → (List ℕ → Number) → (Number → Number) → (List Seen → List (Item Number)) → Derivation → Act Number) → (List Seen → List (Item Number)) → Sense → Derivation → ActNode F → Type 0
-  IsStatement meaning table_items sense tree act = act_view value act ≡ meaning source sense.names sense.labels sense.value neg_ℚ table_items tree
-
   -- a statement of a loop, at its place
   abbrev pub IsInner : Sense → Derivation → Stmt F → Type 0
   IsInner sense tree statement = (statement.at ≡ place_in tree) × (act_view value statement.act ≡ inner_act source sense.names sense.labels sense.value tree)
@@ -344,12 +336,12 @@ module _ {F : Type 0} (value : F → Number) (source : List ℕ) where
   -- a statement that begins with a name, where there is one, that was added to these
   abbrev pub IsNamedFirst : Vec (Stmt F) Global → Sense → Derivation → Vec (Stmt F) Global → Type 0
   IsNamedFirst old sense tree new =
-      (added : List (Stmt F)) × (new.items ≡ old.items ++ added) × ((others : Statements Number) → put_before value added others ≡ named_first source sense.names sense.labels sense.value neg_ℚ (λ lines. []) tree others)
+      (added : List (Stmt F)) × (new.items ≡ old.items ++ added) × ((others : Statements Number) → put_before value added others ≡ named_first source sense.names sense.labels sense.value tree others)
 
   -- statements that were added to these
-  abbrev pub IsSegment : Vec (Stmt F) Global → (List Seen → List (Item Number)) → Sense → Derivation → Vec (Stmt F) Global → Type 0
-  IsSegment old table_items sense tree new =
-      (added : List (Stmt F)) × (new.items ≡ old.items ++ added) × (in_order value (map {B = Statements Number → Statements Number} (statement_view value) added) ≡ segment source sense.names sense.labels sense.value neg_ℚ table_items tree)
+  abbrev pub IsSegment : Vec (Stmt F) Global → Sense → Derivation → Vec (Stmt F) Global → Type 0
+  IsSegment old sense tree new =
+      (added : List (Stmt F)) × (new.items ≡ old.items ++ added) × (in_order value (map {B = Statements Number → Statements Number} (statement_view value) added) ≡ segment source sense.names sense.labels sense.value tree)
 
-  abbrev pub AreStatements : (List Seen → List (Item Number)) → Sense → Derivation → Vec (Stmt F) Global → Type 0
-  AreStatements table_items sense tree statements = in_order value (map {B = Statements Number → Statements Number} (statement_view value) statements.items) ≡ statements_of source sense.names sense.labels sense.value neg_ℚ table_items tree
+  abbrev pub AreStatements : Sense → Derivation → Vec (Stmt F) Global → Type 0
+  AreStatements sense tree statements = in_order value (map {B = Statements Number → Statements Number} (statement_view value) statements.items) ≡ statements_of source sense.names sense.labels sense.value tree

@@ -1,32 +1,28 @@
 -- What parsing a source answers: its program, or its first fault (GAMS User's Guide, "GAMS Programs", and "GAMS Output", compilation
 -- errors).
-use Rattle.std.specs.Prelude.{◌≡◌, ◌≢◌, ◌⊎◌, ℕ, ◌<◌, ◌≤◌, if◌then◌else◌, List, [], ◌∷◌, ◌++◌, length, All}
+use Rattle.std.specs.Prelude.{◌≡◌, ◌≢◌, ◌⊎◌, ℕ, ◌<◌, ◌≤◌, List, [], ◌∷◌, ◌++◌, length, All}
 use Rattle.gms_lex.specs.declared.token.Token.{Token}
 use Rattle.gms_lex.specs.declared.fault.LexFault.{LexFault}
 use Rattle.gms_lex.specs.Tokens.{IsTokens, most_bytes}
 use Rattle.gms_lex.specs.Tokens.{IsFault as IsLexicalFault}
-use Rattle.gq_number.specs.Number.{Number, neg_ℚ}
-use Rattle.gms_grammar.specs.declared.terminal.Terminal.{Terminal}
+use Rattle.gq_number.specs.Number.{Number}
 use Rattle.gms_grammar.specs.declared.terminal.Terminal.TheVariants as terminal
-use Rattle.gms_grammar.specs.Grammar.{the, Tree, yield, IsTree, Derives, Stops}
-use Rattle.gms_grammar.specs.Terminals.{is}
+use Rattle.gms_grammar.specs.Grammar.{the, Tree, yield, IsTree, Derives}
+use Rattle.gms_grammar.specs.Rules as rules
 use Rattle.gms_grammar.specs.GamsGrammar.{Program, productions}
-use Rattle.gms_ast.specs.declared.declaration.Item.{Item}
 use Rattle.gms_ast.specs.declared.program.Program.{Program as ProgramNode}
-use Rattle.gms_expressions.specs.ExpressionTrees.{first_place}
 use Rattle.gms_expressions.specs.Outcomes.{seen}
 use Rattle.gms_expressions.specs.Valuations.{number_in}
-use Rattle.gms_parse.specs.declared.fault.SourceError.{SourceError}
-use Rattle.gms_parse.specs.declared.fault.SourceError.TheVariants.{TooLong, Expected, NotInProfile}
+use Rattle.gms_parse.specs.declared.fault.SourceError.TheVariants.{TooLong}
 use Rattle.gms_parse.specs.declared.fault.SourceFault.{SourceFault}
 use Rattle.gms_parse.specs.declared.fault.SourceFaultOrMemory.{SourceFaultOrMemory}
 use Rattle.gms_parse.specs.declared.fault.SourceFaultOrMemory.TheVariants.{Memory, Fault}
-use Rattle.gms_parse.specs.Faults.{error_of_lexical}
+use Rattle.gms_parse.specs.Faults.{lexical_fault}
 use Rattle.gms_ast.specs.StatementTrees.{Statements}
 use Rattle.gms_ast.specs.StatementView.{statements_view}
 use Rattle.gms_parse.specs.Programs.{statements_of}
 use Rattle.gms_parse.specs.Tables.{AreTableItems, items_given}
-use Rattle.gms_parse.specs.Walks.{Seen, start, kind_ahead, walk_behind, IsFaulty, AreSound}
+use Rattle.gms_parse.specs.Walks.{Seen, start, kind_ahead, kind_of, walk_behind, source_rule, AreSound}
 
 -- A program as it is seen, wherever its parts are kept in memory: its names, its labels, and the trees of its statements.
 pub record ProgramView : Type 0 where
@@ -39,11 +35,6 @@ abbrev pub program_view : {F : Type 0} → (F → Number) → ProgramNode F → 
 program_view value_of program =
     record { names = program.names; labels = program.labels; statements = statements_view value_of program.statements.items }
 
--- the error of a token that is unexpected: of a word that the language leaves out this is said
-abbrev pub unexpected_error : List Seen → SourceError
-unexpected_error [] = Expected
-unexpected_error (token ∷ tokens) = if is terminal.NotInProfile token.0 then NotInProfile else Expected
-
 -- These are all the lines of a table among the tokens: lines one after another, with none before and none behind them.
 pub record IsTableOf (tokens lines : List Seen) : Type 0 where
   pub before : List Seen
@@ -54,14 +45,14 @@ pub record IsTableOf (tokens lines : List Seen) : Type 0 where
   pub none_before : (others : List Seen) (token : Seen) → before ≡ others ++ token ∷ [] → token.0 ≢ terminal.TableLine
   pub none_behind : kind_ahead behind terminal.End ≢ terminal.TableLine
 
-module _ (limit : ℕ) (source : List ℕ) where
-  -- each table among the tokens has items
-  abbrev pub HaveItems : List (List ℕ) → List Seen → Type 0
-  HaveItems labels tokens = (lines : List Seen) → IsTableOf tokens lines → (items : List (Item Number)) × AreTableItems limit source labels lines items
+-- Behind this front of a source another token is wanted: where the rest is the end, the front is no program.
+abbrev pub WantsMore : List Seen → List Seen → Type 0
+WantsMore front rest = kind_of rest ≡ terminal.End → Derives productions (the Program) front → ⊥
 
-  -- these are the items of each table among the tokens, by its lines
-  abbrev pub AreAllItems : List (List ℕ) → List Seen → (List Seen → List (Item Number)) → Type 0
-  AreAllItems labels tokens table_items = (lines : List Seen) → IsTableOf tokens lines → AreTableItems limit source labels lines (table_items lines)
+module _ (limit : ℕ) (source : List ℕ) where
+  -- each table among the tokens has items, which are those that its lines give
+  abbrev pub HaveItems : List (List ℕ) → List Seen → Type 0
+  HaveItems labels tokens = (lines : List Seen) → IsTableOf tokens lines → AreTableItems limit source labels lines (items_given source labels lines)
 
   -- The program of the tokens, which is the only one: they are a program up to the end, and none has a fault. Its names and labels
   -- are those that the tokens leave, each table has items, and the statements are those that the derivation means, in which a text has
@@ -75,30 +66,12 @@ module _ (limit : ℕ) (source : List ℕ) where
     pub names_are : names ≡ (walk_behind source start (yield tree) terminal.End).names
     pub labels_are : labels ≡ (walk_behind source start (yield tree) terminal.End).labels
     pub tables : HaveItems labels (yield tree)
-    pub statements_are : statements ≡ statements_of source names labels number_in neg_ℚ (items_given source labels) tree
+    pub statements_are : statements ≡ statements_of source names labels number_in tree
 
-  -- The first faulty one of the tokens that begin a program, where one of kind `ahead` stands behind these.
-  pub record IsFirstFaulty (front : List Seen) (ahead : Terminal) (fault : SourceFault) : Type 0 where
-    pub before : List Seen
-    pub token : Seen
-    pub behind : List Seen
-    pub parts : front ≡ before ++ token ∷ behind
-    pub are_sound : AreSound limit source start before token.0
-    pub is_faulty : IsFaulty limit source (walk_behind source start before token.0) token (kind_ahead behind ahead) fault
-
-  -- The token behind those that begin a program is unexpected, and none of them is faulty; at the end of the source more has to come.
-  pub record IsUnexpected (front rest : List Seen) (fault : SourceFault) : Type 0 where
-    pub is_none : kind_ahead rest terminal.End ≡ terminal.End → Derives productions (the Program) front → ⊥
-    pub are_sound : AreSound limit source start front (kind_ahead rest terminal.End)
-    pub error : fault.error ≡ unexpected_error rest
-    pub at : fault.at ≡ first_place rest
-
-  -- The tokens are no program, or a faulty one: this is the first fault.
-  pub record IsNoProgram (tokens : List Seen) (fault : SourceFault) : Type 0 where
-    pub front : List Seen
-    pub rest : List Seen
-    pub stops : Stops productions (the Program) tokens front rest
-    pub cause : IsFirstFaulty front (kind_ahead rest terminal.End) fault ⊎ IsUnexpected front rest fault
+  -- The tokens are no program, or a faulty one: this is the first fault. At the front where they cease to begin one it is the next token
+  -- that is unexpected; before the end of the source only if the front is no program.
+  abbrev pub IsNoProgram : List Seen → SourceFault → Type 0
+  IsNoProgram tokens fault = rules.IsRefused source_rule (limit, source) WantsMore Program start tokens fault
 
   -- A source of too many bytes has a fault at its start, and no other.
   abbrev pub IsTooLong : SourceFault → Type 0
@@ -109,8 +82,7 @@ module _ (limit : ℕ) (source : List ℕ) where
     pub short : length source ≤ most_bytes
     pub lexical : LexFault
     pub is_first : IsLexicalFault source lexical
-    pub error : fault.error ≡ error_of_lexical lexical.error
-    pub at : fault.at ≡ lexical.at
+    pub is : fault ≡ lexical_fault lexical
 
   -- Else the fault is the first of the tokens.
   pub record IsSyntactic (fault : SourceFault) : Type 0 where

@@ -1,9 +1,9 @@
 -- The statements that the derivation of a program means (GAMS User's Guide, "GAMS Programs", "Programming Flow Control Features").
 use Rattle.std.specs.Prelude.{ℕ, List, []}
+use Rattle.gq_number.specs.Number.{Number}
 use Rattle.gms_lex.specs.declared.token.Token.{Token}
 use Rattle.gms_grammar.specs.declared.terminal.Terminal.{Terminal}
 use Rattle.gms_grammar.specs.Grammar.{Tree, pair, left, right, some, more, node}
-use Rattle.gms_ast.specs.declared.declaration.Item.{Item}
 use Rattle.gms_expressions.specs.ExpressionTrees.{place_in, control}
 use Rattle.gms_ast.specs.StatementTrees.{Act, loops, displays, Statements, no_statement, statement, followed_by}
 use Rattle.gms_parse.specs.Declarations.{variable_act, equation_act, model_act, set_act, parameter_act, scalar_act, table_act}
@@ -47,21 +47,21 @@ module _ {N : Type 0} (source : List ℕ) (names labels : List (List ℕ)) (valu
     display_or_other (right (right (right (right tree)))) = loop_act tree
     display_or_other _ = displays []
 
--- The same where numbers have these opposites, and the lines of a table give these items.
-module _ {N : Type 0} (source : List ℕ) (names labels : List (List ℕ)) (value : List ℕ → N) (opposite : N → N) (table_items : List (Terminal × Token) → List (Item N)) where
+-- The same for statements with data, which are numbers.
+module _ (source : List ℕ) (names labels : List (List ℕ)) (value : List ℕ → Number) where
   -- one of two acts, as the derivation goes
-  abbrev pub either : (Tree (Terminal × Token) → Act N) → (Tree (Terminal × Token) → Act N) → Tree (Terminal × Token) → Act N
+  abbrev pub either : (Tree (Terminal × Token) → Act Number) → (Tree (Terminal × Token) → Act Number) → Tree (Terminal × Token) → Act Number
   either one other (left tree) = one tree
   either one other (right tree) = other tree
   either one other _ = displays []
 
   -- a statement that begins with a keyword
-  abbrev pub keyword_act : Tree (Terminal × Token) → Act N
+  abbrev pub keyword_act : Tree (Terminal × Token) → Act Number
   keyword_act (node tree) =
-      either (set_act source names labels value opposite table_items) (
-      either (parameter_act source names labels value opposite table_items) (
-      either (scalar_act source names labels value opposite table_items) (
-      either (table_act source names labels value opposite table_items) (
+      either (set_act source names labels value) (
+      either (parameter_act source names labels value) (
+      either (scalar_act source names labels value) (
+      either (table_act source names labels value) (
       either (variable_act source names labels value) (
       either (equation_act source names labels value) (
       either (model_act source names labels value) (
@@ -69,26 +69,26 @@ module _ {N : Type 0} (source : List ℕ) (names labels : List (List ℕ)) (valu
   keyword_act _ = displays []
 
   -- statements that begin with keywords, one after another
-  abbrev pub keyword_statements : Tree (Terminal × Token) → Statements N
+  abbrev pub keyword_statements : Tree (Terminal × Token) → Statements Number
   keyword_statements (more first others) = statement (place_in first) (keyword_act first) (keyword_statements others)
   keyword_statements _ = no_statement
 
   -- a statement that begins with a name, where there is one, before others
-  abbrev pub named_first : Tree (Terminal × Token) → Statements N → Statements N
+  abbrev pub named_first : Tree (Terminal × Token) → Statements Number → Statements Number
   named_first (some tree) others = statement (place_in tree) (named_act source names labels value tree) others
   named_first _ others = others
 
   -- what stands between two semicolons
-  abbrev pub segment : Tree (Terminal × Token) → Statements N
+  abbrev pub segment : Tree (Terminal × Token) → Statements Number
   segment (node (pair named others)) = named_first named (keyword_statements others)
   segment _ = no_statement
 
   -- semicolons, and what stands behind each
-  abbrev pub segments : Tree (Terminal × Token) → Statements N
+  abbrev pub segments : Tree (Terminal × Token) → Statements Number
   segments (more (pair _ tree) others) = followed_by (segment tree) (segments others)
   segments _ = no_statement
 
   -- the statements of a program
-  abbrev pub statements_of : Tree (Terminal × Token) → Statements N
+  abbrev pub statements_of : Tree (Terminal × Token) → Statements Number
   statements_of (node (pair first others)) = followed_by (segment first) (segments others)
   statements_of _ = no_statement

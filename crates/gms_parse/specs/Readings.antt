@@ -12,23 +12,26 @@ use Rattle.gq_text.specs.Literal.{FitsLiteral}
 use Rattle.gq_text.specs.Decimal.{MeansNumber}
 use Rattle.gms_grammar.specs.declared.terminal.Terminal.{Terminal}
 use Rattle.gms_grammar.specs.declared.terminal.Terminal.TheVariants as terminal
-use Rattle.gms_grammar.specs.Grammar.{Part, one, the, Tree, yield}
-use Rattle.gms_grammar.specs.Reading.{read, stuck, leads, Reads, Takes}
+use Rattle.gms_grammar.specs.Grammar.{Part, one, the, Tree}
+use Rattle.gms_grammar.specs.Reading.{leads}
+use Rattle.gms_grammar.specs.Rules as rules
 use Rattle.gms_grammar.specs.Terminals.{is, is_among}
 use Rattle.gms_grammar.specs.GamsGrammar.{Nonterminal, Program, productions, token, name}
 use Rattle.gms_grammar.specs.GamsLookAhead.{look_ahead}
 use Rattle.gms_expressions.specs.Words.{terminal_of}
-use Rattle.gms_expressions.specs.Outcomes.{seen, next_place}
+use Rattle.gms_expressions.specs.Outcomes.{seen}
 use Rattle.gms_expressions.specs.Valuations.{IsValuation}
-use Rattle.gms_parse.specs.declared.fault.SourceError.TheVariants.{Number as OutOfRange, TooManyLabels, NoHeading}
+use Rattle.gms_parse.specs.declared.fault.SourceError.TheVariants.{Syntax, Table}
+use Rattle.gms_expressions.specs.declared.fault.SyntaxError.TheVariants.{Number as OutOfRange, TooManyLabels}
+use Rattle.gms_table.specs.declared.fault.TableError.TheVariants.{NoHeading}
 use Rattle.gms_parse.specs.declared.fault.SourceFault.{SourceFault}
 use Rattle.gms_parse.specs.declared.fault.SourceFaultOrMemory.{SourceFaultOrMemory}
 use Rattle.gms_parse.specs.declared.fault.SourceFaultOrMemory.TheVariants.{Fault, Memory}
 use Rattle.gms_parse.specs.declared.reader.Reader.{Reader}
 use Rattle.gms_parse.specs.declared.reader.Tables.{Tables}
 use Rattle.gms_table.specs.declared.entry.TableLine.{TableLine}
-use Rattle.gms_parse.specs.Walks.{Seen, Walk, start, kind_ahead, last_kind, ends_statement, table_name, walk_behind, IsFaulty, AreSound}
-use Rattle.gms_parse.specs.Outcomes.{unexpected_error}
+use Rattle.gms_parse.specs.Walks.{Seen, Walk, start, last_kind, ends_statement, table_name, unexpected, source_rule}
+pub use Rattle.gms_parse.specs.Walks.{kind_of}
 
 -- a tree of the grammar
 abbrev pub Derivation : Type 0
@@ -38,41 +41,21 @@ Derivation = Tree Seen
 abbrev pub GamsPart : Type 0
 GamsPart = Part Terminal Nonterminal
 
--- the kind of the first of the tokens, or the end
-abbrev pub kind_of : List Seen → Terminal
-kind_of tokens = kind_ahead tokens terminal.End
-
 -- a part was read: its tree, and what its tokens leave
-pub record Gives (limit : ℕ) (source : List ℕ) (part : GamsPart) (walk : Walk) (tokens : List Seen) (tree : Derivation) (behind : Walk) (rest : List Seen) : Type 0 where
-  pub reads : Reads productions look_ahead part tokens (read tree rest)
-  pub are_sound : AreSound limit source walk (yield tree) (kind_of rest)
-  pub leaves : behind ≡ walk_behind source walk (yield tree) (kind_of rest)
-
--- the fault of a token that is unexpected
-abbrev pub unexpected : List ℕ → List Seen → SourceFault
-unexpected source rest = record { error = unexpected_error rest; at = next_place source rest }
+abbrev pub Gives : ℕ → List ℕ → GamsPart → Walk → List Seen → Derivation → Walk → List Seen → Type 0
+Gives limit source part walk tokens tree behind rest = rules.Gives source_rule (limit, source) part walk tokens tree behind rest
 
 -- within a part the next token is unexpected, and none before it has a fault
-pub record IsStuck (limit : ℕ) (source : List ℕ) (part : GamsPart) (walk : Walk) (tokens : List Seen) (fault : SourceFault) : Type 0 where
-  pub front : List Seen
-  pub rest : List Seen
-  pub reads : Reads productions look_ahead part tokens (stuck front rest)
-  pub are_sound : AreSound limit source walk front (kind_of rest)
-  pub is : fault ≡ unexpected source rest
+abbrev pub IsStuck : ℕ → List ℕ → GamsPart → Walk → List Seen → SourceFault → Type 0
+IsStuck limit source part walk tokens fault = rules.IsStuck source_rule (limit, source) part walk tokens fault
 
 -- within a part a token has a fault, and none before it has one
-pub record IsWrong (limit : ℕ) (source : List ℕ) (part : GamsPart) (walk : Walk) (tokens : List Seen) (fault : SourceFault) : Type 0 where
-  pub before : List Seen
-  pub token : Seen
-  pub behind : List Seen
-  pub takes : Takes productions look_ahead part tokens (before ++ token ∷ []) behind
-  pub are_sound : AreSound limit source walk before token.0
-  pub is_faulty : IsFaulty limit source (walk_behind source walk before token.0) token (kind_of behind) fault
+abbrev pub IsWrong : ℕ → List ℕ → GamsPart → Walk → List Seen → SourceFault → Type 0
+IsWrong limit source part walk tokens fault = rules.IsWrong source_rule (limit, source) part walk tokens fault
 
 -- why a part was not read; want of memory has no cause in it
-pub record Refuses (limit : ℕ) (source : List ℕ) (part : GamsPart) (walk : Walk) (tokens : List Seen) (refusal : SourceFaultOrMemory) : Type 0 where
-  pub why : (fault : SourceFault) → refusal ≡ Fault fault →
-      IsStuck limit source part walk tokens fault ⊎ IsWrong limit source part walk tokens fault
+abbrev pub Refuses : ℕ → List ℕ → GamsPart → Walk → List Seen → SourceFaultOrMemory → Type 0
+Refuses limit source part walk tokens refusal = rules.Refuses source_rule (limit, source) part walk tokens refusal
 
 -- the names, the labels and the numbers that the words of a program have in the end
 pub record Sense : Type 0 where
@@ -245,7 +228,7 @@ AnswersDomain limit Means part reader at old new result =
     (walk : Walk) → Has reader old walk → Optionless walk →
     MatchResult result
     (λ r. (ends_head walk (seen_from reader r.1) ≡ false → IsGot limit Means (Stays reader new walk) part reader at new walk r.0 r.1)
-    × (ends_head walk (seen_from reader r.1) ≡ true → is terminal.Table (last_kind walk.before) ≡ false → Refuses limit reader.source.now part walk (seen_from reader at) (Fault (record { error = NoHeading; at = table_name walk.before }))))
+    × (ends_head walk (seen_from reader r.1) ≡ true → is terminal.Table (last_kind walk.before) ≡ false → Refuses limit reader.source.now part walk (seen_from reader at) (Fault (record { error = Table NoHeading; at = table_name walk.before }))))
     (λ e. Refuses limit reader.source.now part walk (seen_from reader at) e)
 
 -- of a declaration that begins with this keyword
@@ -359,7 +342,7 @@ pub record IsEntered (old new : List (List ℕ)) (text : List ℕ) (n : ℕ) : T
 
 -- there is no room for a text, or want of memory
 pub record IsNotEntered (old : List (List ℕ)) (text : List ℕ) (at : Place) (refusal : SourceFaultOrMemory) : Type 0 where
-  pub why : (refusal ≡ Memory) ⊎ ((refusal ≡ Fault (record { error = TooManyLabels; at = at })) × IsFullFor old text)
+  pub why : (refusal ≡ Memory) ⊎ ((refusal ≡ Fault (record { error = Syntax TooManyLabels; at = at })) × IsFullFor old text)
 
 -- the value of a number, which is within its range
 abbrev pub IsValue : {F : Type 0} → ℕ → (F → Number) → List ℕ → F → Type 0
@@ -367,5 +350,5 @@ IsValue limit value text v = MeansNumber text (value v) × FitsLiteral limit (va
 
 -- the refusal of a number that is out of range
 pub record IsTooLarge (limit : ℕ) (source : List ℕ) (token : Token) (refusal : SourceFaultOrMemory) : Type 0 where
-  pub is : refusal ≡ Fault (record { error = OutOfRange; at = token.at })
+  pub is : refusal ≡ Fault (record { error = Syntax OutOfRange; at = token.at })
   pub none_fits : (x : Number) → MeansNumber (token_text source token) x → FitsLiteral limit x → ⊥

@@ -17,7 +17,8 @@ use Rattle.gms_expressions.specs.ExpressionTrees.{or_0}
 use Rattle.gms_expressions.specs.Valuations.{number_in}
 use Rattle.gms_labels.specs.declared.place.Place.{Place}
 use Rattle.gms_labels.specs.Labels.{place_of}
-use Rattle.gms_parse.specs.declared.fault.SourceError.TheVariants.{NoHeading}
+use Rattle.gms_parse.specs.declared.fault.SourceError.TheVariants.{Table}
+use Rattle.gms_table.specs.declared.fault.TableError.TheVariants.{NoHeading}
 use Rattle.gms_parse.specs.declared.fault.SourceFault.{SourceFault}
 use Rattle.gms_parse.specs.Faults.{error_of_table}
 
@@ -33,7 +34,7 @@ labels_of_lines source lines = texts_of (parts_of_tokens source lines)
 -- heading, or the first fault in them.
 abbrev pub IsLineFault : ℕ → List ℕ → Place → List (List ℕ) → List (Terminal × Token) → SourceFault → Type 0
 IsLineFault limit source at labels lines fault =
-    ((parts_of_tokens source lines ≡ []) × (fault ≡ record { error = NoHeading; at = at })) ⊎ ((found : TableFault) × IsFirstFault limit labels (parts_of_tokens source lines) found × (fault ≡ record { error = error_of_table found.error; at = found.at }))
+    ((parts_of_tokens source lines ≡ []) × (fault ≡ record { error = Table NoHeading; at = at })) ⊎ ((found : TableFault) × IsFirstFault limit labels (parts_of_tokens source lines) found × (fault ≡ record { error = error_of_table found.error; at = found.at }))
 
 -- positions with one label at each
 abbrev pub positions_of : List ℕ → List (List ℕ)

@@ -1,6 +1,6 @@
 -- What the tokens of a program leave as they are read in order: names and labels are numbered where they first stand. And which
 -- tokens that the grammar expects have a fault (GAMS User's Guide, "Language Items", "Sets"; the limits are this project's own).
-use Rattle.std.specs.Prelude.{◌≡◌, ℕ, ◌≤◌, Bool, true, false, not, ◌&&◌, ◌||◌, ◌==◌, if◌then◌else◌, List, [], ◌∷◌, ◌++◌, map, reverse, take_while, Option, Some, None, ⊤}
+use Rattle.std.specs.Prelude.{◌≡◌, ℕ, ◌≤◌, Bool, true, false, not, ◌&&◌, ◌||◌, ◌==◌, if◌then◌else◌, List, [], ◌∷◌, ◌++◌, map, reverse, take_while, Option, Some, None}
 use Rattle.gms_labels.specs.declared.place.Place.{Place}
 use Rattle.gms_labels.specs.Labels.{entered, IsFullFor}
 use Rattle.gms_lex.specs.declared.token.Token.{Token}
@@ -11,14 +11,22 @@ use Rattle.gq_text.specs.Decimal.{MeansNumber}
 use Rattle.gms_grammar.specs.declared.terminal.Terminal.{Terminal}
 use Rattle.gms_grammar.specs.declared.terminal.Terminal.TheVariants as terminal
 use Rattle.gms_grammar.specs.Terminals.{is, is_among}
+use Rattle.gms_grammar.specs.Rules as rules
+use Rattle.gms_grammar.specs.Rules.{Rule, left_by}
+pub use Rattle.gms_grammar.specs.Rules.{kind_ahead, kind_of}
 use Rattle.gms_set.specs.Ranges.{is_range, members}
 use Rattle.gms_table.specs.WordLabels.{all_entered}
 use Rattle.gms_expressions.specs.ExpressionTrees.{unquoted as between_marks}
 use Rattle.gms_expressions.specs.Words.{statement_words}
+use Rattle.gms_expressions.specs.Outcomes as syntax
 use Rattle.gms_expressions.specs.Outcomes.{open_after}
-pub use Rattle.gms_expressions.specs.Outcomes.{kind_ahead}
-use Rattle.gms_parse.specs.declared.fault.SourceError.TheVariants.{Depth, Number as OutOfRange, TooManyLabels, NoHeading}
+use Rattle.gms_parse.specs.Faults.{source_fault}
+use Rattle.gms_expressions.specs.declared.fault.SyntaxError.TheVariants.{Depth, Number as OutOfRange, TooManyLabels}
+use Rattle.gms_table.specs.declared.fault.TableError.TheVariants.{NoHeading}
+use Rattle.gms_parse.specs.declared.fault.SourceError.TheVariants.{Syntax, Table}
 use Rattle.gms_parse.specs.declared.fault.SourceFault.{SourceFault}
+use Rattle.gms_parse.specs.declared.fault.SourceFaultOrMemory.{SourceFaultOrMemory}
+use Rattle.gms_parse.specs.declared.fault.SourceFaultOrMemory.TheVariants.{Fault}
 use Rattle.gms_parse.specs.Tables.{labels_of_lines, IsLineFault}
 
 -- tokens as the grammar sees them
@@ -118,10 +126,13 @@ module _ (source : List ℕ) where
         level = if begins then walk.open_count else walk.level;
       }
 
-  -- what tokens leave
+  -- what tokens leave, where one of kind `ahead` stands behind them
   abbrev pub walk_behind : Walk → List Seen → Terminal → Walk
-  walk_behind walk [] ahead = walk
-  walk_behind walk (token ∷ tokens) ahead = walk_behind (walk_after walk token (kind_ahead tokens ahead)) tokens ahead
+  walk_behind walk tokens ahead = left_by walk_after walk tokens ahead
+
+  -- the fault of a token that is unexpected
+  abbrev pub unexpected : List Seen → SourceFault
+  unexpected rest = source_fault (syntax.unexpected source rest)
 
 module _ (limit : ℕ) (source : List ℕ) where
   -- a number is out of range
@@ -132,19 +143,26 @@ module _ (limit : ℕ) (source : List ℕ) where
   -- parenthesis where 100 are open; it is a number out of range; it is a new name where 65,536 are there, or enters a new label where
   -- as many are there; it is the last line of a table that has a fault; or it ends the head of a table without lines.
   pub data IsFaulty (walk : Walk) (token : Seen) (ahead : Terminal) : SourceFault → Type 0 where
-    deep : token.0 ≡ terminal.LeftParen → 100 ≤ walk.open_count → IsFaulty walk token ahead (record { error = Depth; at = token.1.at })
-    out_of_range : token.0 ≡ terminal.Number → IsOutOfRange token.1 → IsFaulty walk token ahead (record { error = OutOfRange; at = token.1.at })
+    deep : token.0 ≡ terminal.LeftParen → 100 ≤ walk.open_count → IsFaulty walk token ahead (record { error = Syntax Depth; at = token.1.at })
+    out_of_range : token.0 ≡ terminal.Number → IsOutOfRange token.1 → IsFaulty walk token ahead (record { error = Syntax OutOfRange; at = token.1.at })
     many_names : is_name walk token.0 ≡ true → IsFullFor walk.names (token_text source token.1) →
-        IsFaulty walk token ahead (record { error = TooManyLabels; at = token.1.at })
+        IsFaulty walk token ahead (record { error = Syntax TooManyLabels; at = token.1.at })
     many_labels : is terminal.TableLine token.0 ≡ false → LacksRoom walk.labels (new_labels source walk token ahead) →
-        IsFaulty walk token ahead (record { error = TooManyLabels; at = token.1.at })
+        IsFaulty walk token ahead (record { error = Syntax TooManyLabels; at = token.1.at })
     in_table : {fault : SourceFault} → token.0 ≡ terminal.TableLine → is terminal.TableLine ahead ≡ false →
         IsLineFault limit source (table_name walk.before) walk.labels (lines_with source walk.before token) fault → IsFaulty walk token ahead fault
     without_lines : token.0 ≡ terminal.RightParen → walk.keyword ≡ terminal.Table → ends_statement ahead ≡ true →
-        IsFaulty walk token ahead (record { error = NoHeading; at = table_name walk.before })
+        IsFaulty walk token ahead (record { error = Table NoHeading; at = table_name walk.before })
 
-  -- none of the tokens has a fault, where one of kind `ahead` stands behind them
-  abbrev pub AreSound : Walk → List Seen → Terminal → Type 0
-  AreSound walk [] ahead = ⊤
-  AreSound walk (token ∷ tokens) ahead =
-      ((fault : SourceFault) → IsFaulty walk token (kind_ahead tokens ahead) fault → ⊥) × AreSound (walk_after source walk token (kind_ahead tokens ahead)) tokens ahead
+-- the rule of faults in a source, by the limit of its numbers
+abbrev pub source_rule : ℕ × List ℕ → Rule Token Walk SourceFault SourceFaultOrMemory
+source_rule key = record {
+  after = walk_after key.1;
+  Faulty = λ walk token ahead fault. IsFaulty key.0 key.1 walk token ahead fault;
+  unexpected = unexpected key.1;
+  told = Fault;
+}
+
+-- none of the tokens has a fault, where one of kind `ahead` stands behind them
+abbrev pub AreSound : ℕ → List ℕ → Walk → List Seen → Terminal → Type 0
+AreSound limit source walk tokens ahead = rules.AreSound (source_rule (limit, source)) walk tokens ahead

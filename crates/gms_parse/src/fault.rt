@@ -1,68 +1,25 @@
 //! Why a source is no program, and where.
 ghost use Rattle.std.specs.Prelude.{◌≡◌};
 ghost use Rattle.gms_parse.specs.declared.fault.SourceFaultOrMemory.TheVariants.{Memory};
-ghost use Rattle.gms_parse.specs.Faults.{error_code, error_name, error_of_lexical, error_of_syntax, fault_at, fault_of_lexical, fault_of_syntax};
+ghost use Rattle.gms_parse.specs.Faults.{error_code, error_name, fault_at, fault_of_lexical, fault_of_syntax};
 
 use gms_expressions::{SyntaxError, SyntaxFaultOrMemory};
 use gms_labels::Place;
 use gms_lex::{LexError, LexFaultOrMemory};
+use gms_table::TableError;
 use std::alloc::{AllocError, AllocFailed};
-use thiserror::Error;
 
-/// A source error, by its cause.
-#[derive(Clone, Copy, Debug, PartialEq, Eq, Error)]
+/// A source error, by what finds it.
+#[derive(Clone, Copy, PartialEq, Eq)]
 pub enum SourceError {
-    /// A byte that may not stand where it stands.
-    #[error("a byte that may not stand here")]
-    BadByte,
-    /// A quotation mark that does not come again on its line.
-    #[error("a quotation mark is not closed on its line")]
-    OpenQuote,
-    /// An `$ontext` without `$offtext`.
-    #[error("a block of comment is not ended")]
-    OpenText,
-    /// A name or a label of over 63 bytes.
-    #[error("a name or label is too long")]
-    LongLabel,
-    /// A line of over 32,768 bytes.
-    #[error("a line is too long")]
-    LongLine,
-    /// A control line whose first word is not accepted.
-    #[error("an unknown control word")]
-    UnknownControl,
     /// A source of over 1,048,576 bytes.
-    #[error("the source is too long")]
     TooLong,
-    /// A token with which no program goes on, or the end where more has to come.
-    #[error("another token is expected")]
-    Expected,
-    /// A parenthesis that is opened where 100 are open.
-    #[error("too many parentheses are open")]
-    Depth,
-    /// A number out of range.
-    #[error("the number is out of range")]
-    Number,
-    /// A word of a statement or a value that the language leaves out.
-    #[error("the language leaves this out")]
-    NotInProfile,
-    /// A new name or label where 65,536 are there.
-    #[error("there are too many names or labels")]
-    TooManyLabels,
-    /// A number of a table with no heading above it.
-    #[error("the number stands under no heading")]
-    NoColumn,
-    /// A number of a table with two headings or more above it.
-    #[error("the number stands under more than one heading")]
-    TwoColumns,
-    /// A number of a table for a row and a heading that have one.
-    #[error("the row has a number under this heading")]
-    RepeatedEntry,
-    /// A word of a table that is no heading, no row label or no number where one of these is due.
-    #[error("this is no label or number of a table")]
-    BadRow,
-    /// A table without lines.
-    #[error("the table has no headings")]
-    NoHeading,
+    /// An error of its tokens.
+    Lexical(LexError),
+    /// A token with which no program goes on, or a parenthesis, a number or a name that is too much.
+    Syntax(SyntaxError),
+    /// An error of a table.
+    Table(TableError),
 }
 
 impl SourceError {
@@ -71,23 +28,10 @@ impl SourceError {
         ensures { result ≡ error_code self }
     {
         match self {
-            SourceError::BadByte => 1,
-            SourceError::OpenQuote => 2,
-            SourceError::OpenText => 3,
-            SourceError::LongLabel => 4,
-            SourceError::LongLine => 5,
-            SourceError::UnknownControl => 6,
             SourceError::TooLong => 9,
-            SourceError::Expected => 11,
-            SourceError::Depth => 12,
-            SourceError::Number => 13,
-            SourceError::NotInProfile => 14,
-            SourceError::TooManyLabels => 15,
-            SourceError::NoColumn => 21,
-            SourceError::TwoColumns => 22,
-            SourceError::RepeatedEntry => 23,
-            SourceError::BadRow => 24,
-            SourceError::NoHeading => 25,
+            SourceError::Lexical(error) => error.code(),
+            SourceError::Syntax(error) => error.code(),
+            SourceError::Table(error) => error.code(),
         }
     }
 
@@ -96,58 +40,16 @@ impl SourceError {
         ensures { result.now ≡ error_name self }
     {
         match self {
-            SourceError::BadByte => "BadByte",
-            SourceError::OpenQuote => "OpenQuote",
-            SourceError::OpenText => "OpenText",
-            SourceError::LongLabel => "LongLabel",
-            SourceError::LongLine => "LongLine",
-            SourceError::UnknownControl => "UnknownControl",
             SourceError::TooLong => "TooLong",
-            SourceError::Expected => "Expected",
-            SourceError::Depth => "Depth",
-            SourceError::Number => "Number",
-            SourceError::NotInProfile => "NotInProfile",
-            SourceError::TooManyLabels => "TooManyLabels",
-            SourceError::NoColumn => "NoColumn",
-            SourceError::TwoColumns => "TwoColumns",
-            SourceError::RepeatedEntry => "RepeatedEntry",
-            SourceError::BadRow => "BadRow",
-            SourceError::NoHeading => "NoHeading",
-        }
-    }
-}
-
-impl From<LexError> for SourceError {
-    ghost from_gives = { λ lexical error. error ≡ error_of_lexical lexical };
-
-    fn from(error: LexError) -> SourceError {
-        match error {
-            LexError::BadByte => SourceError::BadByte,
-            LexError::OpenQuote => SourceError::OpenQuote,
-            LexError::OpenText => SourceError::OpenText,
-            LexError::LongLabel => SourceError::LongLabel,
-            LexError::LongLine => SourceError::LongLine,
-            LexError::UnknownControl => SourceError::UnknownControl,
-        }
-    }
-}
-
-impl From<SyntaxError> for SourceError {
-    ghost from_gives = { λ syntax error. error ≡ error_of_syntax syntax };
-
-    fn from(error: SyntaxError) -> SourceError {
-        match error {
-            SyntaxError::Expected => SourceError::Expected,
-            SyntaxError::Depth => SourceError::Depth,
-            SyntaxError::Number => SourceError::Number,
-            SyntaxError::NotInProfile => SourceError::NotInProfile,
-            SyntaxError::TooManyLabels => SourceError::TooManyLabels,
+            SourceError::Lexical(error) => error.name(),
+            SourceError::Syntax(error) => error.name(),
+            SourceError::Table(error) => error.name(),
         }
     }
 }
 
 /// A source error and where it stands.
-#[derive(Clone, Copy, Debug, PartialEq, Eq)]
+#[derive(Clone, Copy)]
 pub struct SourceFault {
     /// The error.
     pub error: SourceError,
@@ -157,7 +59,7 @@ pub struct SourceFault {
 }
 
 /// A fault of a source, or want of memory.
-#[derive(Clone, Copy, Debug, PartialEq, Eq)]
+#[derive(Clone, Copy)]
 pub enum SourceFaultOrMemory {
     /// A growth found no memory.
     Memory,
@@ -196,7 +98,10 @@ impl From<LexFaultOrMemory> for SourceFaultOrMemory {
     fn from(fault: LexFaultOrMemory) -> SourceFaultOrMemory {
         match fault {
             LexFaultOrMemory::Memory => SourceFaultOrMemory::Memory,
-            LexFaultOrMemory::Fault(fault) => SourceFaultOrMemory::at(fault.error.into(), fault.at),
+            LexFaultOrMemory::Fault(fault) => SourceFaultOrMemory::at(
+                SourceError::Lexical(fault.error),
+                fault.at,
+            ),
         }
     }
 }
@@ -208,7 +113,7 @@ impl From<SyntaxFaultOrMemory> for SourceFaultOrMemory {
         match fault {
             SyntaxFaultOrMemory::Memory => SourceFaultOrMemory::Memory,
             SyntaxFaultOrMemory::Fault(fault) => SourceFaultOrMemory::at(
-                fault.error.into(),
+                SourceError::Syntax(fault.error),
                 fault.at,
             ),
         }

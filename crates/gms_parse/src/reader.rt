@@ -18,10 +18,10 @@ ghost use Rattle.gms_parse.specs.Meanings.{IsNamed, IsSign};
 use crate::fault::{SourceError, SourceFaultOrMemory};
 use crate::spelling::is_minus;
 use gms_ast::Named;
-use gms_expressions::{MOST_OPEN, bytes_of, terminal_of};
+use gms_expressions::{MOST_OPEN, SyntaxError, bytes_of, terminal_of};
 use gms_grammar::Terminal;
 use gms_labels::{LabelFault, Labels, Place};
-use gms_lex::Token;
+use gms_lex::{LexError, Token};
 use gq_field::ExactField;
 use gq_text::read_decimal;
 use std::alloc::Global;
@@ -112,10 +112,10 @@ impl<'s> Reader<'s> {
         ensures { result ≡ unexpected_at self.now at }
     {
         let error = match self.next(at) {
-            Terminal::NotInProfile => SourceError::NotInProfile,
-            _ => SourceError::Expected,
+            Terminal::NotInProfile => SyntaxError::NotInProfile,
+            _ => SyntaxError::Expected,
         };
-        SourceFaultOrMemory::at(error, self.place(at))
+        SourceFaultOrMemory::at(SourceError::Syntax(error), self.place(at))
     }
 
     /// The next token, where it is of this kind, and the place behind it.
@@ -210,7 +210,7 @@ impl<'s> Reader<'s> {
     {
         let (token, behind) = self.take(Terminal::LeftParen, at)?;
         if self.unclosed >= MOST_OPEN {
-            return Err(SourceFaultOrMemory::at(SourceError::Depth, token.at));
+            return Err(SourceFaultOrMemory::at(SourceError::Syntax(SyntaxError::Depth), token.at));
         }
         let inner = Reader {
             unclosed: self.unclosed + 1,
@@ -241,7 +241,10 @@ impl<'s> Reader<'s> {
     {
         match str::from_utf8(bytes) {
             Ok(text) => Ok(text),
-            Err(_) => Err(SourceFaultOrMemory::at(SourceError::BadByte, token.at)),
+            Err(_) => Err(SourceFaultOrMemory::at(
+                SourceError::Lexical(LexError::BadByte),
+                token.at,
+            )),
         }
     }
 
@@ -260,7 +263,7 @@ impl<'s> Reader<'s> {
         match table.enter(self.alloc, text) {
             Ok(number) => Ok(number),
             Err(LabelFault::Full) => Err(SourceFaultOrMemory::at(
-                SourceError::TooManyLabels,
+                SourceError::Syntax(SyntaxError::TooManyLabels),
                 token.at,
             )),
             Err(LabelFault::Memory) => Err(SourceFaultOrMemory::Memory),
@@ -276,7 +279,10 @@ impl<'s> Reader<'s> {
     {
         match read_decimal(self.text(token)) {
             Ok(value) => Ok(value),
-            Err(_) => Err(SourceFaultOrMemory::at(SourceError::Number, token.at)),
+            Err(_) => Err(SourceFaultOrMemory::at(
+                SourceError::Syntax(SyntaxError::Number),
+                token.at,
+            )),
         }
     }
 

@@ -7,7 +7,7 @@ ghost use Rattle.gms_grammar.specs.GamsLookAhead.{look_ahead};
 ghost use Rattle.gms_parse.specs.Programs.{keyword_act, display_or_other, loop_act, inner_act};
 ghost use Rattle.gms_parse.specs.Walks.{Walk, is_keyword};
 ghost use Rattle.gms_parse.specs.Readings.{IsReady, Holds, Starts, Tableless, IsGot, Refuses, IsWhole, RefusesWhole, seen_from, kind_of, unexpected_at, AnswersAct, AnswersInner, AnswersStatement};
-ghost use Rattle.gms_parse.specs.Meanings.{IsAct, IsTabled, IsStatement, IsInner, IsBody, IsNamedFirst, IsSegment, AreStatements, other_statement};
+ghost use Rattle.gms_parse.specs.Meanings.{IsAct, IsInner, IsBody, IsNamedFirst, IsSegment, AreStatements, other_statement};
 
 use crate::declaration::Form;
 use crate::fault::SourceFaultOrMemory;
@@ -50,7 +50,7 @@ impl<'s> Reader<'s> {
     fn keyword_act<F: ExactField>(&self, tables: &mut Tables, at: usize) -> Read<Act<F>>
         requires ready { IsReady self.now }
         requires keyword { is_keyword (kind_of (seen_from self.now at)) ≡ true }
-        ensures { AnswersStatement F.limit (IsTabled F.value self.now.source.now F.limit (IsStatement F.value self.now.source.now keyword_act)) (the KeywordStatement) self.now at tables.old tables.new result }
+        ensures { AnswersStatement F.limit (IsAct F.value self.now.source.now keyword_act) (the KeywordStatement) self.now at tables.old tables.new result }
     {
         match self.next(at) {
             Terminal::Set => self.declaration(tables, Terminal::Set, DeclKind::Set, Form::Set, at),
@@ -195,7 +195,7 @@ impl<'s> Reader<'s> {
         requires { IsReady self.now }
         ensures { (walk : Walk) → Starts self.now tables.old walk → Tableless walk →
             MatchResult result
-            (λ next. IsGot F.limit (IsTabled F.value self.now.source.now F.limit (IsSegment F.value self.now.source.now statements.old)) (Holds self.now tables.new) (the Segment) self.now at tables.new walk statements.new next)
+            (λ next. IsGot F.limit (IsSegment F.value self.now.source.now statements.old) (Holds self.now tables.new) (the Segment) self.now at tables.new walk statements.new next)
             (λ e. Refuses F.limit self.now.source.now (the Segment) walk (seen_from self.now at) e) }
     {
         let mut next = self.named_statement(tables, statements, at)?;
@@ -220,7 +220,7 @@ impl<'s> Reader<'s> {
         requires names { tables.old.names ≡ [] }
         requires labels { tables.old.labels ≡ [] }
         ensures { MatchResult result
-            (λ statements. IsWhole F.limit (IsTabled F.value self.now.source.now F.limit (AreStatements F.value self.now.source.now)) self.now tables.new statements)
+            (λ statements. IsWhole F.limit (AreStatements F.value self.now.source.now) self.now tables.new statements)
             (λ e. RefusesWhole F.limit self.now e) }
     {
         let mut statements = Vec::new(self.alloc);

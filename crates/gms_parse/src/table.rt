@@ -8,13 +8,14 @@ ghost use Rattle.gms_parse.specs.Declarations.{table_act};
 ghost use Rattle.gms_parse.specs.Walks.{ends_statement};
 ghost use Rattle.gms_parse.specs.Readings.{IsReady, IsLines, kind_of, seen_from, AnswersStatement};
 ghost use Rattle.gms_parse.specs.Tables.{positions_of, item_of_entry};
-ghost use Rattle.gms_parse.specs.Meanings.{IsTabled, IsStatement};
+ghost use Rattle.gms_parse.specs.Meanings.{IsAct};
 ghost use Rattle.gms_parse.specs.TableReadings.{IsTableRead, IsTableRefused};
 
 use crate::fault::{SourceError, SourceFaultOrMemory};
 use crate::reader::{Read, Reader, Tables};
 use crate::statement::KEYWORDS;
 use gms_ast::{Act, Decl, DeclKind, Item, Sequence};
+use gms_expressions::SyntaxError;
 use gms_grammar::Terminal;
 use gms_labels::{Labels, Place};
 use gms_table::{Entry, TableError, TableFaultOrMemory, TableLine, table};
@@ -29,15 +30,30 @@ fn table_fault(fault: TableFaultOrMemory, name: Place) -> SourceFaultOrMemory
     match fault {
         TableFaultOrMemory::Memory => SourceFaultOrMemory::Memory,
         TableFaultOrMemory::Fault(fault) => match fault.error {
-            TableError::NoColumn => SourceFaultOrMemory::at(SourceError::NoColumn, fault.at),
-            TableError::TwoColumns => SourceFaultOrMemory::at(SourceError::TwoColumns, fault.at),
-            TableError::RepeatedEntry => SourceFaultOrMemory::at(
-                SourceError::RepeatedEntry,
+            TableError::NoColumn => SourceFaultOrMemory::at(
+                SourceError::Table(TableError::NoColumn),
                 fault.at,
             ),
-            TableError::BadRow => SourceFaultOrMemory::at(SourceError::BadRow, fault.at),
-            TableError::NoHeading => SourceFaultOrMemory::at(SourceError::NoHeading, name),
-            TableError::Labels => SourceFaultOrMemory::at(SourceError::TooManyLabels, fault.at),
+            TableError::TwoColumns => SourceFaultOrMemory::at(
+                SourceError::Table(TableError::TwoColumns),
+                fault.at,
+            ),
+            TableError::RepeatedEntry => SourceFaultOrMemory::at(
+                SourceError::Table(TableError::RepeatedEntry),
+                fault.at,
+            ),
+            TableError::BadRow => SourceFaultOrMemory::at(
+                SourceError::Table(TableError::BadRow),
+                fault.at,
+            ),
+            TableError::NoHeading => SourceFaultOrMemory::at(
+                SourceError::Table(TableError::NoHeading),
+                name,
+            ),
+            TableError::Labels => SourceFaultOrMemory::at(
+                SourceError::Syntax(SyntaxError::TooManyLabels),
+                fault.at,
+            ),
         },
     }
 }
@@ -155,7 +171,7 @@ impl<'s> Reader<'s> {
         at: usize,
     ) -> Read<Act<F>>
         requires { IsReady self.now }
-        ensures { AnswersStatement F.limit (IsTabled F.value self.now.source.now F.limit (IsStatement F.value self.now.source.now table_act)) (the TableStatement) self.now at tables.old tables.new result }
+        ensures { AnswersStatement F.limit (IsAct F.value self.now.source.now table_act) (the TableStatement) self.now at tables.old tables.new result }
     {
         let start = self.behind(Terminal::Table, at)?;
         let name = self.place(start);

@@ -1,10 +1,10 @@
 //! The lines of the right sides of rows and of the costs of columns.
-ghost use Rattle.std.specs.Prelude.{◌≡◌, ◌++◌, map, option_map, slice_index_or, None, IfOk, OnOk, string_bytes};
+ghost use Rattle.std.specs.Prelude.{◌≡◌, ◌++◌, map, option_map, None, IfOk, OnOk, string_bytes};
 ghost use Rattle.lp_core.specs.Feasible.{bound_value};
 ghost use Rattle.lp_core.specs.Numbers.{row_numbers, column_numbers};
 ghost use Rattle.gq_text.specs.ExactText.{exact_text};
 ghost use Rattle.lp_range.specs.Ranges.{span_value};
-ghost use Rattle.gms_ranges.specs.RangeTexts.{span_line, span_at, key_text, right_line, cost_line, right_lines, cost_lines};
+ghost use Rattle.gms_ranges.specs.RangeTexts.{span_line, span_at, key_text, right_line, right_lines, cost_lines};
 
 use gms_fmt::element;
 use gms_labels::Labels;

@@ -39,7 +39,7 @@ no_length : {A : Type 0} (xs : List A) → length xs ≡ 0 → xs ≡ []
 no_length [] e = refl
 no_length (x ∷ xs) e = absurd (omega arith)
 
-no_entries : {X : Type 0} → finite.entries (finite.empty {X = X} {R = key_cmp}) ≡ []
+pub no_entries : {X : Type 0} → finite.entries (finite.empty {X = X} {R = key_cmp}) ≡ []
 no_entries {X} = no_length (finite.entries (finite.empty {X = X} {R = key_cmp})) (sym (finite.len-entries (finite.empty {X = X} {R = key_cmp})) ∙ finite.len-empty key_cmp X)
 
 -- a map made of entries in order has these entries

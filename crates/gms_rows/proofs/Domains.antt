@@ -11,7 +11,7 @@ use Rattle.gms_tuple.proofs.Ordered.{first-before, rest-ordered, ordered-cons}
 use Rattle.std.specs.declared.cmp.Ordering.TheVariants.{Less}
 use Rattle.gms_store.specs.State.{State, members_of}
 use Rattle.gms_eval.specs.Bindings.{controlled}
-use Rattle.gms_eval.specs.Domain.{elements, too_large, sized, those_where}
+use Rattle.gms_eval.specs.Domain.{elements, most_elements, too_large, sized, those_where}
 use Rattle.gms_eval.specs.Faults.{Answer, ◌and_then◌}
 use Rattle.gms_eval.specs.Holds.{holds}
 use Rattle.gms_eval.specs.InnerLeading.{IsSimple}
@@ -106,7 +106,7 @@ module _ {F : Type 0} (state : State) where
 
 -- the elements that are few enough are these
 pub sized-is : (at : Place) (those found : List (List ℕ)) → sized at [] those ≡ Ok found → those ≡ found
-sized-is at those found e = by (nat_lt 16777216 (length those)) e
+sized-is at those found e = by (nat_lt most_elements (length those)) e
   where
     by : (b : Bool) → (if b then Err (too_large at [] (length those)) else Ok those) ≡ Ok found → those ≡ found
     by true e = absurd (cc)

@@ -11,6 +11,7 @@ pub mod Joins
 pub mod OtherNodes
 pub mod Parts
 pub mod Naming
+pub mod Noting
 pub mod IndexSets
 pub mod OneRow
 pub mod RowWalk
@@ -20,4 +21,7 @@ pub mod Domains
 pub mod RowKeys
 pub mod ModelKeys
 pub mod RowLaws
+pub mod ExactSteps
+pub mod ReadAt
+pub mod RowsAtPoints
 mod Lags

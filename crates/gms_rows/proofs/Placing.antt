@@ -36,7 +36,7 @@ stands-at (k ∷ keys) key there = by (same_key key k) refl (stands-at keys key)
         (suc later.0, omega (arith, later.1), λ d. later.2 d)
 
 module _ (columns : List Key) (ordered : AreOrdered columns) where
-  stands-in_place : (key : Key) → is_among columns key ≡ true → (place_of columns key < length columns) × ((d : Key) → get_or columns (place_of columns key) d ≡ key)
+  pub stands-in_place : (key : Key) → is_among columns key ≡ true → (place_of columns key < length columns) × ((d : Key) → get_or columns (place_of columns key) d ≡ key)
   stands-in_place key there =
       let some = stands-at columns key there in
       let equal : key_cmp (get_or columns some.0 key) key ≡ Equal = ap (λ k. key_cmp k key) (some.2 key) ∙ tied_itself key_cmp-total key in

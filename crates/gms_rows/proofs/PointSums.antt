@@ -186,7 +186,7 @@ module _ (point : Key → Number) where
       ∙ sym (/ℚ_is (form_at point a) x)
 
   -- a form that is a number
-  number-at : (form : Form) → is_number form ≡ true → form_at point form ≡ form.constant
+  pub number-at : (form : Form) → is_number form ≡ true → form_at point form ≡ form.constant
   number-at form is = by (finite.keys form.numbers) is
     where
       by : (keys : List Key) → (length keys == 0) ≡ true → form.constant +ℚ sum_by_ℚ (term form) keys ≡ form.constant

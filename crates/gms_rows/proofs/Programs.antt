@@ -34,7 +34,7 @@ use Rattle.gms_rows.proofs.Sizing.{bounds-shown, variables-shown, senses-placed,
 -- ---- lists and what a function makes of them
 
 module _ {X Y : Type 0} (f : X → Y) where
-  all-of_map : (P : Y → Type 0) (xs : List X) → All P (map f xs) → All (λ x. P (f x)) xs
+  pub all-of_map : (P : Y → Type 0) (xs : List X) → All P (map f xs) → All (λ x. P (f x)) xs
   all-of_map P [] all = All-nil (λ x. P (f x))
   all-of_map P (x ∷ xs) all =
       All-cons (λ x. P (f x)) x xs (All-head P (f x) (map f xs) all) (all-of_map P xs (All-tail P (f x) (map f xs) all))
@@ -50,14 +50,14 @@ module _ {X Y : Type 0} (f : X → Y) where
   pairs-map R (x ∷ xs) pairs =
       AllPairs-cons R (f x) (map f xs) (All-map (R (f x)) f xs (AllPairs-first (λ a b. R (f a) (f b)) x xs pairs)) (pairs-map R xs (AllPairs-rest (λ a b. R (f a) (f b)) x xs pairs))
 
-  map-keeps : {K : Type 0} (g : Y → K) (h : X → K) → ((x : X) → g (f x) ≡ h x) → (xs : List X) → map g (map f xs) ≡ map h xs
+  pub map-keeps : {K : Type 0} (g : Y → K) (h : X → K) → ((x : X) → g (f x) ≡ h x) → (xs : List X) → map g (map f xs) ≡ map h xs
   map-keeps g h same [] = refl
   map-keeps g h same (x ∷ xs) =
       let first = same x in
       let rest = map-keeps g h same xs in
       λ i. first i ∷ rest i
 
-map-itself : {X : Type 0} (g : X → X) → ((x : X) → g x ≡ x) → (xs : List X) → map g xs ≡ xs
+pub map-itself : {X : Type 0} (g : X → X) → ((x : X) → g x ≡ x) → (xs : List X) → map g xs ≡ xs
 map-itself g same [] = refl
 map-itself g same (x ∷ xs) =
     let first = same x in
@@ -73,7 +73,7 @@ keys-differ keys up i j d less below same =
     let tied : key_cmp (get_or keys i d) (get_or keys j d) ≡ Equal = ap (key_cmp (get_or keys i d)) (sym same) ∙ tied_itself key_cmp-total (get_or keys i d) in
     let both : Less ≡ Equal = sym before ∙ tied in cc
 
-or-true : (b : Bool) → (b || true) ≡ true
+pub or-true : (b : Bool) → (b || true) ≡ true
 or-true true = refl
 or-true false = refl
 
@@ -87,14 +87,14 @@ own-keys (k ∷ keys) =
 among-append : (xs ys : List Key) (q : Key) → is_among (xs ++ ys) q ≡ (is_among xs q || is_among ys q)
 among-append xs ys q = list_any-append (same_key q) xs ys
 
--- the keys of rows are among them all
-row-keys : {F : Type 0} (rows : List (OwnRow F)) → All (λ row. All (λ key. is_among (flat_map (λ (row : OwnRow F). row.form.keys) rows) key ≡ true) row.form.keys) rows
-row-keys {F} [] = All-nil (λ row. All (λ key. is_among [] key ≡ true) row.form.keys)
-row-keys {F} (row ∷ rows) =
-    let later = flat_map (λ (row : OwnRow F). row.form.keys) rows in
-    All-cons (λ (r : OwnRow F). All (λ key. is_among (row.form.keys ++ later) key ≡ true) r.form.keys) row rows
-    (All-weaker (λ key. is_among row.form.keys key ≡ true) (λ key. is_among (row.form.keys ++ later) key ≡ true) (λ key there. among-append row.form.keys later key ∙ ap (λ b. b || is_among later key) there) row.form.keys (own-keys row.form.keys))
-    (All-weaker (λ (r : OwnRow F). All (λ key. is_among later key ≡ true) r.form.keys) (λ (r : OwnRow F). All (λ key. is_among (row.form.keys ++ later) key ≡ true) r.form.keys) (λ r all. All-weaker (λ key. is_among later key ≡ true) (λ key. is_among (row.form.keys ++ later) key ≡ true) (λ key there. among-append row.form.keys later key ∙ ap (λ b. is_among row.form.keys key || b) there ∙ or-true (is_among row.form.keys key)) r.form.keys all) rows (row-keys rows))
+-- what a function makes of each of some things is among what it makes of all
+pub keys-there : {X : Type 0} (f : X → List Key) (xs : List X) → All (λ x. All (λ key. is_among (flat_map f xs) key ≡ true) (f x)) xs
+keys-there f [] = All-nil (λ x. All (λ key. is_among [] key ≡ true) (f x))
+keys-there {X} f (x ∷ xs) =
+    let later = flat_map f xs in
+    All-cons (λ (y : X). All (λ key. is_among (f x ++ later) key ≡ true) (f y)) x xs
+    (All-weaker (λ key. is_among (f x) key ≡ true) (λ key. is_among (f x ++ later) key ≡ true) (λ key there. among-append (f x) later key ∙ ap (λ b. b || is_among later key) there) (f x) (own-keys (f x)))
+    (All-weaker (λ (y : X). All (λ key. is_among later key ≡ true) (f y)) (λ (y : X). All (λ key. is_among (f x ++ later) key ≡ true) (f y)) (λ y all. All-weaker (λ key. is_among later key ≡ true) (λ key. is_among (f x ++ later) key ≡ true) (λ key there. among-append (f x) later key ∙ ap (λ b. is_among (f x) key || b) there ∙ or-true (is_among (f x) key)) (f y) all) xs (keys-there f xs))
 
 -- ---- the program of rows
 
@@ -117,7 +117,7 @@ module _ {F : Type 0} (v : F → Number) (state : State) (rows : List (OwnRow F)
   pub rows-there : All (λ row. IsForm v row.form) rows → All (λ row. All (λ key. is_among keys key ≡ true) row.form.keys) rows
   rows-there forms =
       let later = flat_map (λ (row : OwnRow F). row.form.keys) rows in
-      All-weaker (λ (row : OwnRow F). All (λ key. is_among later key ≡ true) row.form.keys) (λ (row : OwnRow F). All (λ key. is_among keys key ≡ true) row.form.keys) (λ row all. All-weaker (λ key. is_among later key ≡ true) (λ key. is_among keys key ≡ true) (λ key there. keys-among key ∙ ap (λ ks. same_key key objective || is_among ks key) (keys-rows v rows forms) ∙ ap (λ b. same_key key objective || b) there ∙ or-true (same_key key objective)) row.form.keys all) rows (row-keys rows)
+      All-weaker (λ (row : OwnRow F). All (λ key. is_among later key ≡ true) row.form.keys) (λ (row : OwnRow F). All (λ key. is_among keys key ≡ true) row.form.keys) (λ row all. All-weaker (λ key. is_among later key ≡ true) (λ key. is_among keys key ≡ true) (λ key there. keys-among key ∙ ap (λ ks. same_key key objective || is_among ks key) (keys-rows v rows forms) ∙ ap (λ b. same_key key objective || b) there ∙ or-true (same_key key objective)) row.form.keys all) rows (keys-there (λ (row : OwnRow F). row.form.keys) rows)
 
   module _ (columns : List (Column F)) (shown : map (column_numbers v) columns ≡ map (column_of state) keys) (maximize : Bool) where
     abbrev the_program : Lp Number

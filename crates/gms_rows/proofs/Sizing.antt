@@ -4,6 +4,7 @@ use Rattle.std.specs.Prelude.{sum_by}
 use Rattle.std.proofs.lemmas.List.Sums.{sum_by-cons}
 use Rattle.gq_number.specs.Number.{Number}
 use Rattle.gms_labels.specs.declared.place.Place.{Place}
+use Rattle.gms_eval.specs.Domain.{most_counted}
 use Rattle.gms_eval.specs.Faults.{Answer, Fault, nothing}
 use Rattle.gms_eval.specs.Gives.{Shows, Stops}
 use Rattle.gms_eval.specs.declared.stop.StopKind.{StopKind}
@@ -103,15 +104,15 @@ module _ {F : Type 0} (v : F → Number) (at : Place) (lp : Lp Number) (rows col
   few-rows few = ap by_rows (le-ltb 1500 (standard_rows lp) (omega (arith, few, rows-are)))
 
   -- too many rows
-  pub sized-rows : (count : ℕ) (stop : StopOrMemory F) → count ≡ min rows 18446744073709551615 → 1500 < count → Shows v stop (record { kind = TooManyRows; at = at; binding = []; left = nothing; right = nothing; count = count }) → Stops v stop (sized at lp)
+  pub sized-rows : (count : ℕ) (stop : StopOrMemory F) → count ≡ min rows most_counted → 1500 < count → Shows v stop (record { kind = TooManyRows; at = at; binding = []; left = nothing; right = nothing; count = count }) → Stops v stop (sized at lp)
   sized-rows count stop is more s =
-      let counted : min (standard_rows lp) 18446744073709551615 ≡ count = omega (arith, is, rows-are) in
+      let counted : min (standard_rows lp) most_counted ≡ count = omega (arith, is, rows-are) in
       shows-stops v stop (sized at lp) (counted_fault TooManyRows at count) (ap by_rows (lt-ltb 1500 (standard_rows lp) (omega (arith, is, more, rows-are))) ∙ ap (λ n. Err (counted_fault TooManyRows at n)) counted) s
 
   -- too many columns
-  pub sized-columns : rows ≤ 1500 → (count : ℕ) (stop : StopOrMemory F) → count ≡ min columns 18446744073709551615 → 3000 < count → Shows v stop (record { kind = TooManyColumns; at = at; binding = []; left = nothing; right = nothing; count = count }) → Stops v stop (sized at lp)
+  pub sized-columns : rows ≤ 1500 → (count : ℕ) (stop : StopOrMemory F) → count ≡ min columns most_counted → 3000 < count → Shows v stop (record { kind = TooManyColumns; at = at; binding = []; left = nothing; right = nothing; count = count }) → Stops v stop (sized at lp)
   sized-columns few count stop is more s =
-      let counted : min (standard_columns lp) 18446744073709551615 ≡ count = omega (arith, is, columns-are) in
+      let counted : min (standard_columns lp) most_counted ≡ count = omega (arith, is, columns-are) in
       shows-stops v stop (sized at lp) (counted_fault TooManyColumns at count) (few-rows few ∙ ap by_columns (lt-ltb 3000 (standard_columns lp) (omega (arith, is, more, columns-are))) ∙ ap (λ n. Err (counted_fault TooManyColumns at n)) counted) s
 
   -- neither

@@ -1,5 +1,5 @@
 -- What the pieces of the code promise each other.
-use Rattle.std.specs.Prelude.{◌≡◌, ℕ, Bool, List, [], ◌∷◌, ◌++◌, ◌==◌, if◌then◌else◌, map, option_map, false, Option, Some, None, Result, Ok, Err}
+use Rattle.std.specs.Prelude.{◌≡◌, ℕ, Bool, List, [], ◌∷◌, ◌++◌, ◌==◌, if◌then◌else◌, map, option_map, slice_index_or, false, Option, Some, None, Result, Ok, Err}
 use Rattle.gms_rows.specs.Forms.{Form, form_in, zero_form}
 use Rattle.gms_eval.specs.Bindings.{Pairs, controlled}
 use Rattle.gms_eval.specs.Faults.{Answer, faulted, ◌and_then◌}
@@ -15,12 +15,13 @@ use Rattle.gq_extended.specs.Extended.{Extended}
 use Rattle.gms_ast.specs.TreeView.{tree_of, parts_of, index_tree, indices_of}
 use Rattle.gms_ast.specs.Trees.{signed, Tree, Parts, Control}
 use Rattle.gms_ast.specs.declared.expression.Expr.{Expr}
+use Rattle.gms_ast.specs.declared.program.Stmt.{Stmt}
 use Rattle.gms_labels.specs.declared.place.Place.{Place}
 use Rattle.gms_rows.specs.Affine.{Join, joined, plus, times, chained, in_front, forms, affine}
 use Rattle.gms_store.specs.State.{State}
 use Rattle.gms_rows.specs.ElementRows.{AreInOrder}
 use Rattle.gms_rows.specs.ProgramLp.{place_of}
-use Rattle.gms_rows.specs.Rows.{FormRow, Definition, each_once, sets_among}
+use Rattle.gms_rows.specs.Rows.{FormRow, Definition, defined_at, definition_of, each_once, sets_among}
 use Rattle.gms_rows.specs.declared.equations.Definition.{Definition as OwnDefinition}
 use Rattle.gms_rows.specs.declared.form_row.FormRow.{FormRow as OwnRow}
 use Rattle.gq_number.specs.Number.{Number}
@@ -30,6 +31,7 @@ use Rattle.lp_form.specs.declared.fault.FormFault.TheVariants as fault
 use Rattle.lp_form.specs.declared.fault.FormFault.{FormFault}
 use Rattle.lp_form.specs.declared.key.Key.{Key}
 use Rattle.std.specs.List.Sorted.{IsStrictlySortedBy}
+use Rattle.std.specs.Borrow.{Bor}
 use Rattle.std.specs.List.{All, list_any}
 use Rattle.std.specs.Ordering.{eq_by_cmp}
 use Rattle.std.specs.declared.cmp.Ordering.{Ordering}
@@ -83,6 +85,10 @@ is_in names name = list_any (λ m. m == name) names
 abbrev pub with_once : List ℕ → ℕ → List ℕ
 with_once names name = if is_in names name then names else names ++ name ∷ []
 
+-- names are marked by their numbers, and no others
+abbrev pub AreMarked : List Bool → List ℕ → Type 0
+AreMarked marks names = (n : ℕ) → slice_index_or marks n false ≡ is_in names n
+
 -- the definition that one of the code shows
 abbrev pub definition_in : {F : Type 0} → OwnDefinition F → Definition F
 definition_in d =
@@ -102,6 +108,15 @@ definition_in d =
 abbrev pub found_in : {F : Type 0} → Option (OwnDefinition F) → List (Definition F)
 found_in None = []
 found_in (Some d) = definition_in d ∷ []
+
+-- the definition of a name that the statement noted for it is, if one is noted
+abbrev pub noted_by : {F : Type 0} → Option (Bor (Stmt F)) → ℕ → List (Definition F)
+noted_by None name = []
+noted_by (Some s) name = definition_of (defined_at s.now.at s.now.act) name
+
+-- by the number of each name stands the statement that is its first definition
+abbrev pub AreNoted : {F : Type 0} → List (Option (Bor (Stmt F))) → List (Definition F) → Type 0
+AreNoted noted ds = (name : ℕ) → noted_by (slice_index_or noted name None) name ≡ definition_of ds name
 
 -- ---- sets in order
 

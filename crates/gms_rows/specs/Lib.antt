@@ -1,7 +1,9 @@
 pub mod Affine
 pub mod ElementRows
 pub mod Forms
+pub mod ModelPoints
 pub mod Plain
+pub mod PointValues
 pub mod Points
 pub mod ProgramLp
 pub mod Rows

@@ -6,6 +6,7 @@ use Rattle.gms_labels.specs.declared.place.Place.{Place}
 use Rattle.gq_number.specs.Number.{Number, neg_ℚ}
 use Rattle.gms_ast.specs.declared.program.Stmt.{Stmt}
 use Rattle.gms_store.specs.State.{State, attributes_of}
+use Rattle.gms_eval.specs.Domain.{most_counted}
 use Rattle.gms_eval.specs.Faults.{Answer, Fault, nothing, ◌and_then◌}
 use Rattle.gms_eval.specs.declared.stop.StopKind.{StopKind}
 use Rattle.gms_eval.specs.declared.stop.StopKind.TheVariants.{TooManyRows, TooManyColumns}
@@ -47,10 +48,10 @@ program_of state rows objective maximize =
 
 -- ---- how large its standard form is
 
--- the fault of so many rows or columns, whose count is the greatest number of a `u64` where they pass it
+-- the fault of so many rows or columns, whose count stops at the greatest number that is counted
 abbrev pub too_many : StopKind → Place → ℕ → Fault
 too_many kind at count =
-    record { kind = kind; at = at; binding = []; left = nothing; right = nothing; count = min count 18446744073709551615 }
+    record { kind = kind; at = at; binding = []; left = nothing; right = nothing; count = min count most_counted }
 
 -- a linear program of over 1,500 standard rows, or else of over 3,000 standard columns, is a fault at the solve
 abbrev pub sized : Place → Lp Number → Answer (Lp Number)

@@ -1,10 +1,11 @@
 //! The equations of a model, and their definitions.
-ghost use Rattle.std.specs.Prelude.{◌≡◌, ℕ, List, ◌++◌, map, option_map, IfOk, OnOk};
+ghost use Rattle.std.specs.Prelude.{◌≡◌, ℕ, List, ◌++◌, map, option_map, option_to_list, slice_index_or, None, IfOk, OnOk};
 ghost use Rattle.gms_ast.specs.Trees.{no_index};
 ghost use Rattle.gms_ast.specs.TreeView.{index_tree, indices_of};
-ghost use Rattle.gms_rows.specs.Rows.{each_once, listed, found, declared_by, models_of, has_lag, defined_at, definition_of, definitions, equations_of};
-ghost use Rattle.gms_rows.specs.InnerWalks.{with_once, found_in};
+ghost use Rattle.gms_rows.specs.Rows.{each_once, listed, found, declared_by, models_of, has_lag, Definition as Defined, defined_at, definition_of, definitions, equations_of};
+ghost use Rattle.gms_rows.specs.InnerWalks.{AreNoted, found_in, noted_by};
 
+use crate::names::{Names, reach};
 use gms_ast::{Act, Decl, DeclKind, Expr, Index, ModelDecl, Program, Side, Stmt};
 use gms_labels::Place;
 use gq_field::ExactField;
@@ -89,32 +90,64 @@ fn definition_at<F: ExactField>(statement: &Stmt<F>, name: u32) -> Option<Defini
     }
 }
 
-/// The definition of an equation: the first that the program has.
-pub(crate) fn find_definition<F: ExactField>(
-    program: &Program<F>,
+/// The definition of a name among the statements that were noted.
+pub(crate) fn noted_definition<'s, F: ExactField>(
+    noted: &[Option<&'s Stmt<F>>],
     name: u32,
-) -> Option<Definition<'_, F>>
-    ensures { definition_of (definitions program.now.statements.items) name ≡ found_in result }
+) -> Option<Definition<'s, F>>
+    ensures { noted_by (slice_index_or noted.now name None) name ≡ found_in result }
 {
-    for statement in &program.statements {
-        if let Some(definition) = definition_at(statement, name) {
-            return Some(definition);
-        }
+    match noted.get(name as usize) {
+        Some(Some(statement)) => definition_at(*statement, name),
+        _ => None,
     }
-    None
 }
 
-/// Adds a name at the end of others, where it is not among them.
-pub(crate) fn push_once(names: &mut Vec<u32>, name: u32) -> Result<(), AllocError>
-    ensures { OnOk result (names.new.items ≡ with_once names.old.items name) }
+/// Notes a statement by the name that it defines, where it is the first that does.
+fn note<'s, F: ExactField>(
+    noted: &mut Vec<Option<&'s Stmt<F>>>,
+    statement: &'s Stmt<F>,
+) -> Result<(), AllocError>
+    ensures { (before : List (Defined F)) → AreNoted noted.old.items before →
+        OnOk result (AreNoted noted.new.items (before ++ defined_at statement.now.at statement.now.act)) }
 {
-    for other in names.as_slice() {
-        if *other == name {
-            return Ok(());
-        }
+    let Some(name) = defined_name(statement) else {
+        return Ok(());
+    };
+    if noted_definition(noted.as_slice(), name).is_some() {
+        return Ok(());
     }
-    names.push(name)?;
+    reach(noted, name, None)?;
+    noted[name as usize] = Some(statement);
     Ok(())
+}
+
+/// The name that a statement defines, if it does.
+fn defined_name<F: ExactField>(statement: &Stmt<F>) -> Option<u32>
+    ensures { option_to_list result ≡ map (λ d. d.equation) (defined_at statement.now.at statement.now.act) }
+{
+    match &statement.act {
+        Act::Define {
+            equation,
+            indices,
+            ..
+        } if !has_lag(indices.as_slice()) => Some(equation.name),
+        _ => None,
+    }
+}
+
+/// The statements that define names, each by the number of its name: the first that the program has.
+pub(crate) fn noted_statements<'s, F: ExactField>(
+    alloc: Global,
+    program: &'s Program<F>,
+) -> Result<Vec<Option<&'s Stmt<F>>>, AllocError>
+    ensures { IfOk result (λ noted. AreNoted noted.items (definitions program.now.statements.items)) }
+{
+    let mut noted = Vec::new(alloc);
+    for statement in &program.statements {
+        note(&mut noted, statement)?;
+    }
+    Ok(noted)
 }
 
 /// The equations of a model: those that are listed, each where it stands first, or all that were declared before it.
@@ -124,11 +157,11 @@ fn listed(alloc: Global, model: &ModelDecl, declared: &[u32]) -> Result<Vec<u32>
     if model.all {
         return Vec::from_slice(alloc, declared);
     }
-    let mut names = Vec::new(alloc);
+    let mut names = Names::new(alloc);
     for equation in model.equations.as_slice() {
-        push_once(&mut names, equation.name)?;
+        names.push_once(equation.name)?;
     }
-    Ok(names)
+    Ok(names.into_vec())
 }
 
 /// The equations of the first of these models that has a name.
@@ -164,20 +197,20 @@ fn found_by<F: ExactField>(
 }
 
 /// Adds the names that are declared, each once.
-fn push_names<F: ExactField>(names: &mut Vec<u32>, items: &[Decl<F>]) -> Result<(), AllocError>
-    ensures { (before : List ℕ) → names.old.items ≡ each_once before →
-        OnOk result (names.new.items ≡ each_once (before ++ map (λ item. item.named.name) items.now)) }
+fn push_names<F: ExactField>(names: &mut Names, items: &[Decl<F>]) -> Result<(), AllocError>
+    ensures { (before : List ℕ) → names.old ≡ each_once before →
+        OnOk result (names.new ≡ each_once (before ++ map (λ item. item.named.name) items.now)) }
 {
     for item in items {
-        push_once(names, item.named.name)?;
+        names.push_once(item.named.name)?;
     }
     Ok(())
 }
 
 /// Adds the equations that an act declares, each once.
-fn push_declared<F: ExactField>(names: &mut Vec<u32>, act: &Act<F>) -> Result<(), AllocError>
-    ensures { (before : List ℕ) → names.old.items ≡ each_once before →
-        OnOk result (names.new.items ≡ each_once (before ++ declared_by act.now)) }
+fn push_declared<F: ExactField>(names: &mut Names, act: &Act<F>) -> Result<(), AllocError>
+    ensures { (before : List ℕ) → names.old ≡ each_once before →
+        OnOk result (names.new ≡ each_once (before ++ declared_by act.now)) }
 {
     match act {
         Act::Declare {
@@ -196,9 +229,9 @@ pub fn equations_of<F: ExactField>(
 ) -> Result<Vec<u32>, AllocError>
     ensures { IfOk result (λ equations. equations.items ≡ equations_of program.now.statements.items model) }
 {
-    let mut declared: Vec<u32> = Vec::new(alloc);
+    let mut declared = Names::new(alloc);
     for statement in &program.statements {
-        if let Some(equations) = found_by(alloc, &statement.act, model, &declared)? {
+        if let Some(equations) = found_by(alloc, &statement.act, model, declared.as_slice())? {
             return Ok(equations);
         }
         push_declared(&mut declared, &statement.act)?;

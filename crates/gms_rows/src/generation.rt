@@ -1,5 +1,5 @@
 //! The linear program of a solve.
-ghost use Rattle.std.specs.Prelude.{◌≢◌, [], ◌++◌, map, flat_map, IfOk, OnOk, Ok};
+ghost use Rattle.std.specs.Prelude.{◌≢◌, List, [], ◌++◌, map, flat_map, IfOk, OnOk, Ok};
 ghost use Rattle.std.specs.List.{All, AllPairs};
 ghost use Rattle.lp_core.specs.WellFormed.{IsWellFormed};
 ghost use Rattle.lp_core.specs.Numbers.{lp_numbers};
@@ -8,15 +8,15 @@ ghost use Rattle.gms_eval.specs.Faults.{◌and_then◌};
 ghost use Rattle.gms_eval.specs.Gives.{Gives};
 ghost use Rattle.gms_rows.specs.Plain.{HasPlainDefinitions};
 ghost use Rattle.gms_rows.specs.ProgramLp.{program_lp, program_of, sized};
-ghost use Rattle.gms_rows.specs.Rows.{definitions, definition_of, equations_of, rows_of, rows_of_model};
-ghost use Rattle.gms_rows.specs.InnerWalks.{form_row_in, HaveOrder};
+ghost use Rattle.gms_rows.specs.Rows.{Definition, definitions, definition_of, equations_of, rows_of, rows_of_model};
+ghost use Rattle.gms_rows.specs.InnerWalks.{AreNoted, form_row_in, HaveOrder};
 
 use crate::columns::{columns_of, keys_of, place_of, placed_rows};
-use crate::equations::{equations_of, find_definition};
+use crate::equations::{equations_of, noted_definition, noted_statements};
 use crate::form_row::FormRow;
 use crate::rows::push_rows;
 use crate::size::check_size;
-use gms_ast::Program;
+use gms_ast::{Program, Stmt};
 use gms_eval::StopOrMemory;
 use gms_labels::Place;
 use gms_store::Store;
@@ -27,18 +27,18 @@ use lp_form::Key;
 use std::alloc::Global;
 
 /// Adds the rows of an equation, where it has a definition.
-fn push_equation<F: ExactField>(
+fn push_equation<'s, F: ExactField>(
     alloc: Global,
     store: &Store<F>,
-    program: &Program<F>,
+    noted: &[Option<&'s Stmt<F>>],
     equation: u32,
     rows: &mut Vec<FormRow<F>>,
 ) -> Result<(), StopOrMemory<F>>
-    ensures rows { Gives F.value (λ _. map (form_row_in F.value) rows.new.items) result
-        (in_order (map (rows_of F.value F.limit store.now) (definition_of (definitions program.now.statements.items) equation)) and_then λ those. Ok (map (form_row_in F.value) rows.old.items ++ flat_map (λ some. some) those)) }
-    ensures ordered { OnOk result (HaveOrder store.now (definition_of (definitions program.now.statements.items) equation)) }
+    ensures rows { (ds : List (Definition F)) → AreNoted noted.now ds → Gives F.value (λ _. map (form_row_in F.value) rows.new.items) result
+        (in_order (map (rows_of F.value F.limit store.now) (definition_of ds equation)) and_then λ those. Ok (map (form_row_in F.value) rows.old.items ++ flat_map (λ some. some) those)) }
+    ensures ordered { (ds : List (Definition F)) → AreNoted noted.now ds → OnOk result (HaveOrder store.now (definition_of ds equation)) }
 {
-    match find_definition(program, equation) {
+    match noted_definition(noted, equation) {
         Some(definition) => push_rows(alloc, store, &definition, rows),
         None => Ok(()),
     }
@@ -56,10 +56,11 @@ fn rows_of_model<F: ExactField>(
     ensures ordered { OnOk result (All (λ equation. HaveOrder store.now (definition_of (definitions program.now.statements.items) equation))
         (equations_of program.now.statements.items model)) }
 {
-    let mut rows = Vec::new(alloc);
     let equations = equations_of(alloc, program, model)?;
+    let noted = noted_statements(alloc, program)?;
+    let mut rows = Vec::new(alloc);
     for equation in &equations {
-        push_equation(alloc, store, program, *equation, &mut rows)?;
+        push_equation(alloc, store, noted.as_slice(), *equation, &mut rows)?;
     }
     Ok(rows)
 }

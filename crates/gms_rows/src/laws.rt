@@ -1,17 +1,27 @@
 //! What the rows of a definition are, for every state: laws on a function with an empty body.
-ghost use Rattle.std.specs.Prelude.{◌≡◌, ◌≢◌, ℕ, Bool, true, ◌||◌, List, Some, Ok, count_by, if◌then◌else◌};
+ghost use Rattle.std.specs.Prelude.{◌≡◌, ◌≢◌, ◌↔◌, ℕ, Bool, true, ◌||◌, List, Some, Ok, count_by, map, if◌then◌else◌};
 ghost use Rattle.std.specs.List.{All, AllPairs};
 ghost use Rattle.gq_number.specs.Number.{Number, ◌+ℚ◌, ◌-ℚ◌, ◌*ℚ◌, ◌/ℚ◌};
+ghost use Rattle.gq_extended.specs.Extended.{number};
 ghost use Rattle.gms_labels.specs.declared.place.Place.{Place};
+ghost use Rattle.gms_ast.specs.declared.program.Stmt.{Stmt};
+ghost use Rattle.gms_ast.specs.Trees.{Tree};
 ghost use Rattle.gms_store.specs.State.{State};
 ghost use Rattle.gms_tuple.specs.TupleOrder.{same_tuple};
 ghost use Rattle.gms_tuple.specs.TupleSet.{has};
 ghost use Rattle.gms_eval.specs.Bindings.{Pairs};
 ghost use Rattle.gms_eval.specs.Domain.{elements};
 ghost use Rattle.lp_form.specs.declared.key.Key.{Key};
+ghost use Rattle.lp_core.specs.Feasible.{Feasible};
+ghost use Rattle.lp_core.specs.declared.program.Column.{Column};
+ghost use Rattle.lp_core.specs.declared.program.Lp.{Lp};
+ghost use Rattle.gms_rows.specs.Affine.{affine};
 ghost use Rattle.gms_rows.specs.ElementRows.{sets_of, bound_to, holds_for, tuple_at, IsRowOf, HasPlainSets};
 ghost use Rattle.gms_rows.specs.Forms.{Form, is_number, sum_of, product_of, quotient_of};
+ghost use Rattle.gms_rows.specs.ModelPoints.{IsLinearDefinition, KeepsBoundsOf, KeepsModel, column_elements, definitions_of_model};
 ghost use Rattle.gms_rows.specs.Points.{form_at};
+ghost use Rattle.gms_rows.specs.PointValues.{is_linear, value_at};
+ghost use Rattle.gms_rows.specs.ProgramLp.{program_lp};
 ghost use Rattle.gms_rows.specs.Rows.{Definition, FormRow, rows_of};
 
 use gq_field::ExactField;
@@ -49,4 +59,21 @@ pub fn form_laws<F: ExactField>()
     ensures quotient { (point : Key → Number) (at : Place) (b : Pairs) (left form : Form) (x : Number) →
         quotient_of F.limit at b left x ≡ Ok form →
         form_at point form ≡ form_at point left /ℚ x }
+{}
+
+/// What the linear program of a solve says of a point, which gives each element of a variable a number. The form of an expression that is
+/// linear in the variables is at each point the value of the expression with its variables read there. And the points that keep the
+/// model (at each element of the domain of each of its equations the left side compares with the right one as `=e=`, `=l=` or `=g=` says,
+/// and each variable of the program is within its bounds) are exactly the feasible points of the program.
+///
+/// GAMS User's Guide, "Equations", "Model and Solve Statements"; Chvatal, "Linear Programming", chapter 1.
+pub fn point_laws<F: ExactField>()
+    ensures value { (state : State) (point : Key → Number) (at : Place) (b : Pairs) (e : Tree F) (form : Form) → is_linear state e ≡ true →
+        affine F.value F.limit state at b e ≡ Ok form →
+        value_at F.value F.limit state point b e ≡ Ok (number (form_at point form)) }
+    ensures feasible { (state : State) (statements : List (Stmt F)) (model objective : ℕ) (maximize : Bool) (at : Place) (lp : Lp Number) (point : Key → Number) →
+        All (IsLinearDefinition state) (definitions_of_model statements model) →
+        program_lp F.value F.limit state statements model objective maximize at ≡ Ok lp →
+        (KeepsModel F.value F.limit state point statements model × KeepsBoundsOf state point (column_elements lp))
+        ↔ Feasible (λ (x : Number). x) lp (map (λ (column : Column Number). point column.key) lp.columns) }
 {}

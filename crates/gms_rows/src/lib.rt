@@ -7,6 +7,7 @@ mod form_row;
 mod generation;
 mod laws;
 mod linear;
+mod names;
 mod rows;
 mod size;
 mod steps;
@@ -14,5 +15,5 @@ mod variables;
 
 pub use equations::equations_of;
 pub use generation::generate;
-pub use laws::{form_laws, row_laws};
+pub use laws::{form_laws, point_laws, row_laws};
 pub use linear::affine;

@@ -4,10 +4,10 @@ ghost use Rattle.gms_ast.specs.TreeView.{index_tree, indices_of};
 ghost use Rattle.gms_eval.specs.Faults.{◌and_then◌};
 ghost use Rattle.gms_eval.specs.Gives.{Gives};
 ghost use Rattle.gms_rows.specs.Rows.{each_once, sets_among, sense_of, those_there, row_under, rows_of};
-ghost use Rattle.gms_rows.specs.InnerWalks.{definition_in, form_row_in, HaveOrder};
+ghost use Rattle.gms_rows.specs.InnerWalks.{with_once, definition_in, form_row_in, HaveOrder};
 ghost use Rattle.gms_rows.specs.ElementRows.{AreInOrder};
 
-use crate::equations::{Definition, push_once};
+use crate::equations::Definition;
 use crate::form_row::FormRow;
 use crate::linear::affine;
 use crate::steps::add;
@@ -18,6 +18,19 @@ use gq_field::ExactField;
 use lp_core::Sense;
 use lp_form::Key;
 use std::alloc::{AllocError, Global};
+
+/// Adds a name at the end of others, where it is not among them. They are few: the indices of a definition.
+fn push_once(names: &mut Vec<u32>, name: u32) -> Result<(), AllocError>
+    ensures { OnOk result (names.new.items ≡ with_once names.old.items name) }
+{
+    for other in names.as_slice() {
+        if *other == name {
+            return Ok(());
+        }
+    }
+    names.push(name)?;
+    Ok(())
+}
 
 /// The sets among indices, each once, in order.
 fn sets_of<F: ExactField>(alloc: Global, indices: &[Index<F>]) -> Result<Vec<u32>, AllocError>

@@ -1,5 +1,5 @@
 -- A run can go on from what was restored: its settings are within their ranges, and its members are as long as they have to be.
-use Rattle.std.proofs.Common.{◌≡◌, ℕ, suc, ◌<◌, ◌≤◌, Bool, true, false, ◌&&◌, ◌==◌, List, [], ◌∷◌, length, refl, sym, ap, subst, cond, Option, Some, None, Result, codes, arith}
+use Rattle.std.proofs.Common.{◌≡◌, ℕ, suc, ◌<◌, Bool, true, false, ◌&&◌, ◌==◌, List, [], ◌∷◌, length, refl, sym, ap, subst, cond, Option, Some, None, Result, codes, arith}
 use Rattle.std.specs.Prelude.{nat_le}
 use Rattle.std.specs.List.{All, position}
 use Rattle.std.specs.Result.{IsErrAnd}
@@ -10,11 +10,10 @@ use Rattle.std.proofs.lemmas.List.Quantifiers.{position-Some}
 use Rattle.std.proofs.lemmas.Result.{err_from_is_err_and}
 use Rattle.gms_store.specs.State.{State, Content, undeclared, alias_of, set_of, parameter_of, variable_of, equation_of, model_with, symbol_at, given_in, members_in}
 use Rattle.gms_saved.specs.Validity.{stands_at, stands_in}
-use Rattle.gms_exec.specs.Stepping.{AreKept}
 use Rattle.gms_save.specs.declared.saved.Saved.{Saved}
 use Rattle.gms_save.specs.declared.fault.SaveFaultOrMemory.{SaveFaultOrMemory}
 use Rattle.gms_save.specs.declared.fault.SaveFaultOrMemory.TheVariants.{Memory}
-use Rattle.gms_save.specs.Saves.{IsRestored, Restores, place_of_solver}
+use Rattle.gms_save.specs.Saves.{GivesBack, IsRestored, Restores, place_of_solver}
 use Rattle.gms_run.specs.InnerReports.{CanGoOn}
 
 -- where two tests hold, each does
@@ -31,6 +30,9 @@ second-holds false b e = cc
 -- where memory was wanting nothing is
 pub wanting : (r : Result Saved SaveFaultOrMemory) (solvers : List (List ℕ)) (save : List ℕ) → IsErrAnd r (λ e. e ≡ Memory) → Restores solvers save r
 wanting r solvers save h = let p = err_from_is_err_and r h in rw (p.1, p.2) tt
+
+pub wanting_back : (r : Result Saved SaveFaultOrMemory) (solvers : List (List ℕ)) (save : List ℕ) → IsErrAnd r (λ e. e ≡ Memory) → GivesBack solvers save r
+wanting_back r solvers save h = λ source program state solver is. let p = err_from_is_err_and r h in rw (p.1, p.2) tt
 
 -- the solver that was placed is there, where there are some
 placed-below : (solvers : List (List ℕ)) (solver : List ℕ) (place : ℕ) → place_of_solver solvers solver ≡ Some place → 0 < length solvers → place < length solvers

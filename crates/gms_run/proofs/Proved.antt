@@ -1,5 +1,5 @@
 -- An answer comes with what proves its end, so that a solve that stands can be listed.
-use Rattle.std.proofs.Common.{◌≡◌, ℕ, List, length, Option, Some, None, sym, ap, ◌∙◌, subst, inl, inr}
+use Rattle.std.proofs.Common.{◌≡◌, ℕ, List, length, map, Option, Some, None, sym, ap, ◌∙◌, subst, inl, inr, arith}
 use Rattle.std.specs.Prelude.{IfSome}
 use Rattle.std.proofs.lemmas.List.{length-map}
 use Rattle.gq_number.specs.Number.{Number}
@@ -8,48 +8,57 @@ use Rattle.gms_event.specs.declared.event.Event.TheVariants as event
 use Rattle.lp_core.specs.declared.answer.Answer.{Answer}
 use Rattle.lp_core.specs.declared.answer.Rule.{Rule}
 use Rattle.lp_core.specs.declared.answer.End.{End}
+use Rattle.lp_core.specs.declared.answer.EndKind.{EndKind}
+use Rattle.lp_core.specs.declared.answer.EndKind.TheVariants as kind
+use Rattle.lp_core.specs.declared.answer.StepName.{StepName}
 use Rattle.lp_core.specs.declared.answer.End.TheVariants.{Optimal, Infeasible, Unbounded, Interrupted, Refused}
 use Rattle.lp_core.specs.declared.program.Lp.{Lp}
 use Rattle.lp_core.specs.Dictionary.{Dictionary}
-use Rattle.lp_core.specs.Answers.{AnswersCrossed, AnswersStopped, EndsSo, InterruptedAt, IsAnswer}
+use Rattle.lp_core.specs.Feasible.{Feasible}
+use Rattle.lp_core.specs.Proofs as core_proofs
+use Rattle.lp_core.specs.StandardForm.{Last}
+use Rattle.lp_core.specs.Pivots.{IsAllowed, IsChosen}
+use Rattle.lp_core.specs.Ends.{LeadsTo, EndsSoBy}
+use Rattle.lp_core.specs.Answers.{EndsCrossed, IsAnswer}
 use Rattle.gms_exec.specs.Standing.{IsStanding}
 use Rattle.gms_list.specs.Conditions.{IsProved, IsListable}
 
 module _ {F : Type 0} (value : F → Number) (limit : ℕ) (lp : Lp F) (iterlim : ℕ) (rule : Rule) where
-  of_crossed : (end : End F) → AnswersCrossed value limit lp iterlim rule end → IsProved value lp end
-  of_crossed (Optimal levels row_levels duals reduced) h = absurd h
-  of_crossed (Infeasible duals None) h = absurd h
-  of_crossed (Infeasible duals (Some j)) h = h
-  of_crossed (Unbounded levels row_levels ray) h = absurd h
-  of_crossed (Interrupted phase levels row_levels) h = absurd h
-  of_crossed (Refused step) h = absurd h
+  of_crossed : (end : End F) → EndsCrossed value lp end → IsProved value lp end
+  of_crossed end (duals, j, is, h) = subst (IsProved value lp) (sym is) h
 
-  of_stopped : (end : End F) → AnswersStopped value limit lp iterlim rule end → IsProved value lp end
-  of_stopped (Optimal levels row_levels duals reduced) h = absurd h
-  of_stopped (Infeasible duals crossed) h = absurd h
-  of_stopped (Unbounded levels row_levels ray) h = absurd h
-  of_stopped (Interrupted phase levels row_levels) h = absurd h
-  of_stopped (Refused step) h = tt
+  of_refused : (end : End F) (step : StepName) → end ≡ Refused step → IsProved value lp end
+  of_refused end step is = subst (IsProved value lp) (sym is) tt
 
   -- in phase 2 an interrupted search stands at a point of the program
-  of_interrupted : (phase : ℕ) (d : Dictionary) (levels row_levels : List F) → InterruptedAt value limit lp iterlim rule phase d levels row_levels → phase ≡ 2 → (length levels ≡ length lp.columns) × (length row_levels ≡ length lp.rows)
-  of_interrupted phase d levels row_levels (inl first) second = absurd (let z : ⊥ = (let one : 1 ≡ 2 = sym first.0 ∙ second in cc) in z)
-  of_interrupted phase d levels row_levels (inr at) second =
-      let point = at.4 in
-      (sym (length-map levels value) ∙ point.sized, sym (length-map row_levels value) ∙ ap length at.3 ∙ length-map lp.rows _)
+  of_interrupted : (phase : ℕ) (last : Last) (levels row_levels : List F) → LeadsTo value lp kind.Interrupted last (Interrupted phase levels row_levels) → Feasible value lp (map value levels) → (length levels ≡ length lp.columns) × (length row_levels ≡ length lp.rows)
+  of_interrupted phase last levels row_levels told point =
+      (sym (length-map levels value) ∙ point.sized, sym (length-map row_levels value) ∙ ap length told.2 ∙ length-map lp.rows _)
 
-  of_end : (pivots : ℕ) (d : Dictionary) (end : End F) → EndsSo value limit lp iterlim rule pivots d end → IsProved value lp end
-  of_end pivots d (Optimal levels row_levels duals reduced) h = h.7
-  of_end pivots d (Infeasible duals None) h = h.4
-  of_end pivots d (Infeasible duals (Some j)) h = absurd h
-  of_end pivots d (Unbounded levels row_levels ray) h = h.1.6
-  of_end pivots d (Interrupted phase levels row_levels) h = of_interrupted phase d levels row_levels h.3
-  of_end pivots d (Refused step) h = tt
+  of_told : (how : EndKind) (last : Last) (end : End F) → LeadsTo value lp how last end → core_proofs.IsProved value lp end → IsProved value lp end
+  of_told how last (Optimal levels row_levels duals reduced) told h = h
+  of_told how last (Infeasible duals None) told h = h
+  of_told how last (Infeasible duals (Some j)) told h = h
+  of_told how last (Unbounded levels row_levels ray) told h = h
+  of_told kind.Interrupted last (Interrupted phase levels row_levels) told h = λ second. of_interrupted phase last levels row_levels told h
+  of_told kind.Optimal last (Interrupted phase levels row_levels) told h = absurd told
+  of_told kind.Infeasible last (Interrupted phase levels row_levels) told h = absurd told
+  of_told kind.Unbounded last (Interrupted phase levels row_levels) told h = absurd told
+  of_told how last (Refused step) told h = absurd h
+
+  not_second : ◌≡◌ {A = ℕ} 1 2 → ⊥
+  not_second e = omega (arith, e)
+
+  of_end : (pivots : ℕ) (d : Dictionary) (end : End F) → EndsSoBy value limit lp iterlim (IsAllowed rule d) (IsChosen rule d) pivots d end → IsProved value lp end
+  of_end pivots d end (inl (how, last, at, inl told)) = of_told how last end told.0 told.2
+  of_end pivots d end (inl (how, last, at, inr refused)) = of_refused end refused.0 refused.1
+  of_end pivots d end (inr (inl h)) = subst (IsProved value lp) (sym h.3) (λ second. absurd (not_second second))
+  of_end pivots d end (inr (inr h)) = of_refused end h.1.0 h.1.1
 
   -- what proves the end of an answer
   pub proved : (answer : Answer F) → IsAnswer value limit lp iterlim rule answer → IsProved value lp answer.end
   proved answer (inl crossed) = of_crossed answer.end crossed.1
-  proved answer (inr (inl stopped)) = of_stopped answer.end stopped.2
+  proved answer (inr (inl stopped)) = of_refused answer.end stopped.1.1.0 stopped.1.1.1
   proved answer (inr (inr walked)) = of_end (length answer.pivots) walked.3.0 answer.end walked.3.2
 
 -- an event that stands can be listed

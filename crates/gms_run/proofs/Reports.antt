@@ -1,5 +1,5 @@
 -- The listing of a source, put together from its parts, as it goes out.
-use Rattle.std.proofs.Common.{◌≡◌, ◌≢◌, Option, Some, None, ℕ, zero, suc, ◌+◌, ◌<◌, ◌≤◌, ◌==◌, true, false, not, List, [], ◌∷◌, ◌++◌, length, take, map, get_or, Vec, refl, sym, ap, ap₂, ◌∙◌, subst, append_assoc, add-one, ◌⊎◌, inl, inr, arith, length-append}
+use Rattle.std.proofs.Common.{◌≡◌, ◌≢◌, Option, Some, None, ℕ, zero, suc, ◌+◌, ◌<◌, ◌≤◌, ◌==◌, true, false, List, [], ◌∷◌, ◌++◌, length, take, map, get_or, Vec, refl, sym, ap, ap₂, ◌∙◌, subst, append_assoc, add-one, ◌⊎◌, inl, inr, arith, length-append, cond}
 use Rattle.std.specs.Prelude.{String, string_bytes, vec_len, slice_get, option_map, unwrap_or, IfSome, IsTrue, Bool, ◌↔◌}
 use Rattle.std.specs.declared.alloc.Global.{Global}
 use Rattle.std.proofs.Math.Seq.{take-suc}
@@ -7,7 +7,6 @@ use Rattle.std.proofs.lemmas.Bool.{eqb-true}
 use Rattle.std.proofs.lemmas.List.{length-map, map-append, take_all}
 use Rattle.std.proofs.lemmas.List.FromFn.{length-range_with_len}
 use Rattle.std.proofs.lemmas.Option.{slice_get-map}
-use denote.Enum.Bare.{sameb}
 use Rattle.gq_number.specs.Number.{Number}
 use Rattle.gq_frac.specs.declared.frac.Frac.{Frac}
 use Rattle.gq_frac.specs.Frac.{frac_value}
@@ -17,9 +16,8 @@ use Rattle.gms_host.specs.Spooling.{Passes, WritesFront}
 use Rattle.gms_host.proofs.Fronts.{output-both, passes_behind, passes_none, passes_whole}
 use Rattle.gms_ast.specs.declared.program.Program.{Program}
 use Rattle.gms_ast.specs.declared.program.Stmt.{Stmt}
+use Rattle.gms_check.specs.declared.error.CompileError.{CompileError}
 use Rattle.gms_parse.specs.declared.fault.SourceError.{SourceError}
-use Rattle.gms_parse.specs.declared.fault.SourceError.TheVariants.{TooLong}
-use Rattle.gms_parse.specs.contracts.fault.SourceError.{the_type}
 use Rattle.gms_parse.specs.Outcomes.{IsProgram}
 use Rattle.gms_event.specs.Events.{Event, Solved}
 use Rattle.gms_exec.specs.Run.{Halt}
@@ -38,13 +36,13 @@ use Rattle.gms_run.specs.Solving.{Solving, SolvesNothing, number_limit, numbers_
 use Rattle.gms_saved.specs.SavedState.{saved_text}
 use Rattle.gms_run.specs.Scripts.{Matter, Script, scripted, Fits, errors_of}
 use Rattle.gms_run.specs.Jobs.{HaltsSo, IsCutOff, IsSolved, Job, body_of, course_of, first_of, job_of, job_text, last_line, solver_name, status_code}
-use Rattle.gms_run.specs.Listings.{AreClosing, AreRemarks, IsAccepted, IsExecuted, IsFront, IsJob, IsListing, IsModelLine, SavesLast, SavesSo, ShowsErrors, ShowsWhy, TellsModel, TellsRanges, TellsRun, TellsSpans, echo_with, errors_text, refused_text, save_file, unrestored_text}
+use Rattle.gms_run.specs.Listings.{AreClosing, AreRemarks, IsAccepted, IsExecuted, IsFront, IsJob, IsListing, IsModelLine, SavesLast, SavesSo, ShowsErrors, ShowsWhy, TellsModel, TellsRanges, TellsRun, TellsSpans, echo_with, errors_text, has_echo, refused_text, save_file, unrestored_text}
 use Rattle.gms_run.specs.Statuses.{IsUnwritten}
 use Rattle.gms_save.specs.declared.fault.SaveFault.{SaveFault}
 use Rattle.gms_save.specs.declared.fault.SaveFault.TheVariants.{SaveShape}
 use Rattle.gms_run.specs.declared.script.Matter.{Matter as OwnMatter}
 use Rattle.gms_run.specs.declared.script.Matter.TheVariants.{Unrestored}
-use Rattle.gms_run.specs.InnerReports.{Accepts, Follows, IsRanged, IsRemarked, IsSave, IsTold, Lists, ListsErrors, Prepares, matter_in}
+use Rattle.gms_run.specs.InnerReports.{Follows, IsRanged, IsRemarked, IsSave, IsTold, Lists, ListsErrors, Prepares, matter_in}
 use Rattle.gms_run.specs.InnerSteps.{Ends, IsAnsweredAt, KeepsPrograms}
 use Rattle.gms_run.proofs.Executing.{BreaksJob, EndsJob}
 
@@ -62,15 +60,13 @@ not_both b e f = absurd cc
 
 -- ---- refusals
 
--- a script that is not too long has an echo
-pub echo_there : (error : SourceError) (script : Script) → not (sameb the_type error TooLong) ≡ true → echo_with error script ≡ echo_text script.line script.file
-echo_there TooLong script h = cc
-echo_there _ script h = refl
+-- a script that has an echo
+pub echo_there : (error : SourceError) (script : Script) → has_echo error ≡ true → echo_with error script ≡ echo_text script.line script.file
+echo_there error script has = ap (λ (b : Bool). cond b (echo_text script.line script.file) []) has
 
--- one that is too long has none
-pub echo_nowhere : (error : SourceError) (script : Script) → not (sameb the_type error TooLong) ≡ false → echo_with error script ≡ []
-echo_nowhere TooLong script h = refl
-echo_nowhere _ script h = cc
+-- and one that has none
+pub echo_nowhere : (error : SourceError) (script : Script) → has_echo error ≡ false → echo_with error script ≡ []
+echo_nowhere error script has = ap (λ (b : Bool). cond b (echo_text script.line script.file) []) has
 
 -- two texts behind another
 pub two_behind : (old echo mid line new : List ℕ) → mid ≡ old ++ echo → new ≡ mid ++ line → new ≡ old ++ (echo ++ line)
@@ -89,40 +85,35 @@ prepares_why status solving now matter spool before pending after listed same no
     (subst (λ s. IsListing s solving matter (listed ++ end_text (status_code s) (length solving.answers))) (sym same) (shows_refused solving matter listed none why))
     (ap₂ (λ a b. a ++ b) kept put ∙ behind_nothing spool before listed empty) same
 
--- whether a program is accepted by these solvers, it is by the same
-pub accepts_as : {X : Type 0} (name_of : X → List ℕ) (first o : Option State) (slice solvers : List X) (script : Script) (program : Program Frac) (before after : List ℕ) → slice ≡ solvers → first ≡ o → Accepts first (map name_of slice) script program before after → Accepts o (map name_of solvers) script program before after
-accepts_as {X} name_of first o slice solvers script program before after same is accepts =
-    subst (λ (xs : List X). Accepts o (map name_of xs) script program before after) same (subst (λ (f : Option State). Accepts f (map name_of slice) script program before after) is accepts)
+-- errors that are listed for these solvers are for the same
+pub lists_as : {X : Type 0} (name_of : X → List ℕ) (slice solvers : List X) (some : Bool) (script : Script) (program : Program Frac) (before after : List ℕ) → slice ≡ solvers →
+    ListsErrors some (errors_of script.saved script.line program (map name_of slice)) script before after → ListsErrors some (errors_of script.saved script.line program (map name_of solvers)) script before after
+lists_as {X} name_of slice solvers some script program before after same lists =
+    subst (λ (xs : List X). ListsErrors some (errors_of script.saved script.line program (map name_of xs)) script before after) same lists
 
--- Why a program is not accepted was listed.
-pub prepares_unaccepted : (solving : Solving) (now : Outside) (script : Script) (program : Program Frac) (spool before after : List ℕ) → SolvesNothing solving → spool ++ before ≡ [] → Accepts None solving.before.names script program before after → Prepares Compile solving now now (scripted script) (spool ++ after)
-prepares_unaccepted solving now script program spool before after none empty (listed, (put, why)) =
-    prepares_why Compile solving now (scripted script) spool before spool after listed refl none empty refl put (inr why)
+-- where none are listed there are none, and nothing is
+pub lists_none : (some : Bool) (errors : List CompileError) (script : Script) (before after : List ℕ) → some ≡ false → ListsErrors some errors script before after → (errors ≡ []) × (after ≡ before)
+lists_none some errors script before after is lists = subst (λ b. ListsErrors b errors script before after) is lists
 
 -- errors that are listed are those of the program
 pub shows_errors : (solvers : List (List ℕ)) (script : Script) (program : Program Frac) → IsProgram number_limit script.source frac_value program → errors_of script.saved script.line program solvers ≢ [] → ShowsErrors solvers script (refused_text (errors_text script (errors_of script.saved script.line program solvers)))
 shows_errors solvers script program is_program some = record { program = program; is_program = is_program; some = some; listing = refl }
 
--- A program with errors, which are listed, is not accepted.
-pub accepts_errors : (solvers : List (List ℕ)) (script : Script) (program : Program Frac) (some : Bool) (before after : List ℕ) → IsProgram number_limit script.source frac_value program → some ≡ true → ListsErrors some (errors_of script.saved script.line program solvers) script before after →
-    Accepts None solvers script program before after
-accepts_errors solvers script program some before after is_program is lists =
-    let errors = errors_of script.saved script.line program solvers in
+-- Errors of a program were listed, so that there is nothing to run.
+pub prepares_errors : (solving : Solving) (now : Outside) (script : Script) (program : Program Frac) (some : Bool) (spool before after : List ℕ) → IsProgram number_limit script.source frac_value program → some ≡ true → ListsErrors some (errors_of script.saved script.line program solving.before.names) script before after →
+    SolvesNothing solving → spool ++ before ≡ [] → Prepares Compile solving now now (scripted script) (spool ++ after)
+prepares_errors solving now script program some spool before after is_program is lists none empty =
+    let errors = errors_of script.saved script.line program solving.before.names in
     let listed : ListsErrors true errors script before after = subst (λ b. ListsErrors b errors script before after) is lists in
-    (errors_text script errors, (listed.1, inl (shows_errors solvers script program is_program listed.0)))
+    prepares_why Compile solving now (scripted script) spool before spool after (errors_text script errors) refl none empty refl listed.1
+    (inr (inl (shows_errors solving.before.names script program is_program listed.0)))
 
--- A program without errors that a saved state does not fit is not accepted.
-pub accepts_misfit : (solvers : List (List ℕ)) (script : Script) (program : Program Frac) (some fit : Bool) (before mid after : List ℕ) → IsProgram number_limit script.source frac_value program → some ≡ false → ListsErrors some (errors_of script.saved script.line program solvers) script before mid →
-    IsTrue fit ↔ Fits script.saved program → fit ≡ false → after ≡ mid ++ unrestored_text SaveShape → Accepts None solvers script program before after
-accepts_misfit solvers script program some fit before mid after is_program is lists fits misfit put =
-    let errors = errors_of script.saved script.line program solvers in
-    let listed : ListsErrors false errors script before mid = subst (λ b. ListsErrors b errors script before mid) is lists in (
-      unrestored_text SaveShape,
-      (
-        put ∙ ap (λ t. t ++ unrestored_text SaveShape) listed.1,
-        inr (record { program = program; is_program = is_program; no_error = listed.0; misfit = λ does. not_both fit (fits.1 does) misfit; listing = refl }),
-      ),
-    )
+-- That a saved state does not fit was listed, so that there is nothing to run.
+pub prepares_misfit : (solving : Solving) (now : Outside) (script : Script) (program : Program Frac) (fit : Bool) (spool before after : List ℕ) → IsProgram number_limit script.source frac_value program → errors_of script.saved script.line program solving.before.names ≡ [] →
+    IsTrue fit ↔ Fits script.saved program → fit ≡ false → after ≡ before ++ unrestored_text SaveShape → SolvesNothing solving → spool ++ before ≡ [] → Prepares Compile solving now now (scripted script) (spool ++ after)
+prepares_misfit solving now script program fit spool before after is_program no_error fits misfit put none empty =
+    prepares_why Compile solving now (scripted script) spool before spool after (unrestored_text SaveShape) refl none empty refl put
+    (inr (inr (record { program = program; is_program = is_program; no_error = no_error; misfit = λ does. not_both fit (fits.1 does) misfit; listing = refl })))
 
 -- why there is nothing to run of a save that cannot be restored
 pub unrestored_why : (solvers : List (List ℕ)) (matter : OwnMatter) (fault : SaveFault) → matter ≡ Unrestored fault → ShowsWhy solvers (matter_in matter) (refused_text (unrestored_text fault))

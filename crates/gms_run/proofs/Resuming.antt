@@ -1,10 +1,10 @@
 -- Where a saved state fits a joint program, the definitions of that are over sets of one dimension in the state that is gone on from.
-use Rattle.std.proofs.Common.{◌≡◌, ℕ, zero, suc, ◌<◌, ◌≤◌, Bool, true, false, not, List, [], ◌∷◌, length, map, slice_get, refl, sym, ap, ◌∙◌, subst, cond, Option, Some, None, option_map, is_some, unwrap_or, ◌⊎◌, inl, inr, arith}
+use Rattle.std.proofs.Common.{◌≡◌, ℕ, zero, suc, ◌<◌, ◌≤◌, Bool, true, false, not, List, [], ◌∷◌, length, slice_get, refl, sym, ap, ◌∙◌, subst, cond, Option, Some, None, option_map, is_some, unwrap_or, ◌⊎◌, inl, inr}
 use Rattle.std.specs.Prelude.{IsTrue, ◌↔◌}
 use Rattle.std.specs.List.{All}
 use Rattle.std.proofs.lemmas.Bool.{cases_lt}
 use Rattle.std.proofs.lemmas.List.{length-map}
-use Rattle.std.proofs.lemmas.List.Elements.{All-nil, All-cons, All-head, All-tail, All-weaker}
+use Rattle.std.proofs.lemmas.List.Elements.{All-nil, All-cons, All-head, All-tail}
 use Rattle.std.proofs.lemmas.Option.{slice_get_past}
 use Rattle.gq_frac.specs.declared.frac.Frac.{Frac}
 use Rattle.gq_frac.specs.Frac.{frac_value}
@@ -13,16 +13,15 @@ use Rattle.gms_ast.specs.declared.program.Stmt.{Stmt}
 use Rattle.gms_ast.specs.Trees as tree
 use Rattle.gms_store.specs.State.{State, Content, undeclared, alias_of, set_of, parameter_of, variable_of, equation_of, model_with, Symbol, no_symbol, symbol_at, behind, base_of, symbol_of, members_in, members_of}
 use Rattle.gms_store.specs.Declarations.{is_undeclared, declared_state}
-use Rattle.gms_store.specs.Overlays.{chosen, overlaid_symbols}
-use Rattle.gms_saved.specs.Validity.{declared_in, emptied}
-use Rattle.gms_rows.specs.Plain.{ArePlain, HasPlainDefinitions}
+use Rattle.gms_store.specs.Overlays.{overlaid_symbols}
+use Rattle.gms_saved.specs.Validity.{emptied}
+use Rattle.gms_rows.specs.Plain.{ArePlain}
 use Rattle.gms_rows.specs.Rows.{Definition, definitions}
 use Rattle.gms_exec.specs.Dimensions.{AreOverOne, AreOneDimensional}
 use Rattle.gms_check.specs.Loaded.{loaded}
 use Rattle.gms_save.specs.JointErrors.{resumed}
 use Rattle.gms_save.proofs.LoadedNames.{loaded-declares, declared-count, same-at, same-read}
 use Rattle.gms_run.specs.Scripts.{Fits, IsAlike, first_state}
-use Rattle.gms_run.specs.InnerReports.{CanGoOn}
 
 -- a symbol among symbols, where there is one
 abbrev at : List Symbol → ℕ → Symbol

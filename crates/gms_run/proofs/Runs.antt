@@ -186,9 +186,9 @@ module _ (status : Status) (solving : Solving) (old new : Outside) (request : As
   save_whole whole file = of_whole most_save_bytes whole (λ b. RanOf status solving old new request (from_save b file)) (λ long more r. by long more r.matter r.is_matter r.ran)
     where
       same_fault : (fault : SaveFault) → most_save_bytes < length (take (most_save_bytes + 1) whole) → most_save_bytes < length whole → IsUnrestored solving.before.names (take (most_save_bytes + 1) whole) fault → IsUnrestored solving.before.names whole fault
-      same_fault SaveTooLong long more is = more
-      same_fault SaveShape long more is = let few : length (take (most_save_bytes + 1) whole) ≤ most_save_bytes = is.0 in absurd (omega (arith, few, long))
-      same_fault SaveSolver long more is = let few : length (take (most_save_bytes + 1) whole) ≤ most_save_bytes = is.0 in absurd (omega (arith, few, long))
+      same_fault SaveTooLong long more is = record { answer = more; back = λ source program state solver save. more }
+      same_fault SaveShape long more is = let few : length (take (most_save_bytes + 1) whole) ≤ most_save_bytes = is.answer.0 in absurd (omega (arith, few, long))
+      same_fault SaveSolver long more is = let few : length (take (most_save_bytes + 1) whole) ≤ most_save_bytes = is.answer.0 in absurd (omega (arith, few, long))
 
       by : most_save_bytes < length (take (most_save_bytes + 1) whole) → most_save_bytes < length whole → (m : Matter) → IsMatter solving.before.names (from_save (take (most_save_bytes + 1) whole) file) m → RanSo status solving old new request m → RanOf status solving old new request (from_save whole file)
       by long more (scripted script) is ran = let few : length (take (most_save_bytes + 1) whole) ≤ most_save_bytes = is.short in absurd (omega (arith, few, long))

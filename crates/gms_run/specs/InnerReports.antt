@@ -27,9 +27,9 @@ use Rattle.gms_run.specs.declared.script.Script.{Script as OwnScript}
 use Rattle.gms_run.specs.declared.script.Matter.{Matter as OwnMatter}
 use Rattle.gms_run.specs.declared.script.Matter.TheVariants.{ToRun, Unrestored}
 use Rattle.gms_run.specs.Solving.{Solving, SolvesNothing, number_limit, numbers_of}
-use Rattle.gms_run.specs.Scripts.{Script, Matter, scripted, unrestored, Taken, from_save, IsMatter, first_state}
+use Rattle.gms_run.specs.Scripts.{Script, Matter, scripted, unrestored, Taken, from_save, IsMatter}
 use Rattle.gms_run.specs.Jobs.{solver_name, status_code}
-use Rattle.gms_run.specs.Listings.{AreRemarks, IsAccepted, IsListing, IsModelLine, SavesSo, ShowsErrors, ShowsMisfit, errors_text, refused_text, save_file}
+use Rattle.gms_run.specs.Listings.{AreRemarks, IsListing, IsModelLine, SavesSo, errors_text, save_file}
 use Rattle.gms_run.specs.Statuses.{CountsSo, EndsByNoFault, IsFileOf, IsUnread, IsUnwrittenFile, RanSo, SaysLine, with_read, with_save, with_source}
 
 -- ---- what is passed on
@@ -107,13 +107,6 @@ pub record Lists (status : Status) (solving : Solving) (old new : Outside) (matt
 abbrev pub ListsErrors : Bool → List CompileError → Script → List ℕ → List ℕ → Type 0
 ListsErrors true errors script before after = (errors ≢ []) × (after ≡ before ++ errors_text script errors)
 ListsErrors false errors script before after = (errors ≡ []) × (after ≡ before)
-
--- a program is accepted, this is its first state, and nothing is listed; or it is not accepted, and why is listed
-abbrev pub Accepts : Option State → List (List ℕ) → Script → Program Frac → List ℕ → List ℕ → Type 0
-Accepts (Some state) solvers script program before after =
-    (state ≡ first_state script.saved program) × (IsAccepted solvers script program × (after ≡ before))
-Accepts None solvers script program before after =
-    (listed : List ℕ) × ((after ≡ before ++ listed) × (ShowsErrors solvers script (refused_text listed) ⊎ ShowsMisfit solvers script (refused_text listed)))
 
 -- What is to be done behind a listing: the remarks that are said, and the save of the last state.
 pub record Follows (status : Status) (solving : Solving) (request : Asked) (matter : Matter) (text bytes : List ℕ) : Type 0 where

@@ -1,5 +1,5 @@
 -- What there is to run is to solvers of some names: refused, or a job; its listing, and its save.
-use Rattle.std.specs.Prelude.{◌≡◌, ◌≢◌, ℕ, pos, ◌⊎◌, Bool, true, false, ◌++◌, length, List, [], map, sum, codes, option_map, unwrap_or, Option, None, IfSome}
+use Rattle.std.specs.Prelude.{◌≡◌, ◌≢◌, ℕ, pos, ◌⊎◌, Bool, true, false, ◌++◌, length, List, [], map, sum, codes, option_map, unwrap_or, Option, None, IfSome, if◌then◌else◌}
 use Rattle.std.specs.List.{range_with_len}
 use Rattle.gq_number.specs.Number.{Number, whole}
 use Rattle.gq_frac.specs.declared.frac.Frac.{Frac}
@@ -44,10 +44,14 @@ pub record IsJob (solvers : List (List ℕ)) (matter : Matter) (job : Job) : Typ
 
 -- ---- what is refused
 
--- the echo of a script that is refused for an error: one whose source is too long has none
+-- whether a script that is refused for an error has an echo: one whose source is too long has none
+abbrev pub has_echo : SourceError → Bool
+has_echo TooLong = false
+has_echo error = true
+
+-- the echo of a script that is refused for an error
 abbrev pub echo_with : SourceError → Script → List ℕ
-echo_with TooLong script = []
-echo_with error script = echo_text script.line script.file
+echo_with error script = if has_echo error then echo_text script.line script.file else []
 
 -- what is listed of a script whose source is no program
 abbrev pub refusal_text : Script → SourceFault → List ℕ

@@ -14,7 +14,7 @@ use Rattle.gms_save.specs.declared.fault.SaveFault.{SaveFault}
 use Rattle.gms_save.specs.declared.fault.SaveFaultOrMemory.{SaveFaultOrMemory}
 use Rattle.gms_save.specs.declared.fault.SaveFaultOrMemory.TheVariants.{Fault}
 use Rattle.gms_save.specs.JointErrors.{joint_errors, resumed, saved_statements}
-use Rattle.gms_save.specs.Saves.{most_bytes as most_save_bytes, IsRestored, Restores}
+use Rattle.gms_save.specs.Saves.{most_bytes as most_save_bytes, GivesBack, IsRestored, Restores}
 
 -- A source that there is to run. It is the file alone, or joint: a saved source and the file behind it. The lines of the file are echoed, and the
 -- first of them has this number.
@@ -61,9 +61,10 @@ pub record IsJoint (solvers : List (List ℕ)) (save file : List ℕ) (script : 
   pub restored : IsRestored solvers save saved
   pub joint : script ≡ joint_script saved.source.items saved.store file
 
--- why a save is not restored
-abbrev pub IsUnrestored : List (List ℕ) → List ℕ → SaveFault → Type 0
-IsUnrestored solvers save fault = Restores solvers save (let r : Result Saved SaveFaultOrMemory = Err (Fault fault) in r)
+-- A save is not restored, for a fault: of which bytes that is said, and of which states' saves it is not.
+pub record IsUnrestored (solvers : List (List ℕ)) (save : List ℕ) (fault : SaveFault) : Type 0 where
+  pub answer : Restores solvers save (let r : Result Saved SaveFaultOrMemory = Err (Fault fault) in r)
+  pub back : GivesBack solvers save (let r : Result Saved SaveFaultOrMemory = Err (Fault fault) in r)
 
 -- what there is to run, of what was taken, with solvers of these names
 abbrev pub IsMatter : List (List ℕ) → Taken → Matter → Type 0

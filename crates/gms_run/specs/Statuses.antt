@@ -1,25 +1,22 @@
 -- What a run did, by the status with which it ends: what it ran, its answers, and what stands outside.
-use Rattle.std.specs.Prelude.{◌≡◌, ℕ, ◌+◌, ◌≤◌, ◌⊎◌, true, false, List, [], ◌∷◌, drop, length, Option, Some, None, option_map, IfSome}
+use Rattle.std.specs.Prelude.{◌≡◌, ℕ, ◌≢◌, ◌+◌, ◌≤◌, ◌⊎◌, true, false, List, [], ◌∷◌, drop, length, Option, Some, None, option_map, IfSome}
 use Rattle.std.specs.FinMap as files_map
 use Rattle.gq_frac.specs.declared.frac.Frac.{Frac}
-use Rattle.gq_frac.specs.Frac.{frac_value}
 use Rattle.gms_host.specs.Meaning.{Meaning, Outside, Counts, Files, Rose}
 use Rattle.gms_host.specs.Rules.{IsThere, with_asked, with_emptied, with_kept, with_opened, with_output, with_said}
 use Rattle.gms_host.specs.Spooling.{SaysFront, WritesFront}
 use Rattle.gms_ast.specs.declared.program.Program.{Program}
 use Rattle.gms_lex.specs.Tokens.{most_bytes}
-use Rattle.gms_parse.specs.Outcomes.{IsProgram}
 use Rattle.gms_gen.specs.Generator.{model_text}
 use Rattle.gms_store.specs.State.{State}
-use Rattle.gms_saved.specs.SavedState.{saved_text}
 use Rattle.gms_save.specs.declared.saved.Saved.{Saved}
-use Rattle.gms_save.specs.Saves.{most_bytes as most_save_bytes, IsRestored, IsUnfit, LacksSolver}
+use Rattle.gms_save.specs.Saves.{most_bytes as most_save_bytes, IsRestored, IsSaveOf, place_of_solver}
 use Rattle.gms_words.specs.CommandLine.{Asked, Origin, in_file, restarted, generated, request_of, usage_line, read_fault_line}
 use Rattle.gms_run.specs.declared.status.Status.{Status}
 use Rattle.gms_run.specs.declared.status.Status.TheVariants.{Done, Usage, Compile, Execution, ReadFault, WriteFault}
-use Rattle.gms_run.specs.Solving.{Solving, SolvesNothing, number_limit}
-use Rattle.gms_run.specs.Scripts.{Script, Matter, Taken, from_start, from_save, script_of, joint_script, errors_of, Fits, IsMatter}
-use Rattle.gms_run.specs.Listings.{IsListing, IsFront, AreClosing, SavesLast, SavesSo, save_file}
+use Rattle.gms_run.specs.Solving.{Solving, SolvesNothing}
+use Rattle.gms_run.specs.Scripts.{Script, Matter, Taken, from_start, from_save, script_of, joint_script, IsMatter}
+use Rattle.gms_run.specs.Listings.{IsAccepted, IsListing, IsFront, AreClosing, SavesLast, SavesSo, save_file}
 
 -- ---- what is taken
 
@@ -235,23 +232,19 @@ Gives o (restarted saved file) (from_save save source) = HasFile o saved save ×
 Gives o (generated size) (from_start source) = source ≡ model_text size size size
 Gives o origin taken = ⊥
 
--- The source of a script is a program, and none that it is has an error, or is one that a saved state does not fit.
-pub record IsGood (solvers : List (List ℕ)) (script : Script) : Type 0 where
-  pub program : Program Frac
-  pub is_program : IsProgram number_limit script.source frac_value program
-  pub no_error : (program : Program Frac) → IsProgram number_limit script.source frac_value program → errors_of script.saved script.line program solvers ≡ []
-  pub fits : (program : Program Frac) → IsProgram number_limit script.source frac_value program → Fits script.saved program
+-- the source of a script is a program without errors, and a saved state fits it
+abbrev pub IsGood : List (List ℕ) → Script → Type 0
+IsGood solvers script = (program : Program Frac) × IsAccepted solvers script program
 
--- A save can be restored: it is not too long, it is the text of a saved state that no source is unfit for, and the solver that it names is there.
+-- A save can be restored: it is not too long, it is the save of a state of a program, and a solver has the name that it has.
 pub record IsGoodSave (solvers : List (List ℕ)) (save : List ℕ) : Type 0 where
   pub short : length save ≤ most_save_bytes
   pub source : List ℕ
-  pub names : List (List ℕ)
+  pub program : Program Frac
   pub state : State
   pub solver : List ℕ
-  pub text : save ≡ saved_text source names state solver
-  pub fit : IsUnfit source names state solver → ⊥
-  pub placed : LacksSolver solvers save → ⊥
+  pub is_save : IsSaveOf save source program state solver
+  pub placed : place_of_solver solvers solver ≢ None
 
 -- what is taken can be run: it is a program without errors, and where it goes on from a save, that can be restored
 abbrev pub CanRun : List (List ℕ) → Taken → Type 0

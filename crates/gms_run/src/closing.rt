@@ -33,12 +33,21 @@ const DECIMALS: u8 = 3;
 const NO_SOLVER: &str = "none";
 
 /// What is to be done behind a listing.
-#[derive(Drop)]
 pub(crate) struct Sequel {
     /// The remarks on the run, which are said.
     pub(crate) remarks: String,
     /// The save of its last state, where that is to be saved.
     pub(crate) save: Vec<u8>,
+}
+
+// Written out, so that it is proved once, and not wherever a sequel is let go.
+impl Drop for Sequel {
+    fn drop(self) {
+        let Self {
+            remarks: _,
+            save: _,
+        } = self;
+    }
 }
 
 impl Sequel {

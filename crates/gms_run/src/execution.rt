@@ -1,5 +1,5 @@
 //! The execution of a program, whose listing goes out statement by statement.
-ghost use Rattle.std.specs.Prelude.{◌≡◌, ◌<◌, ◌≤◌, ◌^◌, ◌∷◌, ◌++◌, [], true, length, map, option_to_list, IfOk, OnOk, string_bytes};
+ghost use Rattle.std.specs.Prelude.{◌≡◌, ◌<◌, ◌≤◌, ◌^◌, ◌∷◌, ◌++◌, ℕ, List, [], true, length, map, option_to_list, IfOk, OnOk, string_bytes};
 ghost use Rattle.std.specs.List.{All};
 ghost use Rattle.gq_frac.specs.Frac.{frac_value};
 ghost use Rattle.gms_event.specs.EventView.{events_in};
@@ -14,13 +14,13 @@ ghost use Rattle.gms_words.specs.CommandLine.{asked_by};
 ghost use Rattle.gms_run.specs.InnerReports.{Follows, IsRemarked, IsSave, IsSound, Prepares, script_in};
 ghost use Rattle.gms_run.specs.InnerSteps.{BreaksBehind, ComesTo, EndsBehind, IsListed, between, programs_in, work};
 ghost use Rattle.gms_run.specs.Listings.{IsAccepted};
-ghost use Rattle.gms_run.specs.Scripts.{first_state, scripted, statements_of};
+ghost use Rattle.gms_run.specs.Scripts.{errors_of, first_state, scripted, statements_of};
 ghost use Rattle.gms_run.specs.Solving.{number_limit, numbers_of, solving};
 ghost use Rattle.gms_run.specs.Statuses.{IsUnwritten};
 
 use crate::closing::Sequel;
 use crate::outlet::Outlet;
-use crate::restart::statements_of;
+use crate::restart::{first_state, statements_of};
 use crate::script::Script;
 use crate::status::Status;
 use gms_ast::{Program, Stmt};
@@ -37,12 +37,21 @@ use lp_slot::LpSolver;
 use std::alloc::{AllocError, Global};
 
 /// A run of a program on its way.
-#[derive(Drop)]
 pub(crate) struct Run {
     /// Its state.
     pub(crate) store: Store<Frac>,
     /// The linear programs of its solves, in order.
     pub(crate) solved: Vec<Lp<Frac>>,
+}
+
+// Written out, so that it is proved once, and not wherever a run is let go.
+impl Drop for Run {
+    fn drop(self) {
+        let Self {
+            store: _,
+            solved: _,
+        } = self;
+    }
 }
 
 /// Lists what a statement showed.
@@ -180,6 +189,21 @@ fn statements<H: Host>(
 }
 
 impl Run {
+    /// The run of a script's program without errors, in its first state.
+    pub(crate) fn begin(
+        alloc: Global,
+        script: Script,
+        program: &Program<Frac>,
+    ) -> Result<Run, AllocError>
+        requires { (solvers : List (List ℕ)) × (errors_of (script_in script).saved script.line program.now solvers ≡ []) }
+        ensures first { IfOk result (λ run. run.store ≡ first_state (script_in script.entry).saved program.now) }
+        ensures unsolved { IfOk result (λ run. run.solved.items ≡ []) }
+    {
+        let store = first_state(alloc, script, program)?;
+        let solved = Vec::new(alloc);
+        Ok(Run { store, solved })
+    }
+
     /// Executes the statements of a script's program that are run, and makes ready what is to be done behind their listing.
     fn to_end<H: Host>(
         &mut self,
@@ -219,9 +243,9 @@ impl Run {
         )?;
         let given = answers.as_slice();
         let text = self.remark(alloc, request, program, given)?;
+        sequel.remarks = text;
         let source = script.source;
         let save = self.saved(alloc, status, request, source, program, solvers.as_slice())?;
-        sequel.remarks = text;
         sequel.save = save;
         Ok(status)
     }
@@ -253,7 +277,7 @@ pub(crate) fn execute<H: Host>(
     request: Request,
     script: Script,
     program: &Program<Frac>,
-    store: Store<Frac>,
+    run: &mut Run,
     solvers: &mut Vec<Box<dyn LpSolver>>,
     answers: &mut Vec<Answer<Frac>>,
     outlet: &mut Outlet,
@@ -263,15 +287,14 @@ pub(crate) fn execute<H: Host>(
     requires few { length solvers.old.items < 2 ^ 32 }
     requires accepted { IsAccepted (map name solvers.old.items) (script_in script) program.now }
     requires sound { IsSound (length solvers.old.items) (script_in script).saved }
-    requires first { store ≡ first_state (script_in script).saved program.now }
+    requires first { run.old.store ≡ first_state (script_in script).saved program.now }
+    requires unsolved { run.old.solved.items ≡ [] }
     requires none { answers.old.items ≡ [] }
     requires empty { outlet.old.spool ++ outlet.old.listing ≡ [] }
     ensures outside { ComesTo result (λ status. Prepares status (solving name rule paths solvers.old.items solvers.new.items answers.new.items) (H.meaning host.old).outside (H.meaning host.new).outside (scripted (script_in script.entry)) (outlet.new.spool ++ outlet.new.listing)) (IsUnwritten (solving name rule paths solvers.old.items solvers.new.items answers.new.items) (H.meaning host.old).outside (H.meaning host.new).outside (scripted (script_in script.entry))) }
     ensures follows { IfOk result (λ status. Follows status (solving name rule paths solvers.old.items solvers.new.items answers.new.items) (asked_by request.entry) (scripted (script_in script.entry)) (string_bytes sequel.new.remarks) sequel.new.save.items) }
     ensures counts { CountsWriting result (H.meaning host.old).counts (H.meaning host.new).counts }
 {
-    let solved = Vec::new(alloc);
-    let mut run = Run { store, solved };
     pass_echo(alloc, host, script, outlet)?;
     run.to_end(
         alloc, host, request, script, program, solvers, answers, outlet, sequel,

@@ -12,11 +12,20 @@ use gms_list::Listing;
 use std::alloc::{AllocError, Global};
 
 /// A listing on its way out: what is not yet put into the spool, and the spool.
-#[derive(Drop)]
 pub(crate) struct Outlet {
     /// The text that is not yet put.
     pub(crate) listing: Listing,
     spool: Spool,
+}
+
+// Written out, so that it is proved once, and not wherever an outlet is let go.
+impl Drop for Outlet {
+    fn drop(self) {
+        let Self {
+            listing: _,
+            spool: _,
+        } = self;
+    }
 }
 
 impl Outlet {

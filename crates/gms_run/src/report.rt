@@ -4,17 +4,17 @@ ghost use Rattle.gq_frac.specs.Frac.{frac_value};
 ghost use Rattle.gms_host.specs.Rules.{CountsWriting};
 ghost use Rattle.gms_parse.specs.Outcomes.{IsProgram};
 ghost use Rattle.gms_words.specs.CommandLine.{asked_by};
-ghost use Rattle.gms_run.specs.InnerReports.{Accepts, Follows, IsSound, IsSoundMatter, Lists, ListsErrors, Prepares, matter_in, script_in};
+ghost use Rattle.gms_run.specs.InnerReports.{Follows, IsSound, IsSoundMatter, Lists, ListsErrors, Prepares, matter_in, script_in};
 ghost use Rattle.gms_run.specs.InnerSteps.{ComesTo};
-ghost use Rattle.gms_run.specs.Listings.{refusal_text, unrestored_text};
-ghost use Rattle.gms_run.specs.Scripts.{errors_of, scripted};
+ghost use Rattle.gms_run.specs.Listings.{has_echo, refusal_text, unrestored_text};
+ghost use Rattle.gms_run.specs.Scripts.{errors_of, first_state, scripted};
 ghost use Rattle.gms_run.specs.Solving.{number_limit, solving};
 ghost use Rattle.gms_run.specs.Statuses.{IsUnwritten};
 
 use crate::closing::Sequel;
-use crate::execution::execute;
+use crate::execution::{Run, execute};
 use crate::outlet::Outlet;
-use crate::restart::{errors_of, first_state, fits};
+use crate::restart::{errors_of, fits};
 use crate::script::{Matter, Script};
 use crate::status::Status;
 use gms_ast::Program;
@@ -24,7 +24,6 @@ use gms_labels::Place;
 use gms_list::Listing;
 use gms_parse::{SourceError, SourceFault, SourceFaultOrMemory, parse};
 use gms_save::SaveFault;
-use gms_store::Store;
 use gms_words::Request;
 use gq_frac::Frac;
 use lp_core::Answer;
@@ -53,6 +52,13 @@ pub(crate) fn names_of(
     Ok(names)
 }
 
+/// Whether a script that is refused for an error has an echo: one whose source is too long has none.
+fn has_echo(error: SourceError) -> bool
+    ensures { result ≡ has_echo error }
+{
+    !matches!(error, SourceError::TooLong)
+}
+
 /// Lists why a script is no program. One that is too long has no echo.
 fn refused(
     alloc: Global,
@@ -64,7 +70,7 @@ fn refused(
     ensures text { OnOk result (outlet.new.listing ≡ outlet.old.listing ++ refusal_text (script_in script.entry) fault) }
     ensures spool { outlet.new.spool ≡ outlet.old.spool }
 {
-    if fault.error != SourceError::TooLong {
+    if has_echo(fault.error) {
         outlet.listing.echo_from(alloc, script.file, script.line)?;
     }
     outlet.listing.source_fault(alloc, &fault)?;
@@ -123,26 +129,40 @@ fn has_errors(
     list_errors(alloc, script, errors.as_slice(), listing)
 }
 
-/// The first state of a script's program, where it is accepted. Where it is not, there is none, and why is listed.
-fn accepted(
+/// Executes a script's program without errors from its first state on, where a saved state fits it. Where it does not, that is listed.
+fn fitted<H: Host>(
     alloc: Global,
+    host: &mut H,
+    request: Request,
     script: Script,
     program: &Program<Frac>,
-    solvers: &[Box<dyn LpSolver>],
-    listing: &mut Listing,
-) -> Result<Option<Store<Frac>>, AllocError>
-    requires { IsProgram number_limit script.source.now frac_value program.now }
-    ensures { IfOk result (λ first. Accepts first (map name solvers.now) (script_in script.entry) program.now listing.old listing.new) }
+    run: &mut Run,
+    solvers: &mut Vec<Box<dyn LpSolver>>,
+    answers: &mut Vec<Answer<Frac>>,
+    outlet: &mut Outlet,
+    sequel: &mut Sequel,
+) -> Result<Status, Failed>
+    requires open { (H.meaning host.old).outside.writing ≡ true }
+    requires few { length solvers.old.items < 2 ^ 32 }
+    requires is_program { IsProgram number_limit script.source.now frac_value program.now }
+    requires no_error { errors_of (script_in script).saved script.line program.now (map name solvers.old.items) ≡ [] }
+    requires sound { IsSound (length solvers.old.items) (script_in script).saved }
+    requires first { run.old.store ≡ first_state (script_in script).saved program.now }
+    requires unsolved { run.old.solved.items ≡ [] }
+    requires none { answers.old.items ≡ [] }
+    requires empty { outlet.old.spool ++ outlet.old.listing ≡ [] }
+    requires silent { string_bytes sequel.old.remarks ≡ [] }
+    ensures outside { ComesTo result (λ status. Prepares status (solving name rule paths solvers.old.items solvers.new.items answers.new.items) (H.meaning host.old).outside (H.meaning host.new).outside (scripted (script_in script.entry)) (outlet.new.spool ++ outlet.new.listing)) (IsUnwritten (solving name rule paths solvers.old.items solvers.new.items answers.new.items) (H.meaning host.old).outside (H.meaning host.new).outside (scripted (script_in script.entry))) }
+    ensures follows { IfOk result (λ status. Follows status (solving name rule paths solvers.old.items solvers.new.items answers.new.items) (asked_by request.entry) (scripted (script_in script.entry)) (string_bytes sequel.new.remarks) sequel.new.save.items) }
+    ensures counts { CountsWriting result (H.meaning host.old).counts (H.meaning host.new).counts }
 {
-    if has_errors(alloc, script, program, solvers, listing)? {
-        return Ok(None);
+    if fits(alloc, script, program, &run.store)? {
+        return execute(
+            alloc, host, request, script, program, run, solvers, answers, outlet, sequel,
+        );
     }
-    let store = first_state(alloc, script, program)?;
-    if fits(alloc, script, program, &store)? {
-        return Ok(Some(store));
-    }
-    list_unrestored(alloc, SaveFault::SaveShape, listing)?;
-    Ok(None)
+    list_unrestored(alloc, SaveFault::SaveShape, &mut outlet.listing)?;
+    Ok(Status::Compile)
 }
 
 /// Checks and executes the program of a script, whose listing goes out as far as its last line, which is still to come; what is to be done behind it
@@ -170,13 +190,13 @@ fn checked<H: Host>(
     ensures counts { CountsWriting result (H.meaning host.old).counts (H.meaning host.new).counts }
 {
     let listing = &mut outlet.listing;
-    let first = accepted(alloc, script, program, solvers.as_slice(), listing)?;
-    match first {
-        Some(store) => execute(
-            alloc, host, request, script, program, store, solvers, answers, outlet, sequel,
-        ),
-        None => Ok(Status::Compile),
+    if has_errors(alloc, script, program, solvers.as_slice(), listing)? {
+        return Ok(Status::Compile);
     }
+    let mut run = Run::begin(alloc, script, program)?;
+    fitted(
+        alloc, host, request, script, program, &mut run, solvers, answers, outlet, sequel,
+    )
 }
 
 /// Parses, checks and executes a script, whose listing goes out as far as its last line, which is still to come; what is to be done behind it is made

@@ -1,7 +1,7 @@
 //! What is restored from a save, the first state of a script's program, and the statements of it that are run.
 ghost use Rattle.std.specs.Prelude.{◌≡◌, ◌↔◌, ◌<◌, ◌≤◌, ◌^◌, ℕ, List, [], filter, length, map, string_bytes, IfOk, IsTrue};
 ghost use Rattle.gms_save.specs.JointErrors.{is_saved};
-ghost use Rattle.gms_save.specs.Saves.{Restores};
+ghost use Rattle.gms_save.specs.Saves.{GivesBack, Restores};
 ghost use Rattle.gms_run.specs.InnerReports.{script_in};
 ghost use Rattle.gms_run.specs.Scripts.{Fits, IsAlike, errors_of, first_state, statements_of};
 
@@ -22,7 +22,8 @@ pub(crate) fn restored(
     solvers: &[Box<dyn LpSolver>],
 ) -> Result<Saved, SaveFaultOrMemory>
     requires { length solvers.now < 2 ^ 32 }
-    ensures { Restores (map name solvers.now) save.now result }
+    ensures answer { Restores (map name solvers.now) save.now result }
+    ensures back { GivesBack (map name solvers.now) save.now result }
 {
     let names = names_of(alloc, solvers)?;
     restore(alloc, save, &names)

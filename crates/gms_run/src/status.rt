@@ -6,7 +6,7 @@ ghost use Rattle.gms_run.specs.Jobs.{status_code};
 ///
 /// The numbers are those of `code`. After Usage and ReadFault no output was asked for; after Done, Compile and Execution the listing stands in it
 /// whole; after WriteFault the front of it may.
-#[derive(Clone, Copy, Debug, PartialEq, Eq)]
+#[derive(Clone, Copy, PartialEq, Eq)]
 pub enum Status {
     /// Every statement was executed, and the whole listing was written.
     Done,

@@ -7,4 +7,5 @@ mod Restarts
 mod Restored
 mod SavedNames
 mod SeenActs
+pub mod SeenJoints
 pub mod SeenPrograms

@@ -1,15 +1,17 @@
 -- What acts show is all that a check and a load look at: what they use and assign, which solvers they choose, and what they declare.
-use Rattle.std.proofs.Common.{◌≡◌, ℕ, Bool, List, [], ◌∷◌, ◌++◌, map, Option, None, option_map, refl, sym, ap, ap₂, ◌∙◌, subst}
+use Rattle.std.proofs.Common.{◌≡◌, ℕ, Bool, List, [], ◌∷◌, ◌++◌, map, Option, None, option_map, Vec, refl, sym, ap, ap₂, ◌∙◌, subst}
 use Rattle.std.specs.Prelude.{flat_map}
+use Rattle.std.specs.declared.alloc.Global.{Global}
 use Rattle.gq_number.specs.Number.{Number}
 use Rattle.gq_frac.specs.declared.frac.Frac.{Frac}
 use Rattle.gq_frac.specs.Frac.{frac_value}
 use Rattle.gms_labels.specs.declared.place.Place.{Place}
 use Rattle.gms_ast.specs.declared.declaration.Decl.{Decl}
+use Rattle.gms_ast.specs.declared.expression.Control.{Control as ControlNode}
 use Rattle.gms_ast.specs.declared.expression.Expr.TheVariants.{Yes}
 use Rattle.gms_ast.specs.declared.expression.Suffix.{Suffix}
 use Rattle.gms_ast.specs.declared.program.Act.{Act as ActNode, roll-Act, out-Act, roll-out-Act, map-Act}
-use Rattle.gms_ast.specs.declared.program.Act.TheFolds.{fold-Act, fold-roll-Act, fold_out-Stmt, ind-Stmt}
+use Rattle.gms_ast.specs.declared.program.Act.TheFolds.{fold-Act, fold-Stmt, fold-roll-Act, fold_out-Stmt, ind-Stmt}
 use Rattle.gms_ast.specs.declared.program.Act.TheOpen.{Act-F, Stmt-F}
 use Rattle.gms_ast.specs.declared.program.Act.TheVariants.{Declare, Alias, Define, Model, Display, rolls-Declare, rolls-Alias, rolls-Assign, rolls-Define, rolls-Model, rolls-Solve, rolls-Display, rolls-Loop, rolls-Options, rolls-Abort}
 use Rattle.gms_ast.specs.declared.program.Right.TheVariants.{Value}
@@ -35,6 +37,7 @@ use Rattle.gms_check.specs.StatementUses.{OfAct, OfStatement, index_list, option
 use Rattle.gms_check.specs.StatementUses.{act_step as use_step, statement_step as use_statement}
 use Rattle.gms_check.specs.Uses.{Uses, assigning, condition_uses, control_uses, defining, first_alias, index_sets, method, optimizing, second_alias, sets_of, shift_uses, solving, uses}
 use Rattle.gms_check.proofs.ActUses.{uses-act}
+use Rattle.gms_save.specs.JointErrors.{targets, targets_step, typed_names}
 use Rattle.gms_save.specs.Saves.{option_solvers, solvers_in, solvers_step}
 use Rattle.gms_save.proofs.FromNumbers.{condition_back, control_back, declarations_back, indices_back, option_in, options_back, tree_back, value_of}
 
@@ -173,102 +176,118 @@ same-uses s state controlled = each-act SameUses layers s state s.at controlled 
     layers x all state at controlled =
         ap (λ (v : Act Number). uses_of v state at controlled) (shows x) ∙ layer-uses x all state at controlled ∙ sym (ap (λ (f : OfAct Frac). f state at controlled) (used x))
 
--- ---- what acts assign
+-- ---- what statements give one after another, those of a loop's body too
 
-abbrev mutual
-  -- what an act assigns, by what it shows
-  pub assigned_of : Act Number → List ℕ
-  assigned_of (assigns target condition right_at right) = target.name ∷ []
-  assigned_of (loops control body) = all_assigned body
-  assigned_of act = []
+-- a layer that is no loop
+abbrev IsPlain : Layer → Type 0
+IsPlain (Act-F.Loop control body) = ⊥
+IsPlain x = Unit {0}
 
-  -- what statements assign, by what they show
-  all_assigned : Statements Number → List ℕ
-  all_assigned no_statement = []
-  all_assigned (statement at act rest) = assigned_of act ++ all_assigned rest
+module _ {A : Type 0} (step : Act-F Frac (List A) (List A) → List A) (own : Act Number → List A) where
+  abbrev mutual
+    -- what an act gives, by what it shows
+    gathered : Act Number → List A
+    gathered (loops control body) = all_gathered body
+    gathered act = own act
 
-abbrev assigned_by : ActNode Frac → List ℕ
-assigned_by = fold-Act Frac (List ℕ) (List ℕ) assigned_step (λ (s : Stmt-F Frac (List ℕ) (List ℕ)). s.act)
+    -- what statements give, by what they show
+    all_gathered : Statements Number → List A
+    all_gathered no_statement = []
+    all_gathered (statement at act rest) = gathered act ++ all_gathered rest
 
-abbrev SameAssigned : ActNode Frac → Type 0
-SameAssigned act = assigned_of (shown act) ≡ assigned_by act
+  abbrev act_of : Stmt-F Frac (List A) (List A) → List A
+  act_of s = s.act
 
-assigned-act : (s : Stmt Frac) → assigned s ≡ assigned_by s.act
-assigned-act s = fold_out-Stmt Frac (List ℕ) (List ℕ) assigned_step (λ (s : Stmt-F Frac (List ℕ) (List ℕ)). s.act) s
+  -- what an act and a statement give
+  abbrev given_by : ActNode Frac → List A
+  given_by = fold-Act Frac (List A) (List A) step act_of
 
-abbrev assigned_layer : Layer → List ℕ
-assigned_layer x = assigned_step (map-Act Frac (ActNode Frac) (Stmt Frac) (List ℕ) (List ℕ) assigned_by assigned x)
+  abbrev given_in : Stmt Frac → List A
+  given_in = fold-Stmt Frac (List A) (List A) step act_of
 
-assigns-layer : (x : Layer) → assigned_by (roll-Act Frac x) ≡ assigned_layer x
-assigns-layer = fold-roll-Act Frac (List ℕ) (List ℕ) assigned_step (λ (s : Stmt-F Frac (List ℕ) (List ℕ)). s.act)
+  abbrev SameGiven : ActNode Frac → Type 0
+  SameGiven act = gathered (shown act) ≡ given_by act
 
-body-assigned : (ss : List (Stmt Frac)) → AllSuch SameAssigned ss → all_assigned (in_order frac_value (map {B = Statements Number → Statements Number} (statement_view frac_value) ss)) ≡ flat_map (λ names. names) (map (assigned {F = Frac}) ss)
-body-assigned [] all = refl
-body-assigned (s ∷ ss) all =
-    ap all_assigned (view-Stmt frac_value s (in_order frac_value (map {B = Statements Number → Statements Number} (statement_view frac_value) ss)))
-    ∙ ap₂ (λ (a b : List ℕ). a ++ b) (all.0 ∙ sym (assigned-act s)) (body-assigned ss all.1)
+  abbrev given_layer : Layer → List A
+  given_layer x = step (map-Act Frac (ActNode Frac) (Stmt Frac) (List A) (List A) given_by given_in x)
 
-layer-assigned : (x : Layer) → LayerSuch SameAssigned x → assigned_of (shown_layer x) ≡ assigned_layer x
-layer-assigned (Act-F.Loop control body) all = body-assigned body.items all
-layer-assigned x all = refl
+  gives : (x : Layer) → given_by (roll-Act Frac x) ≡ given_layer x
+  gives = fold-roll-Act Frac (List A) (List A) step act_of
 
--- what a statement assigns is told by what its act shows
+  given-act : (s : Stmt Frac) → given_in s ≡ given_by s.act
+  given-act s = fold_out-Stmt Frac (List A) (List A) step act_of s
+
+  body-given : (ss : List (Stmt Frac)) → AllSuch SameGiven ss → all_gathered (in_order frac_value (map {B = Statements Number → Statements Number} (statement_view frac_value) ss)) ≡ flat_map (λ xs. xs) (map given_in ss)
+  body-given [] all = refl
+  body-given (s ∷ ss) all =
+      ap all_gathered (view-Stmt frac_value s (in_order frac_value (map {B = Statements Number → Statements Number} (statement_view frac_value) ss)))
+      ∙ ap₂ (λ (a b : List A). a ++ b) (all.0 ∙ sym (given-act s)) (body-given ss all.1)
+
+  module _ (loop : (control : ControlNode Frac) (body : Vec (Stmt Frac) Global) → given_layer (Act-F.Loop control body) ≡ flat_map (λ xs. xs) (map given_in body.items)) (plain : (x : Layer) → IsPlain x → gathered (shown_layer x) ≡ given_layer x) where
+    layer-given : (x : Layer) → LayerSuch SameGiven x → gathered (shown_layer x) ≡ given_layer x
+    layer-given (Act-F.Loop control body) all = body-given body.items all ∙ sym (loop control body)
+    layer-given (Act-F.Declare kind items) all = plain (Act-F.Declare kind items) tt
+    layer-given (Act-F.Alias first second) all = plain (Act-F.Alias first second) tt
+    layer-given (Act-F.Assign target condition right_at right) all = plain (Act-F.Assign target condition right_at right) tt
+    layer-given (Act-F.Define equation indices condition left_at left side right_at right) all = plain (Act-F.Define equation indices condition left_at left side right_at right) tt
+    layer-given (Act-F.Model models) all = plain (Act-F.Model models) tt
+    layer-given (Act-F.Solve model word objective maximize) all = plain (Act-F.Solve model word objective maximize) tt
+    layer-given (Act-F.Display items) all = plain (Act-F.Display items) tt
+    layer-given (Act-F.Options options) all = plain (Act-F.Options options) tt
+    layer-given (Act-F.Abort condition items) all = plain (Act-F.Abort condition items) tt
+
+    -- what a statement gives is told by what its act shows
+    pub same-given : (s : Stmt Frac) → gathered (shown s.act) ≡ given_in s
+    same-given s = each-act SameGiven layers s ∙ sym (given-act s)
+      where
+        layers : (x : Layer) → LayerSuch SameGiven x → SameGiven (roll-Act Frac x)
+        layers x all = ap gathered (shows x) ∙ layer-given x all ∙ sym (gives x)
+
+-- what an act assigns
+abbrev own_assigned : Act Number → List ℕ
+own_assigned (assigns target condition right_at right) = target.name ∷ []
+own_assigned act = []
+
+abbrev pub assigned_of : Act Number → List ℕ
+assigned_of = gathered assigned_step own_assigned
+
 pub same-assigned : (s : Stmt Frac) → assigned_of (shown s.act) ≡ assigned s
-same-assigned s = each-act SameAssigned layers s ∙ sym (assigned-act s)
+same-assigned = same-given assigned_step own_assigned (λ control body. refl) plain
   where
-    layers : (x : Layer) → LayerSuch SameAssigned x → SameAssigned (roll-Act Frac x)
-    layers x all = ap assigned_of (shows x) ∙ layer-assigned x all ∙ sym (assigns-layer x)
+    plain : (x : Layer) → IsPlain x → assigned_of (shown_layer x) ≡ given_layer assigned_step own_assigned x
+    plain (Act-F.Loop control body) no_loop = absurd no_loop
+    plain x is = refl
 
--- ---- which solvers acts choose
+-- the same with places
+abbrev own_targets : Act Number → List (Place × ℕ)
+own_targets (assigns target condition right_at right) = (target.at, target.name) ∷ []
+own_targets act = []
 
--- names of solvers
-abbrev Names : Type 0
-Names = List (List ℕ)
+abbrev pub targets_of : Act Number → List (Place × ℕ)
+targets_of = gathered targets_step own_targets
 
-abbrev mutual
-  -- the solvers that an act chooses, by what it shows
-  pub chosen_of : Act Number → Names
-  chosen_of (loops control body) = all_chosen body
-  chosen_of (sets_options options) = flat_map option_solvers (map (option_in value_of) options)
-  chosen_of act = []
+pub same-targets : (s : Stmt Frac) → targets_of (shown s.act) ≡ targets s
+same-targets = same-given targets_step own_targets (λ control body. refl) plain
+  where
+    plain : (x : Layer) → IsPlain x → targets_of (shown_layer x) ≡ given_layer targets_step own_targets x
+    plain (Act-F.Loop control body) no_loop = absurd no_loop
+    plain x is = refl
 
-  -- the solvers that statements choose, by what they show
-  all_chosen : Statements Number → Names
-  all_chosen no_statement = []
-  all_chosen (statement at act rest) = chosen_of act ++ all_chosen rest
+-- which solvers an act chooses
+abbrev own_chosen : Act Number → List (List ℕ)
+own_chosen (sets_options options) = flat_map option_solvers (map (option_in value_of) options)
+own_chosen act = []
 
-abbrev chosen_by : ActNode Frac → Names
-chosen_by = fold-Act Frac Names Names solvers_step (λ (s : Stmt-F Frac Names Names). s.act)
+abbrev pub chosen_of : Act Number → List (List ℕ)
+chosen_of = gathered solvers_step own_chosen
 
-abbrev SameChosen : ActNode Frac → Type 0
-SameChosen act = chosen_of (shown act) ≡ chosen_by act
-
-chosen-act : (s : Stmt Frac) → solvers_in s ≡ chosen_by s.act
-chosen-act s = fold_out-Stmt Frac Names Names solvers_step (λ (s : Stmt-F Frac Names Names). s.act) s
-
-abbrev chosen_layer : Layer → Names
-chosen_layer x = solvers_step (map-Act Frac (ActNode Frac) (Stmt Frac) Names Names chosen_by solvers_in x)
-
-chooses-layer : (x : Layer) → chosen_by (roll-Act Frac x) ≡ chosen_layer x
-chooses-layer = fold-roll-Act Frac Names Names solvers_step (λ (s : Stmt-F Frac Names Names). s.act)
-
-body-chosen : (ss : List (Stmt Frac)) → AllSuch SameChosen ss → all_chosen (in_order frac_value (map {B = Statements Number → Statements Number} (statement_view frac_value) ss)) ≡ flat_map (λ names. names) (map solvers_in ss)
-body-chosen [] all = refl
-body-chosen (s ∷ ss) all =
-    ap all_chosen (view-Stmt frac_value s (in_order frac_value (map {B = Statements Number → Statements Number} (statement_view frac_value) ss)))
-    ∙ ap₂ (λ (a b : Names). a ++ b) (all.0 ∙ sym (chosen-act s)) (body-chosen ss all.1)
-
-layer-chosen : (x : Layer) → LayerSuch SameChosen x → chosen_of (shown_layer x) ≡ chosen_layer x
-layer-chosen (Act-F.Loop control body) all = body-chosen body.items all
-layer-chosen (Act-F.Options options) all = ap (flat_map option_solvers) (options_back options)
-layer-chosen x all = refl
-
--- the solvers that a statement chooses are told by what its act shows
 pub same-chosen : (s : Stmt Frac) → chosen_of (shown s.act) ≡ solvers_in s
-same-chosen s = each-act SameChosen layers s ∙ sym (chosen-act s)
+same-chosen = same-given solvers_step own_chosen (λ control body. refl) plain
   where
-    layers : (x : Layer) → LayerSuch SameChosen x → SameChosen (roll-Act Frac x)
-    layers x all = ap chosen_of (shows x) ∙ layer-chosen x all ∙ sym (chooses-layer x)
+    plain : (x : Layer) → IsPlain x → chosen_of (shown_layer x) ≡ given_layer solvers_step own_chosen x
+    plain (Act-F.Loop control body) no_loop = absurd no_loop
+    plain (Act-F.Options options) is = ap (flat_map option_solvers) (options_back options)
+    plain x is = refl
 
 -- ---- what acts declare
 
@@ -288,6 +307,7 @@ pub record Told : Type 0 where
   pub declared : State → State
   pub given : State → State
   pub errors : Known Frac → Place → Uses Frac → List CompileError
+  pub typed : List (Place × ℕ)
 
 abbrev pub told : ActNode Frac → Told
 told act = record {
@@ -299,6 +319,7 @@ told act = record {
   declared = λ state. declared_by state act;
   given = λ state. after_act frac_value state act;
   errors = λ known at others. errors_by known at others act;
+  typed = typed_names act;
 }
 
 -- an act that declares what one does that shows this

@@ -32,10 +32,10 @@ use Rattle.gms_save.proofs.SeenActs.{Told, assigned_of, chosen_of, same-assigned
 -- ---- statements
 
 -- a statement as it is seen: its place, and what its act shows
-abbrev Seen : Type 0
+abbrev pub Seen : Type 0
 Seen = Place × Act Number
 
-abbrev seen : Stmt Frac → Seen
+abbrev pub seen : Stmt Frac → Seen
 seen s = (s.at, shown s.act)
 
 -- statements one by one
@@ -50,13 +50,13 @@ listed-is (x ∷ xs) = ap listed (view-Stmt frac_value x (statements_view frac_v
 -- ---- what is known before a statement
 
 -- statements before, each by what is taken from it and whether it has no error
-abbrev ToldPast : Type 0
+abbrev pub ToldPast : Type 0
 ToldPast = List (Told × Bool)
 
-abbrev told_past : Past Frac → ToldPast
+abbrev pub told_past : Past Frac → ToldPast
 told_past past = map (λ (p : Stmt Frac × Bool). (told p.0.act, p.1)) past
 
-abbrev after_told : State → Told × Bool → State
+abbrev pub after_told : State → Told × Bool → State
 after_told state t = if t.1 then t.0.given state else t.0.declared state
 
 state-told : (past : Past Frac) (state : State) → fold (after_statement frac_value) state past ≡ fold after_told state (told_past past)
@@ -75,7 +75,7 @@ unordered-told : (past : Past Frac) (name : ℕ) → is_unordered past name ≡ 
 unordered-told [] name = refl
 unordered-told (p ∷ past) name = ap (λ (b : Bool). (p.1 && (told p.0.act).is_unordered name) || b) (unordered-told past name)
 
-abbrev told_models : List ℕ → ToldPast → List (ℕ × List ℕ)
+abbrev pub told_models : List ℕ → ToldPast → List (ℕ × List ℕ)
 told_models declared [] = []
 told_models declared (t ∷ past) = t.0.models declared t.1 ++ told_models (declared ++ t.0.equations) past
 
@@ -85,7 +85,7 @@ models-told declared (p ∷ past) =
     ap (λ models. (told p.0.act).models declared p.1 ++ models) (models-told (declared ++ (told p.0.act).equations) past)
 
 -- what is known in a program of so many names, from these parts
-abbrev known_from : ℕ → List (List ℕ) → List ℕ → State → List ℕ → (ℕ → Bool) → (ℕ → Bool) → List (ℕ × List ℕ) → Known Frac
+abbrev pub known_from : ℕ → List (List ℕ) → List ℕ → State → List ℕ → (ℕ → Bool) → (ℕ → Bool) → List (ℕ × List ℕ) → Known Frac
 known_from count solvers dynamic state names unordered defined models = record {
   value = frac_value;
   state = state;
@@ -99,14 +99,14 @@ known_from count solvers dynamic state names unordered defined models = record {
 }
 
 -- whether a set is unordered, and an equation defined, after statements
-abbrev told_unordered : ToldPast → ℕ → Bool
+abbrev pub told_unordered : ToldPast → ℕ → Bool
 told_unordered past name = list_any (λ (t : Told × Bool). t.1 && t.0.is_unordered name) past
 
-abbrev told_defined : ToldPast → ℕ → Bool
+abbrev pub told_defined : ToldPast → ℕ → Bool
 told_defined past name = list_any (λ (t : Told × Bool). t.0.is_defined name) past
 
 -- what is known, from what is taken from the statements before
-abbrev known_told : ℕ → List (List ℕ) → List ℕ → ToldPast → Known Frac
+abbrev pub known_told : ℕ → List (List ℕ) → List ℕ → ToldPast → Known Frac
 known_told count solvers dynamic past =
     known_from count solvers dynamic (fold after_told (blank_state count) past) (flat_map (λ (t : Told × Bool). t.0.names) past) (told_unordered past) (told_defined past) (told_models [] past)
 
@@ -125,7 +125,7 @@ known-is program solvers past =
 -- ---- errors
 
 -- the error of a statement, by what it shows
-abbrev seen_error : Known Frac → Seen → Option CompileError
+abbrev pub seen_error : Known Frac → Seen → Option CompileError
 seen_error known v = first_of ((told_by v.1).errors known v.0 (uses_of v.1 known.state v.0 []))
 
 error-is : (known : Known Frac) (s : Stmt Frac) → statement_error known s ≡ seen_error known (seen s)
@@ -133,7 +133,7 @@ error-is known s =
     ap first_of (sym (told-errors known s s.act) ∙ ap₂ (λ (t : Told) (us : Uses Frac). t.errors known s.at us) (sym (same-told s.act)) (sym (same-uses s known.state [])))
 
 -- the errors of statements, by what they show
-abbrev seen_errors : ℕ → List (List ℕ) → List ℕ → ToldPast → List Seen → List (Option CompileError)
+abbrev pub seen_errors : ℕ → List (List ℕ) → List ℕ → ToldPast → List Seen → List (Option CompileError)
 seen_errors count solvers dynamic past [] = []
 seen_errors count solvers dynamic past (v ∷ vs) =
     seen_error (known_told count solvers dynamic past) v ∷ seen_errors count solvers dynamic (past ++ (told_by v.1, is_none (seen_error (known_told count solvers dynamic past) v)) ∷ []) vs
@@ -150,7 +150,7 @@ errors-step count solvers dynamic vs s known past others is rest =
     ap₂ (λ (x : Option CompileError) (xs : List (Option CompileError)). x ∷ xs) here
     (rest ∙ ap (λ (p : ToldPast). seen_errors count solvers dynamic p vs) (past-more past s (is_none (statement_error known s)) (is_none (seen_error (known_told count solvers dynamic (told_past past)) (seen s))) (ap (λ (x : Option CompileError). is_none x) here)))
 
-errors-are : (program : Program Frac) (solvers : List (List ℕ)) (past : Past Frac) (xs : List (Stmt Frac)) → each_error frac_value program solvers past xs ≡ seen_errors (length program.names) solvers (dynamic_sets program) (told_past past) (map seen xs)
+pub errors-are : (program : Program Frac) (solvers : List (List ℕ)) (past : Past Frac) (xs : List (Stmt Frac)) → each_error frac_value program solvers past xs ≡ seen_errors (length program.names) solvers (dynamic_sets program) (told_past past) (map seen xs)
 errors-are program solvers past [] = refl
 errors-are program solvers past (s ∷ xs) =
     let known = known_after frac_value program solvers past in
@@ -159,7 +159,7 @@ errors-are program solvers past (s ∷ xs) =
 
 -- ---- what is declared, loaded, assigned and chosen
 
-declared-are : (xs : List (Stmt Frac)) (state : State) → declared_by_all state xs ≡ fold (λ (s : State) (v : Seen). (told_by v.1).declared s) state (map seen xs)
+pub declared-are : (xs : List (Stmt Frac)) (state : State) → declared_by_all state xs ≡ fold (λ (s : State) (v : Seen). (told_by v.1).declared s) state (map seen xs)
 declared-are [] state = refl
 declared-are (x ∷ xs) state =
     ap (λ (t : Told). declared_by_all (t.declared state) xs) (sym (same-told x.act)) ∙ declared-are xs ((told_by (shown x.act)).declared state)
@@ -169,7 +169,7 @@ loaded-are [] state = refl
 loaded-are (x ∷ xs) state =
     ap (λ (t : Told). fold (after_statement frac_value) (t.given state) (sound xs)) (sym (same-told x.act)) ∙ loaded-are xs ((told_by (shown x.act)).given state)
 
-assigned-are : (xs : List (Stmt Frac)) → flat_map assigned xs ≡ flat_map (λ (v : Seen). assigned_of v.1) (map seen xs)
+pub assigned-are : (xs : List (Stmt Frac)) → flat_map assigned xs ≡ flat_map (λ (v : Seen). assigned_of v.1) (map seen xs)
 assigned-are [] = refl
 assigned-are (x ∷ xs) = ap₂ (λ (a b : List ℕ). a ++ b) (sym (same-assigned x)) (assigned-are xs)
 
@@ -178,14 +178,14 @@ chosen-are [] = refl
 chosen-are (x ∷ xs) = ap₂ (λ (a b : List (List ℕ)). a ++ b) (sym (same-chosen x)) (chosen-are xs)
 
 -- what a program declares, and which sets it assigns, by how many names it has and what its statements show
-abbrev seen_declared : ℕ → List Seen → State
+abbrev pub seen_declared : ℕ → List Seen → State
 seen_declared count vs = fold (λ (s : State) (v : Seen). (told_by v.1).declared s) (blank_state count) vs
 
 abbrev seen_dynamic : ℕ → List Seen → List ℕ
 seen_dynamic count vs = map (base_of (seen_declared count vs)) (flat_map (λ (v : Seen). assigned_of v.1) vs)
 
 module _ (program : Program Frac) where
-  declared-is : declared_state program ≡ seen_declared (length program.names) (map seen program.statements.items)
+  pub declared-is : declared_state program ≡ seen_declared (length program.names) (map seen program.statements.items)
   declared-is = declared-are program.statements.items (blank_state (length program.names))
 
   dynamic-is : dynamic_sets program ≡ seen_dynamic (length program.names) (map seen program.statements.items)
@@ -202,11 +202,11 @@ module _ (one other : Program Frac) (alike : program_view frac_value one ≡ pro
   pub same-labels : one.labels ≡ other.labels
   same-labels = ap (λ (v : ProgramView). v.labels) alike
 
-  same-count : length one.names ≡ length other.names
+  pub same-count : length one.names ≡ length other.names
   same-count = ap (λ (names : List (List ℕ)). length names) same-names
 
   -- and statements that show the same
-  same-seen : map seen one.statements.items ≡ map seen other.statements.items
+  pub same-seen : map seen one.statements.items ≡ map seen other.statements.items
   same-seen = sym (listed-is one.statements.items) ∙ ap (λ (v : ProgramView). listed v.statements) alike ∙ listed-is other.statements.items
 
   -- they declare the same

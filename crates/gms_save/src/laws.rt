@@ -9,6 +9,7 @@ ghost use Rattle.gms_known.specs.DynamicSets.{dynamic_sets};
 ghost use Rattle.gms_parse.specs.Outcomes.{program_view};
 ghost use Rattle.gms_check.specs.CompileErrors.{compile_errors};
 ghost use Rattle.gms_check.specs.Loaded.{loaded};
+ghost use Rattle.gms_save.specs.JointErrors.{joint_errors, resumed};
 ghost use Rattle.gms_save.specs.Saves.{IsSavedBy, solvers_chosen};
 
 /// Two programs that are seen alike, by their names, their labels and the trees of their statements, have the same errors, load
@@ -24,4 +25,8 @@ pub fn view_laws()
     ensures loaded { (one other : Program Frac) → program_view frac_value one ≡ program_view frac_value other → loaded frac_value one ≡ loaded frac_value other }
     ensures saved { (one other : Program Frac) (state : State) (solver : List ℕ) → program_view frac_value one ≡ program_view frac_value other →
         IsSavedBy one state solver → IsSavedBy other state solver }
+    ensures joint { (one other : Program Frac) (from : ℕ) (solvers : List (List ℕ)) → program_view frac_value one ≡ program_view frac_value other →
+        joint_errors frac_value one from solvers ≡ joint_errors frac_value other from solvers }
+    ensures resumed { (one other : Program Frac) (saved : State) → program_view frac_value one ≡ program_view frac_value other →
+        resumed frac_value saved one ≡ resumed frac_value saved other }
 {}

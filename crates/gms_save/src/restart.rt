@@ -16,7 +16,6 @@ use gq_frac::Frac;
 use std::alloc::{AllocError, Global};
 
 /// What the saved source declares and assigns, by which the statements of the new file are looked at.
-#[derive(Drop)]
 pub(crate) struct RestartCheck {
     /// The first line of the new file.
     pub from: u32,
@@ -26,6 +25,18 @@ pub(crate) struct RestartCheck {
     pub declared: Store<Frac>,
     /// The sets that the saved source assigns.
     pub assigned: Marks,
+}
+
+// Written out, so that it is proved once, and not wherever a check is let go.
+impl Drop for RestartCheck {
+    fn drop(self) {
+        let Self {
+            from: _,
+            saved: _,
+            declared: _,
+            assigned: _,
+        } = self;
+    }
 }
 
 /// What the statements of a joint program declare that begin above a line.

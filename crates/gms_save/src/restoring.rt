@@ -132,8 +132,8 @@ fn is_saved(
     if !is_solver_name(solver) {
         return Ok(false);
     }
-    let first = load(alloc, program)?;
     let assigned = dynamic_sets(alloc, program)?;
+    let first = load(alloc, program)?;
     are_saved(
         alloc,
         store,

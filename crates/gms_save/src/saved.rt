@@ -6,7 +6,6 @@ use gq_frac::Frac;
 /// What is restored from a save: the source that was run, its program, and the state after it.
 ///
 /// The settings of the state name the solver by its place among those of the run that goes on.
-#[derive(Drop)]
 pub struct Saved {
     /// The source, byte for byte.
     pub source: Vec<u8>,
@@ -14,4 +13,15 @@ pub struct Saved {
     pub program: Program<Frac>,
     /// The state.
     pub store: Store<Frac>,
+}
+
+// Written out, so that it is proved here alone, and not wherever what was restored is let go.
+impl Drop for Saved {
+    fn drop(self) {
+        let Self {
+            source: _,
+            program: _,
+            store: _,
+        } = self;
+    }
 }

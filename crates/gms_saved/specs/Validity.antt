@@ -7,6 +7,7 @@ use Rattle.std.specs.FinMap as finite
 use Rattle.gms_tuple.specs.TupleOrder.{IsOrdered}
 use Rattle.gms_tuple.specs.TupleSet.{has}
 use Rattle.gms_store.specs.declared.settings.Settings.{Settings}
+use Rattle.gms_store.specs.Statuses.{all_statuses, model_number, solver_number}
 use Rattle.gms_store.specs.State.{Content, set_of, parameter_of, variable_of, equation_of, model_with, Symbol, State, symbol_at, with_content, given_in, differs_in, fits_at, members_of, members_in, statuses_in}
 
 -- ---- what is declared
@@ -41,8 +42,7 @@ stands_in labels state domain tuple = false
 
 -- whether two statuses are those of a model before a solve, or after one
 abbrev pub are_statuses : ℕ → ℕ → Bool
-are_statuses model solver =
-    list_any (λ (pair : ℕ × ℕ). pair.0 == model && pair.1 == solver) ((0, 0) ∷ (1, 1) ∷ (3, 1) ∷ (4, 1) ∷ (6, 2) ∷ (7, 2) ∷ (13, 4) ∷ [])
+are_statuses model solver = list_any (λ status. model_number status == model && solver_number status == solver) all_statuses
 
 -- whether settings are in the ranges that their options allow
 abbrev pub are_in_range : Settings → Bool

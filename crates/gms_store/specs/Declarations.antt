@@ -1,6 +1,6 @@
 -- What the declarations of a program declare.
 -- GAMS User's Guide, "Set Definition", "Variables", "Equations", "Model and Solve Statements". That the first declaration of a name counts is this project's own rule.
-use Rattle.std.specs.Prelude.{ℕ, Bool, true, false, List, [], ◌∷◌, length, map, set, replicate, Option, None, option_map, if◌then◌else◌, ◌&&◌}
+use Rattle.std.specs.Prelude.{take, ℕ, Bool, true, false, List, [], ◌∷◌, length, map, set, replicate, Option, None, option_map, if◌then◌else◌, ◌&&◌, ◌==◌}
 use Rattle.std.specs.List.{fold}
 use Rattle.std.specs.FinMap as finite
 use Rattle.gms_ast.specs.declared.word.Named.{Named}
@@ -142,6 +142,13 @@ module _ {F : Type 0} where
   declared_by state (Alias first second) = declare_alias state first.name second.name
   declared_by state (Model models) = declare_models state models
   declared_by state act = state
+
+  -- the state after so many of the names that a statement declares, of which the first are declared first; of an alias that is none
+  -- the two names are declared as sets
+  abbrev pub declared_first : ℕ → State → Act F → State
+  declared_first count state (Declare kind items) = declare_each kind state (take count items)
+  declared_first count state (Alias first second) = if count == 0 then state else declare Set [] state first.name
+  declared_first count state act = state
 
   -- the state after the declarations of some statements, in order
   abbrev pub declared_by_all : State → List (Stmt F) → State

@@ -10,7 +10,6 @@ use gq_field::ExactField;
 use std::alloc::{AllocError, Global};
 
 /// What a name stands for. Of a parameter, a variable and an equation only the entries that differ from an absent one are kept.
-#[derive(Drop)]
 pub enum Content<F> {
     /// Nothing is declared.
     Undeclared,
@@ -23,6 +22,21 @@ pub enum Content<F> {
     Equation(Entries<Attributes<F>>),
     /// A model, with the model's status and the solver's.
     Model(u8, u8),
+}
+
+// Written out, so that it is proved here alone, and not in each crate that lets one go.
+impl<F: Drop> Drop for Content<F> {
+    fn drop(self) {
+        match self {
+            Self::Undeclared => {}
+            Self::Alias(_) => {}
+            Self::Set(_) => {}
+            Self::Parameter(_) => {}
+            Self::Variable(_, _) => {}
+            Self::Equation(_) => {}
+            Self::Model(_, _) => {}
+        }
+    }
 }
 
 impl<F: ExactField> Content<F> {

@@ -1,6 +1,7 @@
 //! What the declarations of a program declare.
-ghost use Rattle.std.specs.Prelude.{◌≡◌, List, Option, OnOk};
-ghost use Rattle.gms_store.specs.Declarations.{declare, names_of, declare_alias, join_name, declare_model, declare_models, declare_each, declared_by, declared_by_all, put_at, can_join, is_set, is_undeclared};
+ghost use Rattle.std.specs.Prelude.{◌≡◌, ◌⊎◌, ℕ, List, [], take, Option, OnOk, OnErr};
+ghost use Rattle.gms_ast.specs.declared.declaration.DeclKind.TheVariants.{Set};
+ghost use Rattle.gms_store.specs.Declarations.{declare, names_of, declare_alias, join_name, declare_model, declare_models, declare_each, declared_by, declared_first, declared_by_all, put_at, can_join, is_set, is_undeclared};
 ghost use Rattle.gms_store.specs.State.{symbol_at};
 
 use crate::store::Store;
@@ -26,9 +27,11 @@ impl<F: ExactField> Store<F> {
 
     /// Declares what a statement declares (GAMS User's Guide, "GAMS Programs", the statements that declare).
     ///
-    /// A statement that is no declaration, no alias and no model changes nothing. Data are not put: names stand empty.
+    /// A statement that is no declaration, no alias and no model changes nothing. Data are not put: names stand empty. After want of
+    /// memory the first of its names are declared, and the others are not.
     pub fn declare_act(&mut self, alloc: Global, act: &Act<F>) -> Result<(), AllocError>
-        ensures { OnOk result (self.new ≡ declared_by self.old act.now) }
+        ensures ok { OnOk result (self.new ≡ declared_by self.old act.now) }
+        ensures err { OnErr result ((count : ℕ) × (self.new ≡ declared_first count self.old act.now)) }
     {
         match act {
             Act::Declare { kind, items } => self.declare_each(alloc, *kind, items.as_slice()),
@@ -41,14 +44,15 @@ impl<F: ExactField> Store<F> {
         }
     }
 
-    /// Declares names of one kind.
+    /// Declares names of one kind. After want of memory the first of them are declared.
     fn declare_each(
         &mut self,
         alloc: Global,
         kind: DeclKind,
         items: &[Decl<F>],
     ) -> Result<(), AllocError>
-        ensures { OnOk result (self.new ≡ declare_each kind self.old items.now) }
+        ensures ok { OnOk result (self.new ≡ declare_each kind self.old items.now) }
+        ensures err { OnErr result ((count : ℕ) × (self.new ≡ declare_each kind self.old (take count items.now))) }
     {
         for item in items {
             self.declare(alloc, kind, item.domain.as_slice(), item.named.name)?;
@@ -57,7 +61,8 @@ impl<F: ExactField> Store<F> {
     }
 
     /// Declares a name with its domain. Of several declarations of one name the first counts, but for the type of a free
-    /// variable (GAMS User's Guide, "Variables"). A name past the last one of the program changes nothing.
+    /// variable (GAMS User's Guide, "Variables"). A name past the last one of the program changes nothing. After want of memory the
+    /// state is as it was.
     pub fn declare(
         &mut self,
         alloc: Global,
@@ -65,7 +70,8 @@ impl<F: ExactField> Store<F> {
         domain: &[Option<Named>],
         name: u32,
     ) -> Result<(), AllocError>
-        ensures { OnOk result (self.new ≡ declare kind (names_of domain.now) self.old name) }
+        ensures ok { OnOk result (self.new ≡ declare kind (names_of domain.now) self.old name) }
+        ensures err { OnErr result (self.new ≡ self.old) }
     {
         let at = name as usize;
         if at < self.symbols.len() {
@@ -76,14 +82,15 @@ impl<F: ExactField> Store<F> {
     }
 
     /// Makes one of two names another name of the other, which is a set (GAMS User's Guide, "Set Definition", aliases).
-    /// Where neither can be, both are declared as sets.
+    /// Where neither can be, both are declared as sets. After want of memory none of them is, or the first alone.
     pub fn declare_alias(
         &mut self,
         alloc: Global,
         first: u32,
         second: u32,
     ) -> Result<(), AllocError>
-        ensures { OnOk result (self.new ≡ declare_alias self.old first second) }
+        ensures ok { OnOk result (self.new ≡ declare_alias self.old first second) }
+        ensures err { OnErr result ((self.new ≡ self.old) ⊎ (self.new ≡ declare Set [] self.old first)) }
     {
         if self.can_join(first, second) {
             self.join_name(alloc, first, second);

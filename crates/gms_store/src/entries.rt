@@ -4,21 +4,29 @@ ghost use Rattle.std.specs.FinMap as finite;
 ghost use Rattle.gms_tuple.specs.TupleOrder.{IsOrdered};
 ghost use Rattle.gms_store.specs.State.{after_write, put_where};
 
+use crate::values::Values;
 use gms_tuple::{Tuple, TupleSet};
 use std::alloc::{AllocError, Global};
-use std::collections::BTreeMap;
 use std::marker::Model;
 
 /// A finite map from tuples, and the set of the tuples at which it has a value.
-#[derive(Drop)]
 pub struct Entries<X> {
-    values: BTreeMap<Tuple, X>,
+    values: Values<X>,
     given: TupleSet,
+}
+
+// Written out, so that it is proved here alone, and not in each crate that lets one go.
+impl<X: Drop> Drop for Entries<X> {
+    fn drop(self) {
+        let Self {
+            values: _,
+            given: _,
+        } = self;
+    }
 }
 
 impl<X> Model for Entries<X> {
     ghost use Rattle.std.specs.Prelude.{◌≡◌, ℕ};
-    ghost use Rattle.std.specs.Map.{keys_of};
     ghost use Rattle.std.specs.Coded.{coded_list, coded_ℕ};
     ghost use Rattle.std.specs.FinMap as finite;
     ghost use Rattle.gms_tuple.specs.TupleOrder.{tuple_cmp};
@@ -27,9 +35,9 @@ impl<X> Model for Entries<X> {
 
     ghost coded = { finite.code (coded_list coded_ℕ) X.code };
 
-    ghost view = { λ e. finite.from_entries e.values.entries };
+    ghost view = { λ e. e.values };
 
-    ghost invariant = { λ e. e.given ≡ keys_of e.values.entries };
+    ghost invariant = { λ e. e.given ≡ finite.keys e.values };
 }
 
 impl<X: Copy> Entries<X> {
@@ -38,7 +46,7 @@ impl<X: Copy> Entries<X> {
         ensures { result ≡ finite.empty }
     {
         Entries {
-            values: BTreeMap::new(alloc),
+            values: Values::new(alloc),
             given: TupleSet::new(alloc),
         }
     }
@@ -47,7 +55,7 @@ impl<X: Copy> Entries<X> {
     pub fn get(&self, t: &Tuple) -> Option<X>
         ensures { result ≡ finite.get self.now t.now }
     {
-        self.values.get(t).copied()
+        self.values.get(t)
     }
 
     /// The tuples at which there is a value.
@@ -55,7 +63,6 @@ impl<X: Copy> Entries<X> {
         ensures value { result.now ≡ finite.keys self.now }
         ensures ordered { IsOrdered result.now }
     {
-        let _ordered = self.values.len();
         let _given = self.given.len();
         &self.given
     }
@@ -65,14 +72,15 @@ impl<X: Copy> Entries<X> {
         ensures ok { OnOk result (self.new ≡ finite.insert self.old t.now value) }
         ensures err { OnErr result (self.new ≡ self.old) }
     {
-        let key = t.copy(alloc)?;
         let member = t.copy(alloc)?;
-        self.given.insert(alloc, member)?;
-        match self.values.insert(key, value) {
-            Ok(_) => Ok(()),
+        let new = self.given.insert(alloc, member)?;
+        match self.values.insert(alloc, t, value) {
+            Ok(()) => Ok(()),
             Err(failed) => {
-                self.given.remove(t);
-                Err(failed.into())
+                if new {
+                    self.given.remove(t);
+                }
+                Err(failed)
             }
         }
     }
@@ -98,6 +106,19 @@ impl<X: Copy> Entries<X> {
 
     /// An equal map.
     pub fn copy(&self, alloc: Global) -> Result<Entries<X>, AllocError>
+        ensures { IfOk result (λ copy. copy ≡ self.now) }
+    {
+        match self.values.copy(alloc)? {
+            Some(values) => {
+                let given = self.given.copy(alloc)?;
+                Ok(Entries { values, given })
+            }
+            None => self.refilled(alloc),
+        }
+    }
+
+    /// An equal map, into which each entry is put.
+    fn refilled(&self, alloc: Global) -> Result<Entries<X>, AllocError>
         ensures { IfOk result (λ copy. copy ≡ self.now) }
     {
         let given = self.given();
@@ -127,7 +148,6 @@ impl<X: Copy> Entries<X> {
     pub fn remove(&mut self, t: &Tuple)
         ensures { self.new ≡ finite.remove self.old t.now }
     {
-        let _ordered = self.values.len();
         self.given.remove(t);
         self.values.remove(t);
     }

@@ -1,10 +1,12 @@
 //! Laws of the state: each write changes one entry, and leaves all others.
-ghost use Rattle.std.specs.Prelude.{◌≡◌, ◌<◌, ℕ, Bool, true, false, List, length};
+ghost use Rattle.std.specs.Prelude.{◌≡◌, ◌<◌, ◌≤◌, ℕ, Bool, true, false, List, length};
 ghost use Rattle.gq_extended.specs.Extended.{Extended};
 ghost use Rattle.gms_tuple.specs.TupleOrder.{same_tuple};
 ghost use Rattle.gms_tuple.specs.TupleSet.{has};
 ghost use Rattle.gms_store.specs.State.{State, Entries, Attributes, set_of, parameter_of, base_of, symbol_of, value_of, attributes_of, members_of, statuses_in, after_value, after_attributes, after_membership, after_statuses, has_attributes};
 ghost use Rattle.gms_store.specs.Frames.{Keeps};
+ghost use Rattle.gms_store.specs.Statuses.{model_number, model_text, solver_number};
+ghost use Rattle.gms_store.specs.declared.status.SolveStatus.{SolveStatus};
 
 /// What is read after a write: at the tuple what was written, and at every other tuple of the name, and of every other
 /// name, what was there. An alias is no other name than its set.
@@ -54,4 +56,12 @@ pub fn frame_laws()
     ensures statuses_leave_values { (state : State) (name model solver : ℕ) (other : ℕ) (u : List ℕ) → value_of (after_statuses state name model solver) other u ≡ value_of state other u }
     ensures statuses_leave_members { (state : State) (name model solver : ℕ) (other : ℕ) → members_of (after_statuses state name model solver) other ≡ members_of state other }
     ensures statuses_leave_attributes { (state : State) (name model solver : ℕ) (other : ℕ) (u : List ℕ) → attributes_of (after_statuses state name model solver) other u ≡ attributes_of state other u }
+{}
+
+/// How a solve may end: the number of the model's status, and its text too, tell which of them it is, and no number is above 13.
+pub fn status_laws()
+    ensures one_number { (one other : SolveStatus) → model_number one ≡ model_number other → one ≡ other }
+    ensures one_text { (one other : SolveStatus) → model_text one ≡ model_text other → one ≡ other }
+    ensures small { (status : SolveStatus) → model_number status ≤ 13 }
+    ensures small_solver { (status : SolveStatus) → solver_number status ≤ 13 }
 {}

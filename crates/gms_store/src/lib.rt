@@ -8,11 +8,14 @@ mod entries;
 mod kind;
 mod laws;
 mod settings;
+mod status;
 mod store;
 mod symbol;
+mod values;
 
 pub use attributes::Attributes;
 pub use kind::SymbolKind;
-pub use laws::{frame_laws, write_laws};
+pub use laws::{frame_laws, status_laws, write_laws};
 pub use settings::Settings;
+pub use status::SolveStatus;
 pub use store::Store;

@@ -27,12 +27,23 @@ use std::marker::Model;
 /// not have or that is of another kind reads as one of which nothing is given, and a write to it, or at a tuple that has
 /// another length than the domain, changes nothing; a checked program has none of these. After want of memory the store
 /// is as it was.
-#[derive(Drop)]
 pub struct Store<F: ExactField> {
     pub(crate) symbols: Vec<Symbol<F>>,
     settings: Settings,
     nothing: Symbol<F>,
     none: TupleSet,
+}
+
+// Written out, so that it is proved here alone, and not in each crate that lets one go.
+impl<F: ExactField> Drop for Store<F> {
+    fn drop(self) {
+        let Self {
+            symbols: _,
+            settings: _,
+            nothing: _,
+            none: _,
+        } = self;
+    }
 }
 
 impl<F: ExactField> Model for Store<F> {

@@ -20,10 +20,19 @@ use std::alloc::{AllocError, Global};
 use std::marker::Model;
 
 /// A name of the program.
-#[derive(Drop)]
 pub struct Symbol<F: ExactField> {
     domain: Sequence<Option<u32>>,
     content: Content<F>,
+}
+
+// Written out, so that it is proved here alone, and not in each crate that lets one go.
+impl<F: ExactField> Drop for Symbol<F> {
+    fn drop(self) {
+        let Self {
+            domain: _,
+            content: _,
+        } = self;
+    }
 }
 
 impl<F: ExactField> Model for Symbol<F> {
@@ -129,14 +138,16 @@ impl<F: ExactField> Symbol<F> {
         }
     }
 
-    /// Declares the name once more: the first declaration counts, but for the type of a free variable.
+    /// Declares the name once more: the first declaration counts, but for the type of a free variable. After want of memory the
+    /// name is as it was.
     pub fn declare(
         &mut self,
         alloc: Global,
         kind: DeclKind,
         domain: &[Option<Named>],
     ) -> Result<(), AllocError>
-        ensures { OnOk result (self.new ≡ declared_again kind (names_of domain.now) self.old) }
+        ensures ok { OnOk result (self.new ≡ declared_again kind (names_of domain.now) self.old) }
+        ensures err { OnErr result (self.new ≡ self.old) }
     {
         if !self.is_undeclared() {
             self.retype(alloc, kind);

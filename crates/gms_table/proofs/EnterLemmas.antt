@@ -2,10 +2,10 @@
 use Rattle.std.proofs.Common.{◌≡◌, ℕ, suc, ◌+◌, ◌<◌, ◌≤◌, List, [], ◌∷◌, ◌++◌, length, get_or, take, drop, Some, Err, refl, sym, ap, ◌∙◌, subst, take-append-drop, drop-cons}
 use Rattle.std.specs.Borrow.{Bor}
 use Rattle.std.proofs.lemmas.List.{map_push, map-append, take_more}
-use Rattle.gms_labels.specs.Labels.{place_of, entered, IsFullFor}
+use Rattle.gms_labels.specs.Labels.{place_of, entered, IsFullFor, most_labels}
 use Rattle.gms_labels.specs.declared.fault.LabelFault.{LabelFault}
 use Rattle.gms_labels.specs.declared.fault.LabelFault.TheVariants as label
-use Rattle.gms_table.specs.WordLabels.{all_entered, GoesOn, most_labels}
+use Rattle.gms_table.specs.WordLabels.{all_entered, GoesOn}
 use Rattle.gms_table.specs.Names.{read_all, AreEntered, IsEntering}
 use Rattle.gms_table.proofs.LabelLemmas.{Stay, all_entered-append, Stay-entered, AreNumbers-push, GoesOn-all_entered, GoesOn-entered, GoesOn-trans, full-all_entered}
 

@@ -2,14 +2,13 @@
 use Rattle.std.proofs.Common.{◌≡◌, inl, inr, ℕ, ◌-◌, ◌<◌, ◌≤◌, List, [], ◌∷◌, ◌++◌, length, map, take, drop, Option, Some, None, is_some, refl, sym, ap, ◌∙◌, append_assoc, append-nil, arith}
 use Rattle.std.proofs.lemmas.List.{length-append, map_push, take_rest}
 use Rattle.std.proofs.lemmas.List.Sums.{fold-append}
-use Rattle.gms_labels.specs.Labels.{place_of, entered, IsFullFor}
+use Rattle.gms_labels.specs.Labels.{place_of, entered, IsFullFor, most_labels}
 use Rattle.gms_labels.proofs.Places.{place_of-entered_kept}
 use Rattle.gms_lines.proofs.LineLemmas.{true_or_false}
-use Rattle.gms_table.specs.declared.stretch.Stand.TheVariants.{First}
-use Rattle.gms_table.specs.Words.{is_dot, parted}
-use Rattle.gms_table.specs.WordLabels.{label_of, with_label, labels_among, all_entered, AreNumbers, GoesOn, most_labels}
-use Rattle.gms_table.specs.Stretches.{stretch_length}
-use Rattle.gms_table.proofs.StretchLemmas.{stretches_behind, IsParting-dot, parted-stretch}
+use Rattle.gms_table.specs.Words.{parted}
+use Rattle.gms_table.specs.WordLabels.{label_of, with_label, labels_among, all_entered, AreNumbers, GoesOn}
+use Rattle.gms_lexemes.specs.Stretches.{is_dot, stretch_bytes}
+use Rattle.gms_table.proofs.StretchLemmas.{stretches_behind, parted-stretch}
 
 -- entering some labels and then others
 pub all_entered-append : (table texts others : List (List ℕ)) → all_entered table (texts ++ others) ≡ all_entered (all_entered table texts) others
@@ -76,14 +75,14 @@ joined-with done label (Some others) = ap Some (sym (append_assoc done (label �
 
 -- the labels from a dot on
 abbrev pub labels_from : List ℕ → Option (List (List ℕ))
-labels_from rest = labels_among (parted is_dot First rest)
+labels_from rest = labels_among (parted is_dot rest)
 
 -- how many bytes the first label takes
 abbrev pub label_length : List ℕ → ℕ
-label_length rest = stretch_length is_dot First rest
+label_length rest = stretch_bytes is_dot rest
 
 labels_from-stretch : (rest : List ℕ) → labels_from rest ≡ with_label (label_of (take (label_length rest) rest)) (labels_among (stretches_behind is_dot (drop (label_length rest) rest)))
-labels_from-stretch rest = ap labels_among (parted-stretch is_dot IsParting-dot First rest)
+labels_from-stretch rest = ap labels_among (parted-stretch is_dot rest)
 
 -- a stretch that is no label
 pub labels_from-none : (done : List (List ℕ)) (rest : List ℕ) → label_of (take (label_length rest) rest) ≡ None → joined done (labels_from rest) ≡ None

@@ -6,7 +6,8 @@ use Rattle.gms_table.specs.declared.fault.TableError.{TableError}
 use Rattle.gms_table.specs.declared.fault.TableError.TheVariants.{NoColumn, TwoColumns, RepeatedEntry, BadRow, NoHeading, Labels}
 use Rattle.gms_table.specs.declared.fault.TableFault.{TableFault}
 use Rattle.gms_table.specs.Words.{Word}
-use Rattle.gms_table.specs.WordLabels.{labels_of, names_of, all_entered, most_labels}
+use Rattle.gms_labels.specs.Labels.{most_labels}
+use Rattle.gms_table.specs.WordLabels.{labels_of, names_of, all_entered}
 use Rattle.gms_table.specs.CellNumbers.{IsNumber, IsValue}
 use Rattle.gms_table.specs.Faults.{error_code}
 use Rattle.gms_table.specs.Names.{IsNoName}
@@ -16,7 +17,7 @@ use Rattle.gms_table.proofs.LabelLemmas.{all_entered-append}
 use Rattle.gms_table.proofs.PartLemmas.{texts_of-append, AreSound-push}
 
 -- each error has a number
-some_code : (error : TableError) → 1 ≤ error_code error
+some_code : (error : TableError) → 21 ≤ error_code error
 some_code NoColumn = omega arith
 some_code TwoColumns = omega arith
 some_code RepeatedEntry = omega arith
@@ -40,7 +41,7 @@ module _ (limit : ℕ) (labels : List (List ℕ)) where
 
   -- ---- headings and row labels
 
-  least_at_name : (before : List Part) (word : Word) (other : TableError) → Stands limit labels before (name word) other → 4 ≤ error_code other
+  least_at_name : (before : List Part) (word : Word) (other : TableError) → Stands limit labels before (name word) other → 24 ≤ error_code other
   least_at_name before word NoColumn h = absurd h
   least_at_name before word TwoColumns h = absurd h
   least_at_name before word RepeatedEntry h = absurd h
@@ -48,7 +49,7 @@ module _ (limit : ℕ) (labels : List (List ℕ)) where
   least_at_name before word NoHeading h = absurd h
   least_at_name before word Labels h = omega arith
 
-  least_at_labels : (before : List Part) (word : Word) → ¬ (labels_of word.text ≡ None) → (other : TableError) → Stands limit labels before (name word) other → 6 ≤ error_code other
+  least_at_labels : (before : List Part) (word : Word) → ¬ (labels_of word.text ≡ None) → (other : TableError) → Stands limit labels before (name word) other → 26 ≤ error_code other
   least_at_labels before word made NoColumn h = absurd h
   least_at_labels before word made TwoColumns h = absurd h
   least_at_labels before word made RepeatedEntry h = absurd h
@@ -94,7 +95,7 @@ module _ (limit : ℕ) (labels : List (List ℕ)) where
     pub shape_fault : (fault : TableFault) → IsHere fault BadRow → ¬ IsNumber word.text → ((x : Number) → ¬ IsValue limit word.text x) → IsFirstFault limit labels (before ++ cell row headings word ∷ []) fault
     shape_fault fault here unread none = first_fault before (cell row headings word) fault BadRow progress.sound here.0 here.1 none least
       where
-        least : (other : TableError) → Stands limit labels before (cell row headings word) other → 4 ≤ error_code other
+        least : (other : TableError) → Stands limit labels before (cell row headings word) other → 24 ≤ error_code other
         least NoColumn h = absurd (unread h.0)
         least TwoColumns h = absurd (unread h.0)
         least RepeatedEntry h = absurd (unread h.0)
@@ -108,7 +109,7 @@ module _ (limit : ℕ) (labels : List (List ℕ)) where
     pub columns_fault : (fault : TableFault) → IsHere fault TwoColumns → IsNumber word.text → 1 < length (met headings word) → IsFirstFault limit labels (before ++ cell row headings word ∷ []) fault
     columns_fault fault here is two = first_fault before (cell row headings word) fault TwoColumns progress.sound here.0 here.1 (is, two) least
       where
-        least : (other : TableError) → Stands limit labels before (cell row headings word) other → 2 ≤ error_code other
+        least : (other : TableError) → Stands limit labels before (cell row headings word) other → 22 ≤ error_code other
         least NoColumn h = absurd (omega (arith, ap length h.1))
         least TwoColumns h = omega arith
         least RepeatedEntry h = omega arith
@@ -119,7 +120,7 @@ module _ (limit : ℕ) (labels : List (List ℕ)) where
     pub repeated_fault : (fault : TableFault) (heading : Word) → IsHere fault RepeatedEntry → IsNumber word.text → met headings word ≡ heading ∷ [] → Contains (keys_of before) (key_of row heading) → IsFirstFault limit labels (before ++ cell row headings word ∷ []) fault
     repeated_fault fault heading here is one given = first_fault before (cell row headings word) fault RepeatedEntry progress.sound here.0 here.1 (is, (heading, one, given)) least
       where
-        least : (other : TableError) → Stands limit labels before (cell row headings word) other → 3 ≤ error_code other
+        least : (other : TableError) → Stands limit labels before (cell row headings word) other → 23 ≤ error_code other
         least NoColumn h = absurd (omega (arith, ap length one, ap length h.1))
         least TwoColumns h = absurd (omega (arith, ap length one, h.1))
         least RepeatedEntry h = omega arith
@@ -134,7 +135,7 @@ module _ (limit : ℕ) (labels : List (List ℕ)) where
     pub limit_fault : (fault : TableFault) (heading : Word) → IsHere fault BadRow → met headings word ≡ heading ∷ [] → ¬ Contains (keys_of before) (key_of row heading) → ((x : Number) → ¬ IsValue limit word.text x) → IsFirstFault limit labels (before ++ cell row headings word ∷ []) fault
     limit_fault fault heading here one new none = first_fault before (cell row headings word) fault BadRow progress.sound here.0 here.1 none least
       where
-        least : (other : TableError) → Stands limit labels before (cell row headings word) other → 4 ≤ error_code other
+        least : (other : TableError) → Stands limit labels before (cell row headings word) other → 24 ≤ error_code other
         least NoColumn h = absurd (omega (arith, ap length one, ap length h.1))
         least TwoColumns h = absurd (omega (arith, ap length one, h.1))
         least RepeatedEntry h = absurd (new (subst (λ k. Contains (keys_of before) (key_of row k)) (sym (same_heading heading h.1.0 one h.1.1)) h.1.2))

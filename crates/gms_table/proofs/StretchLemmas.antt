@@ -1,49 +1,36 @@
 -- A text is its first stretch and what stands behind that.
-use Rattle.std.proofs.Common.{◌≡◌, inl, inr, ℕ, ◌≤◌, Bool, true, false, List, [], ◌∷◌, length, take, drop, refl, ap, arith}
-use Rattle.std.specs.List.{onto_first}
-use Rattle.std.proofs.lemmas.Bool.Decides.{nat_tests}
-use Rattle.gms_lines.specs.Lines.{is_blank}
-use Rattle.gms_lines.proofs.LineLemmas.{true_or_false}
-use Rattle.gms_lexemes.specs.Bytes.{is_quote}
-use Rattle.gms_table.specs.declared.stretch.Stand.{Stand}
-use Rattle.gms_table.specs.declared.stretch.Stand.TheVariants.{First, Marked, Inner}
-use Rattle.gms_table.specs.Words.{is_dot, behind_plain, behind, parts, parted}
-use Rattle.gms_table.specs.Stretches.{stretch_length}
+use Rattle.std.proofs.Common.{◌≡◌, ℕ, zero, suc, ◌≤◌, ◌<◌, Bool, List, [], ◌∷◌, length, take, drop, refl, ap, arith}
+use Rattle.std.proofs.lemmas.List.{length-drop}
+use Rattle.gms_lexemes.specs.Stretches.{stretch_bytes}
+use Rattle.gms_lexemes.proofs.StretchLemmas.{stretch_length-le}
+use Rattle.gms_table.specs.Words.{others_by, first_stretches, parted}
+
+-- a stretch stands within its text
+pub stretch_bytes-le : (test : ℕ → Bool) (text : List ℕ) → stretch_bytes test text ≤ length text
+stretch_bytes-le test text = stretch_length-le test _ text
 
 -- the stretches behind a stretch: none at the end of the text, else those behind the byte that parts it
 abbrev pub stretches_behind : (ℕ → Bool) → List ℕ → List (List ℕ)
-stretches_behind test [] = []
-stretches_behind test (b ∷ rest) = parted test First rest
+stretches_behind test text = others_by (parted test) text
 
--- A test of bytes that are no quotation marks, and behind which a label may begin.
-pub record IsParting (test : ℕ → Bool) : Type 0 where
-  pub starts : (b : ℕ) → test b ≡ true → behind_plain b ≡ First
-  pub unquoted : (b : ℕ) → test b ≡ true → is_quote b ≡ false
+-- what is asked of the stretches of shorter texts
+same_others : (test : ℕ → Bool) (one other : ℕ) (text : List ℕ) → ((rest : List ℕ) → length rest < length text → first_stretches test one rest ≡ first_stretches test other rest) → others_by (first_stretches test one) text ≡ others_by (first_stretches test other) text
+same_others test one other [] same = refl
+same_others test one other (b ∷ rest) same = same rest (omega arith)
 
-pub IsParting-blank : IsParting is_blank
-IsParting-blank = record { starts = λ b h. rw h refl; unquoted = λ b h. grind (arith, nat_tests) }
+-- a text has no more stretches than its bytes and one
+enough : (test : ℕ → Bool) (one other : ℕ) (text : List ℕ) → length text < one → length text < other → first_stretches test one text ≡ first_stretches test other text
+enough test zero other text h k = absurd (omega (arith, h))
+enough test (suc one) zero text h k = absurd (omega (arith, k))
+enough test (suc one) (suc other) text h k =
+    ap (λ (others : List (List ℕ)). take (stretch_bytes test text) text ∷ others)
+    (same_others test one other (drop (stretch_bytes test text) text) (λ rest shorter. enough test one other rest (omega (arith, h, shorter, length-drop (stretch_bytes test text) text)) (omega (arith, k, shorter, length-drop (stretch_bytes test text) text))))
 
-pub IsParting-dot : IsParting is_dot
-IsParting-dot = record { starts = λ b h. grind (arith, nat_tests); unquoted = λ b h. grind (arith, nat_tests) }
-
--- behind a byte that parts a text a label may begin
-behind-parting : (test : ℕ → Bool) → IsParting test → (stand : Stand) (b : ℕ) (rest : List ℕ) → parts test stand b ≡ true → behind stand b rest ≡ First
-behind-parting test is First b rest h = rw (is.unquoted b h) (is.starts b h)
-behind-parting test is Inner b rest h = is.starts b h
-behind-parting test is (Marked mark) b rest h = absurd (cc)
+behind-same : (test : ℕ → Bool) (most : ℕ) (text : List ℕ) → length text ≤ most → others_by (first_stretches test most) text ≡ stretches_behind test text
+behind-same test most [] h = refl
+behind-same test most (b ∷ rest) h = enough test most (suc (length rest)) rest (omega (arith, h)) (omega arith)
 
 -- a text is its first stretch and what stands behind that
-pub parted-stretch : (test : ℕ → Bool) → IsParting test → (stand : Stand) (text : List ℕ) → parted test stand text ≡ take (stretch_length test stand text) text ∷ stretches_behind test (drop (stretch_length test stand text) text)
-parted-stretch test is stand [] = refl
-parted-stretch test is stand (b ∷ rest) = elim (true_or_false (parts test stand b)) [
-  | inl h ↦ rw h (ap (λ s. [] ∷ parted test s rest) (behind-parting test is stand b rest h))
-  | inr h ↦ rw h (ap (onto_first b) (parted-stretch test is (behind stand b rest) rest))
-]
-
--- a stretch stands within its text
-pub stretch_length-le : (test : ℕ → Bool) (stand : Stand) (text : List ℕ) → stretch_length test stand text ≤ length text
-stretch_length-le test stand [] = omega arith
-stretch_length-le test stand (b ∷ rest) = elim (true_or_false (parts test stand b)) [
-  | inl h ↦ rw h (omega arith)
-  | inr h ↦ rw h (omega (arith, stretch_length-le test (behind stand b rest) rest))
-]
+pub parted-stretch : (test : ℕ → Bool) (text : List ℕ) → parted test text ≡ take (stretch_bytes test text) text ∷ stretches_behind test (drop (stretch_bytes test text) text)
+parted-stretch test text =
+    ap (λ (others : List (List ℕ)). take (stretch_bytes test text) text ∷ others) (behind-same test (length text) (drop (stretch_bytes test text) text) (omega (arith, length-drop (stretch_bytes test text) text)))

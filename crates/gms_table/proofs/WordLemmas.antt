@@ -1,15 +1,15 @@
 -- The words of a line, one after another.
-use Rattle.std.proofs.Common.{◌≡◌, inl, inr, ℕ, ◌+◌, ◌-◌, ◌*◌, ◌==◌, ◌<◌, ◌≤◌, List, [], ◌∷◌, ◌++◌, length, get_or, take, drop, fold, refl, sym, ap, ◌∙◌, subst, append_assoc, append-nil, add-one, arith, drop-cons}
+use Rattle.std.proofs.Common.{◌≡◌, ℕ, ◌+◌, ◌-◌, ◌*◌, ◌<◌, ◌≤◌, List, [], ◌∷◌, ◌++◌, length, get_or, take, drop, fold, refl, sym, ap, ◌∙◌, subst, append_assoc, append-nil, add-one, arith, drop-cons}
 use Rattle.std.proofs.lemmas.List.Sums.{fold-append, fold_more}
 use Rattle.std.proofs.Math.Seq.{take-add}
 use Rattle.std.proofs.lemmas.List.{length-drop, length-take-le, drop-drop, drop_all, take_rest}
 use Rattle.gms_lines.specs.Lines.{is_blank}
-use Rattle.gms_lines.proofs.LineLemmas.{true_or_false}
-use Rattle.gms_table.specs.declared.stretch.Stand.TheVariants.{First}
-use Rattle.gms_table.specs.Words.{Word, parted, column_after, column_of, word_of, word_at, words_among, words_of}
+use Rattle.gms_lexemes.specs.Columns.{column_after}
+use Rattle.gms_table.specs.Words.{Word, parted, column_of, word_of, word_at, words_among, words_of}
 use Rattle.gms_table.specs.Shown.{AreSpacedFrom}
-use Rattle.gms_table.specs.Stretches.{stretch_length}
-use Rattle.gms_table.proofs.StretchLemmas.{stretches_behind, IsParting-blank, parted-stretch, stretch_length-le}
+use Rattle.gms_lexemes.specs.Stretches.{stretch_bytes}
+use Rattle.gms_lexemes.proofs.ColumnLemmas.{column_after-bounds}
+use Rattle.gms_table.proofs.StretchLemmas.{stretch_bytes-le, stretches_behind, parted-stretch}
 
 -- the column of a byte further on
 pub column_of-add : (line : List ℕ) (n k : ℕ) → fold column_after (column_of line n) (take k (drop n line)) ≡ column_of line (n + k)
@@ -17,14 +17,14 @@ column_of-add line n k = sym (fold-append column_after 1 (take n line) (take k (
 
 -- the words of a line from a byte on, at which a stretch begins
 abbrev pub words_from : ℕ → List ℕ → ℕ → List Word
-words_from number line start = words_among number line start (parted is_blank First (drop start line))
+words_from number line start = words_among number line start (parted is_blank (drop start line))
 
 -- how many bytes the stretch takes that begins there
 abbrev pub length_from : List ℕ → ℕ → ℕ
-length_from line start = stretch_length is_blank First (drop start line)
+length_from line start = stretch_bytes is_blank (drop start line)
 
 words_from-stretch : (number : ℕ) (line : List ℕ) (start : ℕ) → words_from number line start ≡ word_at number line start (take (length_from line start) (drop start line)) ++ words_among number line (start + length (take (length_from line start) (drop start line)) + 1) (stretches_behind is_blank (drop (length_from line start) (drop start line)))
-words_from-stretch number line start = ap (words_among number line start) (parted-stretch is_blank IsParting-blank First (drop start line))
+words_from-stretch number line start = ap (words_among number line start) (parted-stretch is_blank (drop start line))
 
 -- the column behind the last of words that stand behind a column
 abbrev pub last_end : ℕ → List Word → ℕ
@@ -41,13 +41,6 @@ last_end-push column [] word = refl
 last_end-push column (w ∷ words) word = last_end-push w.end words word
 
 -- ---- one stretch more
-
--- the column behind a byte is at least the next, and at most eight further on
-column_after-bounds : (column b : ℕ) → (column < column_after column b) × (column_after column b ≤ column + 8)
-column_after-bounds column b = elim (true_or_false (b == 9)) [
-  | inl h ↦ rw h (omega arith, omega arith)
-  | inr h ↦ rw h (omega arith, omega arith)
-]
 
 -- What was found of a line before a byte at which a stretch begins.
 pub record WordsSoFar (number : ℕ) (line : List ℕ) (words : List Word) (start column : ℕ) : Type 0 where
@@ -68,11 +61,11 @@ pub record NextStretch (number : ℕ) (line : List ℕ) (words : List Word) (sta
 
 module _ (number : ℕ) (line : List ℕ) (words : List Word) (start column : ℕ) (text : List ℕ) (end : ℕ) (after : List Word) (so_far : WordsSoFar number line words start column) (next : NextStretch number line words start column text end after) where
   long : length text ≡ length_from line start
-  long = ap length next.text_is ∙ length-take-le (length_from line start) (drop start line) (stretch_length-le is_blank First (drop start line))
+  long = ap length next.text_is ∙ length-take-le (length_from line start) (drop start line) (stretch_bytes-le is_blank (drop start line))
 
   -- the stretch ends within the line
   pub stretch_within : start + length text ≤ length line
-  stretch_within = omega (arith, long, so_far.within, stretch_length-le is_blank First (drop start line), length-drop start line)
+  stretch_within = omega (arith, long, so_far.within, stretch_bytes-le is_blank (drop start line), length-drop start line)
 
   -- the column behind the stretch
   end_column : end ≡ column_of line (start + length text)
@@ -126,9 +119,9 @@ module _ (number : ℕ) (line : List ℕ) (words : List Word) (start column : �
       }
 
 -- the next stretch, as it is read
-pub next_stretch : (number : ℕ) (line : List ℕ) (words : List Word) (start column n end : ℕ) (after : List Word) → n ≡ stretch_length is_blank First (take (length line - start) (drop start line)) → end ≡ fold column_after column (take n (take (length line - start) (drop start line))) → column + length (take n (take (length line - start) (drop start line))) ≤ end → end ≤ column + 8 * length (take n (take (length line - start) (drop start line))) → after ≡ words ++ word_of record { line = number; column = column } end (take n (take (length line - start) (drop start line))) → NextStretch number line words start column (take n (take (length line - start) (drop start line))) end after
+pub next_stretch : (number : ℕ) (line : List ℕ) (words : List Word) (start column n end : ℕ) (after : List Word) → n ≡ stretch_bytes is_blank (take (length line - start) (drop start line)) → end ≡ fold column_after column (take n (take (length line - start) (drop start line))) → column + length (take n (take (length line - start) (drop start line))) ≤ end → end ≤ column + 8 * length (take n (take (length line - start) (drop start line))) → after ≡ words ++ word_of record { line = number; column = column } end (take n (take (length line - start) (drop start line))) → NextStretch number line words start column (take n (take (length line - start) (drop start line))) end after
 next_stretch number line words start column n end after n_is end_is grows near after_is = record {
-  text_is = ap (take n) (take_rest line start) ∙ ap (λ k. take k (drop start line)) (n_is ∙ ap (stretch_length is_blank First) (take_rest line start));
+  text_is = ap (take n) (take_rest line start) ∙ ap (λ k. take k (drop start line)) (n_is ∙ ap (stretch_bytes is_blank) (take_rest line start));
   end_is = end_is;
   grows = grows;
   near = near;

@@ -5,12 +5,12 @@ use Rattle.gms_table.specs.declared.fault.TableError.TheVariants.{NoColumn, TwoC
 
 -- the number of an error
 abbrev pub error_code : TableError → ℕ
-error_code NoColumn = 1
-error_code TwoColumns = 2
-error_code RepeatedEntry = 3
-error_code BadRow = 4
-error_code NoHeading = 5
-error_code Labels = 6
+error_code NoColumn = 21
+error_code TwoColumns = 22
+error_code RepeatedEntry = 23
+error_code BadRow = 24
+error_code NoHeading = 25
+error_code Labels = 26
 
 -- the name of an error
 abbrev pub error_name : TableError → List ℕ

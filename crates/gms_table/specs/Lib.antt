@@ -3,7 +3,6 @@ pub mod WordLabels
 pub mod CellNumbers
 pub mod Faults
 pub mod TableEntries
-pub mod Stretches
 pub mod Shown
 pub mod Names
 pub mod ReadNumbers

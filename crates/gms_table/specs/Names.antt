@@ -9,7 +9,8 @@ use Rattle.gms_table.specs.declared.fault.TableFaultOrMemory.TheVariants.{Memory
 use Rattle.gms_table.specs.declared.fault.TableFault.{TableFault}
 use Rattle.gms_table.specs.declared.fault.TableError.TheVariants.{BadRow, Labels}
 use Rattle.gms_table.specs.Words.{Word}
-use Rattle.gms_table.specs.WordLabels.{labels_of, names_of, all_entered, AreNumbers, most_labels}
+use Rattle.gms_labels.specs.Labels.{most_labels}
+use Rattle.gms_table.specs.WordLabels.{labels_of, names_of, all_entered, AreNumbers}
 
 -- the labels that are kept
 abbrev pub read_all : List (Bor (List ℕ)) → List (List ℕ)

@@ -3,7 +3,7 @@
 -- this project's own rule.
 use Rattle.std.specs.Prelude.{◌≡◌, ◌⊎◌, ℕ, ◌≤◌, ◌<◌, Bool, ◌&&◌, ◌==◌, nat_lt, if◌then◌else◌, List, [], ◌∷◌, ◌++◌, length, map, filter, Contains, None, string_bytes}
 use Rattle.gms_labels.specs.declared.place.Place.{Place}
-use Rattle.gms_labels.specs.Labels.{folded}
+use Rattle.gms_labels.specs.Labels.{folded, most_labels}
 use Rattle.gms_lines.specs.Lines.{begins}
 use Rattle.gq_number.specs.Number.{Number}
 use Rattle.gms_table.specs.declared.entry.TableLine.{TableLine}
@@ -14,7 +14,7 @@ use Rattle.gms_table.specs.declared.fault.TableFault.{TableFault}
 use Rattle.gms_table.specs.declared.fault.TableFaultOrMemory.{TableFaultOrMemory}
 use Rattle.gms_table.specs.declared.fault.TableFaultOrMemory.TheVariants.{Memory, Fault}
 use Rattle.gms_table.specs.Words.{Word, words_of}
-use Rattle.gms_table.specs.WordLabels.{labels_of, names_of, all_entered, AreNumbers, most_labels}
+use Rattle.gms_table.specs.WordLabels.{labels_of, names_of, all_entered, AreNumbers}
 use Rattle.gms_table.specs.CellNumbers.{IsNumber, IsValue}
 use Rattle.gms_table.specs.Faults.{error_code}
 

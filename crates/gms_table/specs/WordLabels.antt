@@ -5,10 +5,10 @@ use Rattle.std.specs.List.{list_all, prefix_len}
 use Rattle.std.specs.Char.{is_ascii_alphanumeric}
 use Rattle.gms_lines.specs.Lines.{begins}
 use Rattle.gms_labels.specs.Labels.{entered, place_of}
-use Rattle.gms_table.specs.declared.stretch.Stand.TheVariants.{First}
 use Rattle.gms_lexemes.specs.Bytes.{is_label_byte, is_quote, is_plain}
 use Rattle.gms_lexemes.specs.Shapes.{longest_label}
-use Rattle.gms_table.specs.Words.{Word, is_dot, parted}
+use Rattle.gms_lexemes.specs.Stretches.{is_dot}
+use Rattle.gms_table.specs.Words.{Word, parted}
 
 -- the label that stands behind its first mark: the text before the mark comes again, with nothing behind that; it is of ASCII
 abbrev pub quoted_label : ℕ → List ℕ → Option (List ℕ)
@@ -39,7 +39,7 @@ labels_among (text ∷ others) = with_label (label_of text) (labels_among others
 
 -- the labels that a text joins by dots, where it is made of labels
 abbrev pub labels_of : List ℕ → Option (List (List ℕ))
-labels_of text = labels_among (parted is_dot First text)
+labels_of text = labels_among (parted is_dot text)
 
 -- the labels of a word, and none where it is not made of labels
 abbrev pub names_of : Word → List (List ℕ)
@@ -52,10 +52,6 @@ all_entered labels texts = fold entered labels texts
 -- these are the numbers of these labels in a table of labels
 abbrev pub AreNumbers : List (List ℕ) → List ℕ → List (List ℕ) → Type 0
 AreNumbers labels numbers texts = map Some numbers ≡ map (place_of labels) texts
-
--- how many labels a table of labels may have
-abbrev pub most_labels : ℕ
-most_labels = 65536
 
 -- a list goes on with others
 abbrev pub GoesOn : List (List ℕ) → List (List ℕ) → Type 0

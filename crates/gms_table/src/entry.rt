@@ -3,7 +3,7 @@ use gms_ast::Sequence;
 use gms_labels::Place;
 
 /// A line of a table as it stands in the source, from its first column up to its end or to the `;` that ends the table.
-#[derive(Debug, Drop)]
+#[derive(Drop)]
 pub struct TableLine {
     /// Its text. Words are parted by blanks, and labels in quotation marks may hold blanks.
     pub text: String,
@@ -14,7 +14,7 @@ pub struct TableLine {
 /// An entry of a table: a number, under a heading and in a row.
 ///
 /// In the table of the lines `       x   y` and `a.b    1` it is the number 1 in the row `a.b` under `x`.
-#[derive(Debug, Drop)]
+#[derive(Drop)]
 pub struct Entry<F> {
     /// The place of the number, its sign included.
     pub at: Place,

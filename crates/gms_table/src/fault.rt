@@ -5,29 +5,22 @@ ghost use Rattle.gms_table.specs.declared.fault.TableFaultOrMemory.TheVariants.{
 
 use gms_labels::Place;
 use std::alloc::{AllocError, AllocFailed};
-use thiserror::Error;
 
 /// An error of a table.
-#[derive(Clone, Copy, Debug, PartialEq, Eq, Error)]
+#[derive(Clone, Copy, PartialEq, Eq)]
 pub enum TableError {
     /// A number that stands under no heading.
-    #[error("the number stands under no heading")]
     NoColumn,
     /// A number that stands under two headings or more.
-    #[error("the number stands under two headings")]
     TwoColumns,
     /// A second number for the same row label and the same heading.
-    #[error("the entry is given twice")]
     RepeatedEntry,
     /// A heading or a row label that is not made of labels joined by dots, or a later word of a row that is no number within the
     /// limit.
-    #[error("this is neither a label nor a number of a table")]
     BadRow,
     /// A table without a line of headings.
-    #[error("the table has no headings")]
     NoHeading,
     /// A label that is one more than a table of labels may have.
-    #[error("the table of labels is full")]
     Labels,
 }
 
@@ -37,12 +30,12 @@ impl TableError {
         ensures { result ≡ error_code self }
     {
         match self {
-            TableError::NoColumn => 1,
-            TableError::TwoColumns => 2,
-            TableError::RepeatedEntry => 3,
-            TableError::BadRow => 4,
-            TableError::NoHeading => 5,
-            TableError::Labels => 6,
+            TableError::NoColumn => 21,
+            TableError::TwoColumns => 22,
+            TableError::RepeatedEntry => 23,
+            TableError::BadRow => 24,
+            TableError::NoHeading => 25,
+            TableError::Labels => 26,
         }
     }
 
@@ -62,7 +55,7 @@ impl TableError {
 }
 
 /// An error of a table and the place of its word.
-#[derive(Clone, Copy, Debug, PartialEq, Eq)]
+#[derive(Clone, Copy)]
 pub struct TableFault {
     /// The error.
     pub error: TableError,
@@ -71,7 +64,7 @@ pub struct TableFault {
 }
 
 /// A fault of a table, or want of memory.
-#[derive(Clone, Copy, Debug, PartialEq, Eq)]
+#[derive(Clone, Copy)]
 pub enum TableFaultOrMemory {
     /// A growth found no memory.
     Memory,

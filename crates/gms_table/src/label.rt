@@ -10,10 +10,9 @@ ghost use Rattle.gms_table.specs.Names.{Enters, IsEntering, read, read_all};
 ghost use Rattle.gms_table.specs.Shown.{seen};
 
 use crate::fault::{TableError, TableFaultOrMemory};
-use crate::stretch::{Separator, stretch_length};
 use crate::word::Word;
 use gms_labels::{LabelFault, Labels, MOST_BYTES};
-use gms_lexemes::label_length;
+use gms_lexemes::{Separator, label_length, stretch_length};
 use std::alloc::{AllocError, Global};
 
 /// Whether all bytes are of ASCII.

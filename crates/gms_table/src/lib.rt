@@ -7,10 +7,9 @@ mod given;
 mod heading;
 mod label;
 mod number;
-mod stretch;
 mod tables;
 mod word;
 
 pub use entry::{Entry, TableLine};
 pub use fault::{TableError, TableFault, TableFaultOrMemory};
-pub use tables::{LONGEST_LINE, table};
+pub use tables::table;

@@ -1,5 +1,6 @@
 //! The entries of a table.
 ghost use Rattle.std.specs.Prelude.{◌≡◌, ◌≤◌, ◌++◌, ◌∷◌, [], ℕ, List, All, IfOk, IfNone, IfSome, MatchResult, string_len};
+ghost use Rattle.gms_lines.specs.LineFaults.{longest_line};
 ghost use Rattle.gms_table.specs.Words as seen_words;
 ghost use Rattle.gms_table.specs.WordLabels.{GoesOn};
 ghost use Rattle.gms_table.specs.Shown.{seen, seen_all, AreSpaced, AreHeadings};
@@ -18,18 +19,15 @@ use gms_labels::{Labels, Place};
 use gq_field::ExactField;
 use std::alloc::{AllocError, Global};
 
-/// How many bytes a line of a table may have.
-pub const LONGEST_LINE: usize = 32_768;
-
 /// The first line of a table with words: its words, and the lines behind it.
 fn first_line(
     alloc: Global,
     lines: &[TableLine],
 ) -> Result<Option<(Vec<Word<'_>>, &[TableLine])>, AllocError>
-    requires { All (λ line. string_len line.text ≤ LONGEST_LINE) lines.now }
+    requires { All (λ line. string_len line.text ≤ longest_line) lines.now }
     ensures none { IfOk result (λ found. IfNone found (parts_of lines.now ≡ [])) }
     ensures some { IfOk result (λ found. IfSome found (λ found. IsFirstLine (lines_of lines.now) (seen_all found.0.items) (lines_of found.1.now))) }
-    ensures short { IfOk result (λ found. IfSome found (λ found. All (λ line. string_len line.text ≤ LONGEST_LINE) found.1.now)) }
+    ensures short { IfOk result (λ found. IfSome found (λ found. All (λ line. string_len line.text ≤ longest_line) found.1.now)) }
 {
     let mut rest = lines;
     while let Some((line, others)) = rest.split_first() {
@@ -123,7 +121,7 @@ fn read_line<F: ExactField>(
     headings: &mut Vec<Heading>,
     line: &TableLine,
 ) -> Result<(), TableFaultOrMemory>
-    requires { string_len line.now.text ≤ LONGEST_LINE }
+    requires { string_len line.now.text ≤ longest_line }
     ensures line { (labels : List (List ℕ)) (before : List Part) (begun : List seen_words.Word) (all rest : List (List seen_words.Word)) →
         LinesSoFar F.limit F.value labels before begun all (words_in line.now ∷ rest) table.old entries.old headings.old.items →
         MatchResult result
@@ -150,7 +148,7 @@ fn read_rows<F: ExactField>(
     mut headings: Vec<Heading>,
     lines: &[TableLine],
 ) -> Result<(), TableFaultOrMemory>
-    requires { All (λ line. string_len line.text ≤ LONGEST_LINE) lines.now }
+    requires { All (λ line. string_len line.text ≤ longest_line) lines.now }
     ensures rows { (labels : List (List ℕ)) (before : List Part) (names : List seen_words.Word) →
         Keeps F.limit F.value labels before table.old entries.old → AreHeadings table.old names headings.items → AreSpaced names →
         MatchResult result
@@ -182,7 +180,7 @@ pub fn table<F: ExactField>(
     lines: &[TableLine],
     labels: &mut Labels,
 ) -> Result<Vec<Entry<F>>, TableFaultOrMemory>
-    requires { All (λ line. string_len line.text ≤ LONGEST_LINE) lines.now }
+    requires { All (λ line. string_len line.text ≤ longest_line) lines.now }
     ensures table { MatchResult result
         (λ entries. IsTable F.limit F.value lines.now labels.old labels.new entries.items)
         (λ error. IsRefusal F.limit lines.now labels.old error) }

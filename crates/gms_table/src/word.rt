@@ -1,11 +1,13 @@
 //! The words of a line of a table, and the columns that they take.
 ghost use Rattle.std.specs.Prelude.{◌≡◌, ◌≤◌, ◌<◌, ◌+◌, ◌*◌, ◌^◌, ◌++◌, length, fold, IfOk, OnOk};
-ghost use Rattle.gms_table.specs.Words.{column_after, word_of, words_of};
+ghost use Rattle.gms_lines.specs.LineFaults.{longest_line};
+ghost use Rattle.gms_lexemes.specs.Columns.{column_after};
+ghost use Rattle.gms_table.specs.Words.{word_of, words_of};
 ghost use Rattle.gms_table.specs.Shown.{seen, seen_all, AreSpaced};
 
 use crate::fault::{TableError, TableFault, TableFaultOrMemory};
-use crate::stretch::{Separator, stretch_length};
 use gms_labels::Place;
+use gms_lexemes::{Separator, column_after, stretch_length};
 use std::alloc::{AllocError, Global};
 
 /// A word of a line.
@@ -25,18 +27,6 @@ impl Word<'_> {
         ensures { result ≡ TableFaultOrMemory.Fault (record { error = error; at = self.entry.at }) }
     {
         TableFaultOrMemory::Fault(TableFault { error, at: self.at })
-    }
-}
-
-/// The column behind a byte; a tab goes to the next column that is one more than a multiple of 8.
-fn column_after(column: u32, byte: u8) -> u32
-    requires { column + 8 < 2 ^ 32 }
-    ensures { result ≡ column_after column byte }
-{
-    if byte == b'\t' {
-        (column + 7) / 8 * 8 + 1
-    } else {
-        column + 1
     }
 }
 
@@ -70,7 +60,7 @@ fn push_word<'a>(
 
 /// The words of a line, in order, each with its columns; no two of them meet.
 pub(crate) fn words_of(alloc: Global, number: u32, line: &[u8]) -> Result<Vec<Word<'_>>, AllocError>
-    requires { length line.now ≤ 32768 }
+    requires { length line.now ≤ longest_line }
     ensures words { IfOk result (λ words. seen_all words.items ≡ words_of number line.now) }
     ensures spaced { IfOk result (λ words. AreSpaced (seen_all words.items)) }
 {

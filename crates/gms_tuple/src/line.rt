@@ -14,10 +14,16 @@ const MOST_BEHIND: usize = 64;
 
 /// Tuples in a list. A tuple is reached, put in and taken out by its place, in as many steps as the logarithm of their number. One that
 /// is put in behind all others is put there without a search, and with `MOST_BEHIND` others at a time into the tree.
-#[derive(Drop)]
 pub struct Line {
     tree: Tree,
     behind: Vec<Tuple>,
+}
+
+// Written out, so that it is proved here alone, and not in each crate that lets one go.
+impl Drop for Line {
+    fn drop(self) {
+        let Self { tree: _, behind: _ } = self;
+    }
 }
 
 impl Model for Line {

@@ -14,9 +14,15 @@ use std::marker::Model;
 ///
 /// A member is found, put in and taken out, by its labels or by its place, in as many steps as the logarithm of their
 /// number; one that comes behind all others is put in without a search.
-#[derive(Drop)]
 pub struct TupleSet {
     line: Line,
+}
+
+// Written out, so that it is proved here alone, and not in each crate that lets one go.
+impl Drop for TupleSet {
+    fn drop(self) {
+        let Self { line: _ } = self;
+    }
 }
 
 impl Model for TupleSet {

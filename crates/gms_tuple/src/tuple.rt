@@ -15,9 +15,15 @@ pub const MOST_LABELS: usize = 10;
 ///
 /// Tuples are ordered label by label, and a proper prefix comes before the longer tuple. In
 /// `parameter c(i,j) /seattle.chicago 1.7/` the element is a tuple of two labels.
-#[derive(Drop)]
 pub struct Tuple {
     labels: SmallVec<u32, 4>,
+}
+
+// Written out, so that it is proved here alone, and not in each crate that lets one go.
+impl Drop for Tuple {
+    fn drop(self) {
+        let Self { labels: _ } = self;
+    }
 }
 
 impl Model for Tuple {

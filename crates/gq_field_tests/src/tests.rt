@@ -103,36 +103,33 @@ fn values(alloc: Global) -> Result<Vec<Pair>, AllocError> {
     Ok(values)
 }
 
-/// Compares the answers of the calls on two values with those of the rules.
-fn check(rt: &impl Abort, x: &Pair, y: &Pair) {
-    let (a, b, c, d) = (x.0, x.1, y.0, y.1);
-    let minus = (c.wrapping_neg(), d, y.2.neg());
-    assert_eq!(rt; answer(x.2.add(y.2)), summed(x, y), "{a}/{b} + {c}/{d}");
-    assert_eq!(rt;
-        answer(x.2.sub(y.2)),
-        summed(x, &minus),
-        "{a}/{b} - {c}/{d}"
-    );
-    assert_eq!(rt;
-        answer(x.2.mul(y.2)),
-        reduced(a.wrapping_mul(c), b.wrapping_mul(d)),
-        "{a}/{b} * {c}/{d}"
-    );
-    let order = a.wrapping_mul(d).cmp(&c.wrapping_mul(b));
-    assert_eq!(rt; x.2.cmp_value(y.2), order, "{a}/{b} and {c}/{d}");
-    if !y.2.is_zero() {
-        let top = a.wrapping_mul(d).wrapping_mul(c.signum());
-        assert_eq!(rt;
-            answer(x.2.div(y.2)),
-            reduced(top, b.wrapping_mul(c.wrapping_abs())),
-            "{a}/{b} / ({c}/{d})"
-        );
-    }
+/// Whether the sum and the difference of two values are those of the rules.
+fn sums_are_due(x: &Pair, y: &Pair) -> bool {
+    let minus = (y.0.wrapping_neg(), y.1, y.2.neg());
+    answer(x.2.add(y.2)) == summed(x, y) && answer(x.2.sub(y.2)) == summed(x, &minus)
 }
 
+/// Whether the product and the order of two values are those of the rules.
+fn products_are_due(x: &Pair, y: &Pair) -> bool {
+    let (a, b, c, d) = (x.0, x.1, y.0, y.1);
+    let product = reduced(a.wrapping_mul(c), b.wrapping_mul(d));
+    let order = a.wrapping_mul(d).cmp(&c.wrapping_mul(b));
+    answer(x.2.mul(y.2)) == product && x.2.cmp_value(y.2) == order
+}
+
+/// Whether the quotient of two values is that of the rules, where the second is not 0.
+fn quotient_is_due(x: &Pair, y: &Pair) -> bool {
+    let (a, b, c, d) = (x.0, x.1, y.0, y.1);
+    let top = a.wrapping_mul(d).wrapping_mul(c.signum());
+    let below = b.wrapping_mul(c.wrapping_abs());
+    y.2.is_zero() || answer(x.2.div(y.2)) == reduced(top, below)
+}
+
+/// Compares the answers of the calls on a value and each of these with those of the rules.
 fn check_row(rt: &impl Abort, x: &Pair, values: &[Pair]) {
     for y in values {
-        check(rt, x, y);
+        let are_due = sums_are_due(x, y) && products_are_due(x, y) && quotient_is_due(x, y);
+        assert!(rt; are_due, "{}/{} and {}/{}", x.0, x.1, y.0, y.1);
     }
 }
 
@@ -146,51 +143,74 @@ fn tiny_answers_by_the_rules(rt: HostRuntime) -> Result<(), Fail> {
     Ok(())
 }
 
-/// Each call once, on numbers that fit every field.
-fn each_call<F: ExactField>(rt: &impl Abort) -> Result<(), Limit> {
+/// Whether each call of a sign or an order answers as it is due, on numbers that fit every field.
+fn signs_are_due<F: ExactField>(half: F, seven: F) -> bool {
+    half.parts() == (-1, 2)
+        && half.neg().parts() == (1, 2)
+        && (half.sign(), F::zero().sign(), seven.sign()) == (-1, 0, 1)
+        && F::zero().is_zero()
+        && !F::one().is_zero()
+        && half.cmp_value(seven) == Ordering::Less
+}
+
+/// Whether each call of arithmetic answers as it is due, on numbers that fit every field.
+fn steps_are_due<F: ExactField>(half: F, seven: F) -> Result<bool, Limit> {
+    let sum = half.add(F::one())?;
+    let difference = half.sub(seven)?;
+    let product = half.mul(seven)?;
+    let is_due = sum.parts() == (1, 2)
+        && difference.parts() == (-15, 2)
+        && product.parts() == (-7, 2);
+    if seven.is_zero() {
+        return Ok(false);
+    }
+    let quotient = half.div(seven)?;
+    Ok(is_due && quotient.parts() == (-1, 14))
+}
+
+/// Whether each call that rounds answers as it is due of -7/2.
+fn wholes_are_due<F: ExactField>(fraction: F) -> bool {
+    fraction.trunc().parts() == (-3, 1)
+        && fraction.floor().parts() == (-4, 1)
+        && fraction.ceil().parts() == (-3, 1)
+        && fraction.round_whole().parts() == (-4, 1)
+}
+
+/// Whether each call answers as it is due, on numbers that fit every field.
+fn calls_are_due<F: ExactField>() -> Result<bool, Limit> {
     let half = F::from_parts(-3, 6)?;
     let seven = F::from_int(7);
-    assert_eq!(rt; half.parts(), (-1, 2));
-    assert_eq!(rt; half.neg().parts(), (1, 2));
-    assert_eq!(rt; (half.sign(), F::zero().sign(), seven.sign()), (-1, 0, 1));
-    assert!(rt; F::zero().is_zero() && !F::one().is_zero());
-    assert_eq!(rt; half.cmp_value(seven), Ordering::Less);
-    assert_eq!(rt; half.add(F::one())?.parts(), (1, 2));
-    assert_eq!(rt; half.sub(seven)?.parts(), (-15, 2));
-    assert_eq!(rt; half.mul(seven)?.parts(), (-7, 2));
-    if !seven.is_zero() {
-        assert_eq!(rt; half.div(seven)?.parts(), (-1, 14));
-    }
     let fraction = half.mul(seven)?;
-    assert_eq!(rt; fraction.trunc().parts(), (-3, 1));
-    assert_eq!(rt; fraction.floor().parts(), (-4, 1));
-    assert_eq!(rt; fraction.ceil().parts(), (-3, 1));
-    assert_eq!(rt; fraction.round_whole().parts(), (-4, 1));
-    Ok(())
+    let steps = steps_are_due(half, seven)?;
+    Ok(steps && signs_are_due(half, seven) && wholes_are_due(fraction))
 }
 
 #[test]
-fn half_and_tiny_answer_each_call(rt: HostRuntime) -> Result<(), Fail> {
-    assert_eq!(rt; (Half::limit(), Tiny::limit()), (9223372036854775807, 127));
-    each_call::<Half>(&rt)?;
-    each_call::<Tiny>(&rt)?;
-    Ok(())
+fn half_and_tiny_answer_each_call(rt: HostRuntime) {
+    assert!(rt; Half::limit() == 9223372036854775807 && Tiny::limit() == 127);
+    assert!(rt; calls_are_due::<Half>() == Ok(true));
+    assert!(rt; calls_are_due::<Tiny>() == Ok(true));
 }
 
-#[test]
-fn half_ends_at_its_limit(rt: HostRuntime) -> Result<(), Fail> {
+/// Whether products next to the limit of `Half` answer as they are due.
+fn products_end_at_the_limit() -> Result<bool, Limit> {
     let large = Half::from_parts(9223372036854775807, 2)?;
-    assert_eq!(rt;
-        large.mul(Half::from_parts(2, 9223372036854775807)?)?,
-        Half::one()
-    );
-    assert_eq!(rt; large.mul(Half::from_parts(4, 1)?), Err(Limit));
-    assert_eq!(rt;
-        large.add(large),
-        Err(Limit),
-        "the sum of the numerators is too large, though its half is not"
-    );
-    let sum = Half::from_parts(4000000000, 3)?.add(Half::from_parts(1, 2000000000)?)?;
-    assert_eq!(rt; sum.parts(), (8000000000000000003, 6000000000));
-    Ok(())
+    let small = Half::from_parts(2, 9223372036854775807)?;
+    let four = Half::from_int(4);
+    Ok(large.mul(small) == Ok(Half::one()) && large.mul(four) == Err(Limit))
+}
+
+/// Whether sums next to the limit of `Half` answer as they are due: one whose numerators have too large a sum is refused, though its
+/// half would fit.
+fn sums_end_at_the_limit() -> Result<bool, Limit> {
+    let large = Half::from_parts(9223372036854775807, 2)?;
+    let third = Half::from_parts(4000000000, 3)?;
+    let sum = third.add(Half::from_parts(1, 2000000000)?)?;
+    Ok(large.add(large) == Err(Limit) && sum.parts() == (8000000000000000003, 6000000000))
+}
+
+#[test]
+fn half_ends_at_its_limit(rt: HostRuntime) {
+    assert!(rt; products_end_at_the_limit() == Ok(true));
+    assert!(rt; sums_end_at_the_limit() == Ok(true));
 }

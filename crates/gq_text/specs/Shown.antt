@@ -4,6 +4,10 @@ use Rattle.gq_number.specs.Number.{Number, whole, ◌*ℚ◌, ◌/ℚ◌, rounde
 use Rattle.gq_text.specs.Numeral.{AreDigits, spelled, IsNumeral, WithSign}
 use Rattle.gq_text.specs.Decimal.{MeansNumber, MeansSigned}
 
+-- how many decimals a number may be rounded to
+abbrev pub most_decimals : ℕ
+most_decimals = 8
+
 -- a point and the decimals behind it, or nothing where there are none
 abbrev pub with_point : List ℕ → List ℕ
 with_point [] = []

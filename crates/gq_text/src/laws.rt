@@ -4,7 +4,9 @@ ghost use Rattle.gq_number.specs.Number.{Number, whole, ratio, ◌-ℚ◌};
 ghost use Rattle.gq_number.specs.Order.{◌≤ℚ◌, ◌<ℚ◌, abs_ℚ};
 ghost use Rattle.gq_text.specs.Numeral.{IsNumeral};
 ghost use Rattle.gq_text.specs.Decimal.{MeansNumber, MeansSigned, scaled};
-ghost use Rattle.gq_text.specs.Shown.{IsFixedSigned, IsRoundedText, IsExactText, MeansQuotient};
+ghost use Rattle.gq_text.specs.Shown.{most_decimals, IsFixedSigned, IsRoundedText, IsExactText, MeansQuotient};
+
+use crate::show::MOST_DECIMALS;
 
 /// A text means one number at most, with a sign and as a quotient too. A number other than 0 is m times ten to the power e,
 /// with an m that does not end in 0, in one way, so the literal rule looks at the number and not at its text.
@@ -37,4 +39,9 @@ pub fn showing_laws()
     ensures rounded_only { (decimals : ℕ) (x y : Number) (n : ℤ) (text : List ℕ) →
         IsFixedSigned decimals n text → MeansSigned text y →
         abs_ℚ (x -ℚ y) <ℚ ratio (pos 1) (2 * 10 ^ decimals) → IsRoundedText decimals x text }
+{}
+
+/// A number is rounded to at most 8 decimals, which callers name `MOST_DECIMALS` (GAMS User's Guide, "The Display Statement").
+pub fn limit_laws()
+    ensures { MOST_DECIMALS ≡ most_decimals }
 {}

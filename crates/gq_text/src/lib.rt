@@ -14,6 +14,6 @@ mod show;
 pub use digits::Digits;
 pub use exact::{read_exact, read_whole};
 pub use fault::NumberFault;
-pub use laws::{reading_laws, showing_laws};
+pub use laws::{limit_laws, reading_laws, showing_laws};
 pub use read::read_decimal;
 pub use show::{MOST_DECIMALS, put_exact, put_rounded, put_whole};

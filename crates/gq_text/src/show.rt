@@ -1,6 +1,6 @@
 //! How numbers are shown: rounded to so many decimals, or exactly.
 ghost use Rattle.std.specs.Prelude.{◌≡◌, ◌≤◌, decimal};
-ghost use Rattle.gq_text.specs.Shown.{IsRoundedText, IsExactText};
+ghost use Rattle.gq_text.specs.Shown.{most_decimals, IsRoundedText, IsExactText};
 ghost use Rattle.gq_text.specs.ExactText.{exact_text};
 
 use crate::digits::Digits;
@@ -15,7 +15,7 @@ pub const MOST_DECIMALS: u8 = 8;
 /// The text is the whole part without needless zeros, a point and exactly so many decimals; with none there is no point.
 /// `-` stands before the text of a number below 0 where some digit is not 0 (GAMS User's Guide, "The Display Statement").
 pub fn put_rounded<F: ExactField>(v: F, decimals: u8, into: &mut Digits)
-    requires { decimals ≤ MOST_DECIMALS }
+    requires { decimals ≤ most_decimals }
     ensures { IsRoundedText decimals (F.value v) into.new }
 {
     let (numerator, denominator) = v.parts();

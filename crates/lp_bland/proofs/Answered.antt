@@ -1,63 +1,59 @@
--- What is an answer as well: under the rule Legal, under another limit of pivots, and over the numbers that values mean.
-use Rattle.std.proofs.Common.{◌≡◌, ◌⊎◌, ◌≤◌, ◌<◌, ℕ, ◌+◌, inl, inr, List, [], ◌∷◌, map, length, Option, Some, None, refl, sym, ap, ap₂, ◌∙◌, subst, arith}
+-- What is an answer as well: under another limit of pivots, and over the numbers that values mean.
+use Rattle.std.proofs.Common.{◌≡◌, ℕ, ◌≤◌, inl, inr, List, [], ◌∷◌, map, length, Option, None, refl, sym, ap, ap₂, ◌∙◌, subst, arith}
 use Rattle.std.proofs.lemmas.List.{map-id}
 use Rattle.gq_number.specs.Number.{Number}
 use Rattle.lp_core.specs.declared.answer.Answer.{Answer}
 use Rattle.lp_core.specs.declared.answer.End.{End}
 use Rattle.lp_core.specs.declared.answer.End.TheVariants.{Optimal, Infeasible, Unbounded, Interrupted, Refused}
+use Rattle.lp_core.specs.declared.answer.EndKind.{EndKind}
+use Rattle.lp_core.specs.declared.answer.EndKind.TheVariants as kind
+use Rattle.lp_core.specs.declared.answer.Pivot.{Pivot}
 use Rattle.lp_core.specs.declared.answer.Rule.{Rule}
-use Rattle.lp_core.specs.declared.answer.Rule.TheVariants.{Bland, Legal}
 use Rattle.lp_core.specs.declared.answer.StepName.{StepName}
 use Rattle.lp_core.specs.declared.program.Column.{Column}
 use Rattle.lp_core.specs.declared.program.Row.{Row}
 use Rattle.lp_core.specs.declared.program.Lp.{Lp}
-use Rattle.lp_core.specs.Answers.{AnswersCrossed, AnswersStopped, EndsSo, IsAllowed, IsAnswer, IsChosen, Leads, last_of, last_along}
-use Rattle.lp_core.specs.Dictionary.{Dictionary, Improves, IsLegal, first_dictionary}
-use Rattle.lp_core.specs.Numbers.{answer_numbers, column_numbers, end_numbers, entries_numbers, lp_numbers, row_numbers}
-use Rattle.lp_core.specs.StandardForm.{Standard, standard_form}
+use Rattle.lp_core.specs.Proofs.{FirstCrossed}
+use Rattle.lp_core.specs.Pivots.{IsChosen, ByRule, LeadsWithin}
+use Rattle.lp_core.specs.Ends.{IsGoingOnBy, EndsAt, EndsWith, EndsSoBy}
+use Rattle.lp_core.specs.Answers.{IsAnswer}
+use Rattle.lp_core.specs.Dictionary.{Dictionary, Improves, first_dictionary}
+use Rattle.lp_core.specs.Numbers.{answer_numbers, column_numbers, end_numbers, lp_numbers, row_numbers}
+use Rattle.lp_core.specs.StandardForm.{Last, Standard, standard_form}
 use Rattle.lp_core.specs.Steps.{AllFit, FirstStop}
 use Rattle.lp_core.specs.WellFormed.{IsWellFormed}
+use Rattle.lp_std.specs.Last.{IsDictionaryOf}
+use Rattle.lp_std.proofs.Ends.{proved_at}
 use Rattle.lp_nocycle.proofs.SameForm.{bound_same, form_same, itself}
-use Rattle.lp_walk.proofs.Rules.{ends_by, leads_legal}
-use Rattle.lp_bland.specs.Ends.{IsRefused}
+use Rattle.lp_walk.proofs.Rules.{improves_of, legal_of}
+use Rattle.lp_walk.proofs.Standing.{first_stands, stands_last}
 use Rattle.lp_bland.proofs.Programs.{none_cross, well_formed_same}
-use Rattle.lp_bland.proofs.SameSteps.{infeasible_steps_same, interrupted_steps_same, optimal_steps_same, standard_steps_same, unbounded_steps_same}
-use Rattle.lp_bland.proofs.Widened.{widened}
+use Rattle.lp_bland.proofs.SameSteps.{standard_steps_same, steps_back_same}
+use Rattle.lp_bland.proofs.Widened.{told_same, read_of, crossed_so}
 
 module _ {F : Type 0} (value : F → Number) (limit : ℕ) (lp : Lp F) (iterlim : ℕ) where
-  crossed_legal : (end : End F) → AnswersCrossed value limit lp iterlim Bland end → AnswersCrossed value limit lp iterlim Legal end
-  crossed_legal (Infeasible duals (Some j)) h = h
-  crossed_legal (Infeasible duals None) h = h
-  crossed_legal (Optimal levels row_levels duals reduced) h = h
-  crossed_legal (Unbounded levels row_levels ray) h = h
-  crossed_legal (Interrupted phase levels row_levels) h = h
-  crossed_legal (Refused step) h = h
-
-  stopped_legal : (end : End F) → AnswersStopped value limit lp iterlim Bland end → AnswersStopped value limit lp iterlim Legal end
-  stopped_legal (Refused step) h = h
-  stopped_legal (Infeasible duals crossed) h = h
-  stopped_legal (Optimal levels row_levels duals reduced) h = h
-  stopped_legal (Unbounded levels row_levels ray) h = h
-  stopped_legal (Interrupted phase levels row_levels) h = h
-
-  -- Bland's pivots are legal, and what it chooses improves
-  pub legal_too : (answer : Answer F) → IsAnswer value limit lp iterlim Bland answer → IsAnswer value limit lp iterlim Legal answer
-  legal_too answer (inl h) = inl (h.0, crossed_legal answer.end h.1)
-  legal_too answer (inr (inl h)) = inr (inl (h.0, h.1, stopped_legal answer.end h.2))
-  legal_too answer (inr (inr h)) =
-      let last = h.3.0 in
-      inr (inr (h.0, h.1, h.2, (last, leads_legal limit 1 (first_dictionary (standard_form value lp)) answer.pivots last h.3.1, ends_by value limit lp iterlim (length answer.pivots) last (IsAllowed Bland last) (IsLegal last) (IsChosen Bland last) (Improves last) (λ p k allowed. allowed.0) (λ q chosen. chosen.0) answer.end h.3.2)))
-
   -- an optimum does not look at the limit
+  optimum_at : (Chosen : ℕ → Type 0) (pivots other : ℕ) (d : Dictionary) (how : EndKind) (last : Last) (levels row_levels duals reduced : List F) → EndsAt Chosen ((pivots ≡ iterlim) × IsGoingOnBy Chosen d) d how last → EndsWith value limit lp how last (Optimal levels row_levels duals reduced) → EndsAt Chosen ((pivots ≡ other) × IsGoingOnBy Chosen d) d how last
+  optimum_at Chosen pivots other d kind.Optimal last levels row_levels duals reduced at told = at
+  optimum_at Chosen pivots other d kind.Infeasible last levels row_levels duals reduced at told = at
+  optimum_at Chosen pivots other d kind.Unbounded last levels row_levels duals reduced at told = at
+  optimum_at Chosen pivots other d kind.Interrupted last levels row_levels duals reduced at (inl told) = absurd told.0
+  optimum_at Chosen pivots other d kind.Interrupted last levels row_levels duals reduced at (inr refused) = absurd (let e = refused.1 in cc)
+
+  optimum_so : (Allowed : Pivot → ℕ → Type 0) (Chosen : ℕ → Type 0) (pivots other : ℕ) (d : Dictionary) (levels row_levels duals reduced : List F) → EndsSoBy value limit lp iterlim Allowed Chosen pivots d (Optimal levels row_levels duals reduced) → EndsSoBy value limit lp other Allowed Chosen pivots d (Optimal levels row_levels duals reduced)
+  optimum_so Allowed Chosen pivots other d levels row_levels duals reduced (inl (how, last, at, told)) = inl (how, last, optimum_at Chosen pivots other d how last levels row_levels duals reduced at told, told)
+  optimum_so Allowed Chosen pivots other d levels row_levels duals reduced (inr (inl h)) = absurd (let e = h.3 in cc)
+  optimum_so Allowed Chosen pivots other d levels row_levels duals reduced (inr (inr h)) = absurd (let e = h.1.1 in cc)
+
   pub optimum_within : (rule : Rule) (answer : Answer F) (levels row_levels duals reduced : List F) (other : ℕ) → answer.end ≡ Optimal levels row_levels duals reduced → length answer.pivots ≤ other → IsAnswer value limit lp iterlim rule answer → IsAnswer value limit lp other rule answer
-  optimum_within rule answer levels row_levels duals reduced other is few (inl h) =
-      absurd (subst (AnswersCrossed value limit lp iterlim rule) is h.1)
-  optimum_within rule answer levels row_levels duals reduced other is few (inr (inl h)) =
-      absurd (subst (AnswersStopped value limit lp iterlim rule) is h.2)
+  optimum_within rule answer levels row_levels duals reduced other is few (inl h) = inl h
+  optimum_within rule answer levels row_levels duals reduced other is few (inr (inl h)) = inr (inl h)
   optimum_within rule answer levels row_levels duals reduced other is few (inr (inr h)) =
       let last = h.3.0 in
       let n = length answer.pivots in
-      inr (inr (h.0, h.1, few, (last, h.3.1, subst (EndsSo value limit lp other rule n last) (sym is) (subst (EndsSo value limit lp iterlim rule n last) is h.3.2))))
+      let Allowed = ByRule rule answer.pivots last in
+      let Chosen = IsChosen rule last in
+      inr (inr (h.0, h.1, few, (last, h.3.1, subst (EndsSoBy value limit lp other Allowed Chosen n last) (sym is) (optimum_so Allowed Chosen n other last levels row_levels duals reduced (subst (EndsSoBy value limit lp iterlim Allowed Chosen n last) is h.3.2)))))
 
 -- ---- over the numbers
 
@@ -94,46 +90,37 @@ module _ {F : Type 0} (value : F → Number) (limit : ℕ) (lp : Lp F) (iterlim 
   same : lp_numbers value lp ≡ lp_numbers itself numbers
   same = sym (program_again numbers)
 
-  -- one that is no refusal
-  not_refused : (answer : Answer F) → ¬ (IsRefused answer.end) → IsAnswer value limit lp iterlim rule answer → IsAnswer itself limit numbers iterlim rule (answer_numbers value answer)
-  not_refused answer fine is =
-      widened value itself limit limit (omega arith) lp numbers same (well_formed_same value itself lp numbers same formed) iterlim rule answer (answer_numbers value answer) (ap (λ (e : End Number). record { pivots = answer.pivots; end = e }) (end_again (end_numbers value answer.end))) fine is
+  refused_too : (end : End F) (step : StepName) → end ≡ Refused step → end_numbers value end ≡ Refused step
+  refused_too end step is = ap (end_numbers value) is
 
-  -- one that is
-  refused : (answer : Answer F) (step : StepName) → answer.end ≡ Refused step → IsAnswer value limit lp iterlim rule answer → IsAnswer itself limit numbers iterlim rule (answer_numbers value answer)
-  refused answer step is (inl h) = absurd (subst (AnswersCrossed value limit lp iterlim rule) is h.1)
-  refused answer step is (inr (inl h)) =
-      inr (inl (h.0, none_cross value itself lp numbers same h.1, subst (λ e. AnswersStopped itself limit numbers iterlim rule (end_numbers value e)) (sym is) (subst (λ steps. FirstStop steps step) (sym (standard_steps_same value limit lp)) (subst (AnswersStopped value limit lp iterlim rule) is h.2))))
-  refused answer step is (inr (inr h)) =
-      let last = h.3.0 in
-      let n = length answer.pivots in
-      inr (inr (
-        none_cross value itself lp numbers same h.0,
-        subst AllFit (sym (standard_steps_same value limit lp)) h.1,
-        h.2,
-        (
-          last,
-          subst (λ (s : Standard). Leads rule limit 1 (first_dictionary s) answer.pivots last) (sym (form_same value lp)) h.3.1,
-          subst (λ e. EndsSo itself limit numbers iterlim rule n last (end_numbers value e)) (sym is) (ends n last (subst (EndsSo value limit lp iterlim rule n last) is h.3.2)),
-        ),
-      ))
-    where
-      ends : (n : ℕ) (last : Dictionary) → EndsSo value limit lp iterlim rule n last (Refused step) → EndsSo itself limit numbers iterlim rule n last (Refused step)
-      ends n last (inl h) = inl h
-      ends n last (inr (inl h)) = inr (inl (h.0, h.1, subst (λ steps. FirstStop steps step) (sym (optimal_steps_same value limit lp (last_of last))) h.2))
-      ends n last (inr (inr (inl h))) = inr (inr (inl (h.0, h.1, subst (λ steps. FirstStop steps step) (sym (infeasible_steps_same value limit lp (last_of last))) h.2)))
-      ends n last (inr (inr (inr (inl h)))) =
-          inr (inr (inr (inl (h.0, (h.1.0, h.1.1, subst (λ steps. FirstStop steps step) (sym (unbounded_steps_same value limit lp (last_along last h.1.0))) h.1.2)))))
-      ends n last (inr (inr (inr (inr h)))) =
-          inr (inr (inr (inr (h.0, h.1, h.2, subst (λ steps. FirstStop steps step) (sym (interrupted_steps_same value limit lp (last_of last))) h.3))))
+  module _ (none : FirstCrossed itself numbers.columns None) (d : Dictionary) (of_form : IsDictionaryOf (standard_form itself numbers) d) (Allowed : Pivot → ℕ → Type 0) (Chosen : ℕ → Type 0) (improves : (q : ℕ) → Chosen q → Improves d q) (pivots : ℕ) where
+    ends_over : (end : End F) → EndsSoBy value limit lp iterlim Allowed Chosen pivots d end → EndsSoBy itself limit numbers iterlim Allowed Chosen pivots d (end_numbers value end)
+    ends_over end (inl (how, last, at, inl told)) =
+        let well = well_formed_same value itself lp numbers same formed in
+        let tells = told_same value itself lp numbers same how last end (end_numbers value end) (end_again (end_numbers value end)) told.0 in
+        inl (how, last, at, inl (tells, subst AllFit (sym (steps_back_same value limit how lp last)) told.1, proved_at itself numbers well none d of_form how last (read_of value itself lp numbers same limit limit (omega arith) well iterlim none d of_form Allowed Chosen improves pivots how last at) (end_numbers value end) tells))
+    ends_over end (inl (how, last, at, inr refused)) =
+        inl (how, last, at, inr (refused.0, refused_too end refused.0 refused.1, subst (λ steps. FirstStop steps refused.0) (sym (steps_back_same value limit how lp last)) refused.2))
+    ends_over end (inr (inl h)) = inr (inl (h.0, h.1, h.2, ap (end_numbers value) h.3))
+    ends_over end (inr (inr h)) = inr (inr (h.0, (h.1.0, refused_too end h.1.0 h.1.1, h.1.2)))
 
   -- an answer over a field is one over the numbers
   pub over_numbers : (answer : Answer F) → IsAnswer value limit lp iterlim rule answer → IsAnswer itself limit numbers iterlim rule (answer_numbers value answer)
-  over_numbers answer is = by answer.end refl
-    where
-      by : (end : End F) → answer.end ≡ end → IsAnswer itself limit numbers iterlim rule (answer_numbers value answer)
-      by (Refused step) e = refused answer step e is
-      by (Optimal levels row_levels duals reduced) e = not_refused answer (λ r. subst IsRefused e r) is
-      by (Infeasible duals crossed) e = not_refused answer (λ r. subst IsRefused e r) is
-      by (Unbounded levels row_levels ray) e = not_refused answer (λ r. subst IsRefused e r) is
-      by (Interrupted phase levels row_levels) e = not_refused answer (λ r. subst IsRefused e r) is
+  over_numbers answer (inl h) =
+      inl (h.0, crossed_so value itself limit limit (omega arith) lp numbers same (well_formed_same value itself lp numbers same formed) iterlim rule answer.end (end_numbers value answer.end) (end_again (end_numbers value answer.end)) h.1)
+  over_numbers answer (inr (inl h)) =
+      inr (inl (h.0, (none_cross value itself lp numbers same h.1.0, (h.1.1.0, refused_too answer.end h.1.1.0 h.1.1.1, subst (λ steps. FirstStop steps h.1.1.0) (sym (standard_steps_same value limit lp)) h.1.1.2))))
+  over_numbers answer (inr (inr h)) =
+      let last = h.3.0 in
+      let n = length answer.pivots in
+      let none = none_cross value itself lp numbers same h.0 in
+      let well = well_formed_same value itself lp numbers same formed in
+      let start = first_dictionary (standard_form itself numbers) in
+      let moved : LeadsWithin (ByRule rule) limit 1 [] start answer.pivots last = subst (λ (s : Standard). LeadsWithin (ByRule rule) limit 1 [] (first_dictionary s) answer.pivots last) (sym (form_same value lp)) h.3.1 in
+      let stands = stands_last (standard_form itself numbers) (ByRule rule) (λ done d p k allowed. legal_of rule d p k allowed) [] start answer.pivots last (first_stands itself numbers well) moved.0 in
+      inr (inr (
+        none,
+        subst AllFit (sym (standard_steps_same value limit lp)) h.1,
+        h.2,
+        (last, moved, ends_over none last stands.of_form (ByRule rule answer.pivots last) (IsChosen rule last) (λ q chosen. improves_of rule last q chosen) n answer.end h.3.2),
+      ))

@@ -1,6 +1,6 @@
 -- What is the case at a dictionary under Bland's rule: nothing improves, or no row limits what improves, or a step of the ratio
 -- test does not fit, or a pivot is allowed.
-use Rattle.std.proofs.Common.{◌≡◌, ◌≢◌, ℕ, zero, suc, ◌+◌, ◌<◌, ◌≤◌, ◌⊎◌, inl, inr, pos, List, length, Option, Some, None, refl, sym, ap, ◌∙◌, subst, arith}
+use Rattle.std.proofs.Common.{◌≡◌, ℕ, zero, suc, ◌+◌, ◌<◌, ◌≤◌, ◌⊎◌, inl, inr, pos, length, Option, Some, None, refl, sym, ◌∙◌, subst, arith}
 use Rattle.std.specs.Prelude.{slice_get}
 use Rattle.std.proofs.lemmas.Bool.{cases_lt}
 use Rattle.gq_number.specs.Number.{Number, whole}
@@ -11,7 +11,7 @@ use Rattle.lp_core.specs.declared.answer.Rule.TheVariants.{Bland}
 use Rattle.lp_core.specs.declared.answer.StepName.{StepName}
 use Rattle.lp_core.specs.Dictionary.{Dictionary, basic_at, constant_at, entry_at, OpeningIsDue, IsPriced, Improves, Limits, ratio_at, IsLeast, IsOpening, IsBland}
 use Rattle.lp_core.specs.Steps.{AllFit, FirstStop, ratio_steps}
-use Rattle.lp_core.specs.Answers.{IsAllowed, IsChosen, NothingImproves, TestFits}
+use Rattle.lp_core.specs.Pivots.{IsAllowed, IsChosen, NothingImproves, TestFits}
 use Rattle.lp_std.specs.Pieces.{first_stop}
 use Rattle.lp_std.proofs.Stops.{all_fit, stops_first}
 use Rattle.lp_exact.specs.Pivots.{IsProper, IsLeaving}

@@ -8,15 +8,17 @@ use Rattle.gq_number.specs.Number.{Number, whole, ◌+ℚ◌, ◌-ℚ◌, ◌*�
 use Rattle.gq_number.specs.Order.{number_cmp}
 use Rattle.gq_frac.proofs.Steps.{fits_more, sum_fits_more}
 use Rattle.gq_field.specs.Fits.{sum_fits}
+use Rattle.lp_core.specs.declared.answer.EndKind.{EndKind}
+use Rattle.lp_core.specs.declared.answer.EndKind.TheVariants as kind
 use Rattle.lp_core.specs.declared.answer.StepName.TheVariants.{Standard as StandardStep, Ratio, Exchange, Recover}
 use Rattle.lp_core.specs.declared.program.Column.{Column}
 use Rattle.lp_core.specs.declared.program.Row.{Row}
 use Rattle.lp_core.specs.declared.program.Lp.{Lp}
 use Rattle.lp_core.specs.Sums.{number_of}
 use Rattle.lp_core.specs.Feasible.{bound_value}
-use Rattle.lp_core.specs.StandardForm.{Shift, from_lower, from_upper, free, base, column_at, columns_of, variables_of, count_by_sense, count_by_bounds, multiplier, Last, levels_back}
+use Rattle.lp_core.specs.StandardForm.{Shift, from_lower, from_upper, free, base, column_at, columns_of, variables_of, rows_of_sense, rows_of_bounds, multiplier, Last, levels_back}
 use Rattle.lp_core.specs.Dictionary.{Dictionary, constant_at, entry_at, divided}
-use Rattle.lp_core.specs.Steps.{Due, AllFit, product_fits, quotient_fits, difference_fits, shifting, row_steps, rows_steps, bound_step, bounds_steps, count_of_rows, standard_steps, ratio_steps, pivot_row_steps, other_row_steps, exchange_steps, level_step, row_level_steps, dual_steps, reduced_steps, ray_step, levels_steps, row_levels_steps, duals_steps, reduced_costs_steps, ray_steps, optimal_steps, infeasible_steps, unbounded_steps, interrupted_steps}
+use Rattle.lp_core.specs.Steps.{Due, AllFit, product_fits, quotient_fits, difference_fits, shifting, row_steps, rows_steps, bound_step, bounds_steps, count_of_rows, standard_steps, ratio_steps, pivot_row_steps, other_row_steps, exchange_steps, level_step, row_level_steps, dual_steps, reduced_steps, ray_step, levels_steps, row_levels_steps, duals_steps, reduced_costs_steps, ray_steps, optimal_steps, infeasible_steps, unbounded_steps, interrupted_steps, steps_back}
 use Rattle.lp_std.proofs.Sums.{All-append_left, All-append_right}
 
 -- ---- lists of steps
@@ -105,10 +107,10 @@ module _ (low high : ℕ) (less : low ≤ high) where
     rows_eased : (columns : List (ℕ × Shift)) (r : ℕ) (rows : List (Row F)) → Eases (rows_steps value low columns r rows) (rows_steps value high columns r rows)
     rows_eased columns r [] = λ fit. fit
     rows_eased columns r (row ∷ rows) =
-        eases_append (cond (count_by_sense row.sense == 0) [] (row_steps value low columns r (value row.right) row.entries)) (rows_steps value low columns (r + count_by_sense row.sense) rows)
-        (cond (count_by_sense row.sense == 0) [] (row_steps value high columns r (value row.right) row.entries)) (rows_steps value high columns (r + count_by_sense row.sense) rows)
-        (eases_unless (count_by_sense row.sense == 0) (row_steps value low columns r (value row.right) row.entries) (row_steps value high columns r (value row.right) row.entries) (row_eased columns r (value row.right) row.entries))
-        (rows_eased columns (r + count_by_sense row.sense) rows)
+        eases_append (cond (rows_of_sense row.sense == 0) [] (row_steps value low columns r (value row.right) row.entries)) (rows_steps value low columns (r + rows_of_sense row.sense) rows)
+        (cond (rows_of_sense row.sense == 0) [] (row_steps value high columns r (value row.right) row.entries)) (rows_steps value high columns (r + rows_of_sense row.sense) rows)
+        (eases_unless (rows_of_sense row.sense == 0) (row_steps value low columns r (value row.right) row.entries) (row_steps value high columns r (value row.right) row.entries) (row_eased columns r (value row.right) row.entries))
+        (rows_eased columns (r + rows_of_sense row.sense) rows)
 
     bound_eased : (r j : ℕ) (lower upper : Option Number) → Eases (bound_step low r j lower upper) (bound_step high r j lower upper)
     bound_eased r j (Some l) (Some u) = eases_one (StandardStep r (j + 1) 1, difference_fits low u l) (StandardStep r (j + 1) 1, difference_fits high u l) (sum_fits_more low high u (neg_ℚ l) less)
@@ -119,9 +121,9 @@ module _ (low high : ℕ) (less : low ≤ high) where
     bounds_eased : (r j : ℕ) (columns : List (Column F)) → Eases (bounds_steps value low r j columns) (bounds_steps value high r j columns)
     bounds_eased r j [] = λ fit. fit
     bounds_eased r j (c ∷ columns) =
-        eases_append (bound_step low r j (bound_value value c.lower) (bound_value value c.upper)) (bounds_steps value low (r + count_by_bounds c.lower c.upper) (j + 1) columns)
-        (bound_step high r j (bound_value value c.lower) (bound_value value c.upper)) (bounds_steps value high (r + count_by_bounds c.lower c.upper) (j + 1) columns)
-        (bound_eased r j (bound_value value c.lower) (bound_value value c.upper)) (bounds_eased (r + count_by_bounds c.lower c.upper) (j + 1) columns)
+        eases_append (bound_step low r j (bound_value value c.lower) (bound_value value c.upper)) (bounds_steps value low (r + rows_of_bounds c.lower c.upper) (j + 1) columns)
+        (bound_step high r j (bound_value value c.lower) (bound_value value c.upper)) (bounds_steps value high (r + rows_of_bounds c.lower c.upper) (j + 1) columns)
+        (bound_eased r j (bound_value value c.lower) (bound_value value c.upper)) (bounds_eased (r + rows_of_bounds c.lower c.upper) (j + 1) columns)
 
     pub standard_eased : (lp : Lp F) → Eases (standard_steps value low lp) (standard_steps value high lp)
     standard_eased lp =
@@ -157,11 +159,11 @@ module _ (low high : ℕ) (less : low ≤ high) where
     dual_eased : (p : ℕ → Number) (i r : ℕ) (rows : List (Row F)) → Eases (dual_steps low p i r rows) (dual_steps high p i r rows)
     dual_eased p i r [] = λ fit. fit
     dual_eased p i r (row ∷ rows) =
-        eases_append (cond (count_by_sense row.sense == 2) ((Recover 2 i 0 1, difference_fits low (p r) (p (r + 1))) ∷ []) []) (dual_steps low p (i + 1) (r + count_by_sense row.sense) rows)
-        (cond (count_by_sense row.sense == 2) ((Recover 2 i 0 1, difference_fits high (p r) (p (r + 1))) ∷ []) []) (dual_steps high p (i + 1) (r + count_by_sense row.sense) rows)
-        (eases_if (count_by_sense row.sense == 2) ((Recover 2 i 0 1, difference_fits low (p r) (p (r + 1))) ∷ []) ((Recover 2 i 0 1, difference_fits high (p r) (p (r + 1))) ∷ [])
+        eases_append (cond (rows_of_sense row.sense == 2) ((Recover 2 i 0 1, difference_fits low (p r) (p (r + 1))) ∷ []) []) (dual_steps low p (i + 1) (r + rows_of_sense row.sense) rows)
+        (cond (rows_of_sense row.sense == 2) ((Recover 2 i 0 1, difference_fits high (p r) (p (r + 1))) ∷ []) []) (dual_steps high p (i + 1) (r + rows_of_sense row.sense) rows)
+        (eases_if (rows_of_sense row.sense == 2) ((Recover 2 i 0 1, difference_fits low (p r) (p (r + 1))) ∷ []) ((Recover 2 i 0 1, difference_fits high (p r) (p (r + 1))) ∷ [])
         (eases_one (Recover 2 i 0 1, difference_fits low (p r) (p (r + 1))) (Recover 2 i 0 1, difference_fits high (p r) (p (r + 1))) (sum_fits_more low high (p r) (neg_ℚ (p (r + 1))) less)))
-        (dual_eased p (i + 1) (r + count_by_sense row.sense) rows)
+        (dual_eased p (i + 1) (r + rows_of_sense row.sense) rows)
 
     pub infeasible_eased : (lp : Lp F) (last : Last) → Eases (infeasible_steps value low lp last) (infeasible_steps value high lp last)
     infeasible_eased lp last = dual_eased (multiplier (variables_of value lp) last.costs) 0 0 lp.rows
@@ -170,11 +172,11 @@ module _ (low high : ℕ) (less : low ≤ high) where
     reduced_eased costs p j r [] columns = λ fit. fit
     reduced_eased costs p j r (s ∷ shifts) [] = λ fit. fit
     reduced_eased costs p j r (s ∷ shifts) (c ∷ columns) =
-        eases_append (cond (count_by_bounds c.lower c.upper == 1) ((Recover 3 j 0 1, sum_fits low (number_of costs s.0) (p r)) ∷ []) []) (reduced_steps low costs p (j + 1) (r + count_by_bounds c.lower c.upper) shifts columns)
-        (cond (count_by_bounds c.lower c.upper == 1) ((Recover 3 j 0 1, sum_fits high (number_of costs s.0) (p r)) ∷ []) []) (reduced_steps high costs p (j + 1) (r + count_by_bounds c.lower c.upper) shifts columns)
-        (eases_if (count_by_bounds c.lower c.upper == 1) ((Recover 3 j 0 1, sum_fits low (number_of costs s.0) (p r)) ∷ []) ((Recover 3 j 0 1, sum_fits high (number_of costs s.0) (p r)) ∷ [])
+        eases_append (cond (rows_of_bounds c.lower c.upper == 1) ((Recover 3 j 0 1, sum_fits low (number_of costs s.0) (p r)) ∷ []) []) (reduced_steps low costs p (j + 1) (r + rows_of_bounds c.lower c.upper) shifts columns)
+        (cond (rows_of_bounds c.lower c.upper == 1) ((Recover 3 j 0 1, sum_fits high (number_of costs s.0) (p r)) ∷ []) []) (reduced_steps high costs p (j + 1) (r + rows_of_bounds c.lower c.upper) shifts columns)
+        (eases_if (rows_of_bounds c.lower c.upper == 1) ((Recover 3 j 0 1, sum_fits low (number_of costs s.0) (p r)) ∷ []) ((Recover 3 j 0 1, sum_fits high (number_of costs s.0) (p r)) ∷ [])
         (eases_one (Recover 3 j 0 1, sum_fits low (number_of costs s.0) (p r)) (Recover 3 j 0 1, sum_fits high (number_of costs s.0) (p r)) (sum_fits_more low high (number_of costs s.0) (p r) less)))
-        (reduced_eased costs p (j + 1) (r + count_by_bounds c.lower c.upper) shifts columns)
+        (reduced_eased costs p (j + 1) (r + rows_of_bounds c.lower c.upper) shifts columns)
 
     reduced_costs_eased : (lp : Lp F) (last : Last) → Eases (reduced_costs_steps value low lp last) (reduced_costs_steps value high lp last)
     reduced_costs_eased lp last = reduced_eased last.costs (multiplier (variables_of value lp) last.costs) 0 (count_of_rows lp.rows) (columns_of value lp) lp.columns
@@ -202,3 +204,10 @@ module _ (low high : ℕ) (less : low ≤ high) where
         eases_append (interrupted_steps value low lp last ++ duals_steps value low lp last) (reduced_costs_steps value low lp last) (interrupted_steps value high lp last ++ duals_steps value high lp last) (reduced_costs_steps value high lp last)
         (eases_append (interrupted_steps value low lp last) (duals_steps value low lp last) (interrupted_steps value high lp last) (duals_steps value high lp last) (interrupted_eased lp last) (infeasible_eased lp last))
         (reduced_costs_eased lp last)
+
+    -- the steps of the way back of each kind of end
+    pub steps_back_eased : (how : EndKind) (lp : Lp F) (last : Last) → Eases (steps_back value low lp how last) (steps_back value high lp how last)
+    steps_back_eased kind.Optimal lp last = optimal_eased lp last
+    steps_back_eased kind.Infeasible lp last = infeasible_eased lp last
+    steps_back_eased kind.Unbounded lp last = unbounded_eased lp last
+    steps_back_eased kind.Interrupted lp last = interrupted_eased lp last

@@ -1,6 +1,6 @@
 -- That a program has an answer under Bland's rule, for each limit of pivots.
-use Rattle.std.proofs.Common.{◌≡◌, ℕ, zero, suc, ◌+◌, ◌^◌, ◌<◌, ◌≤◌, ◌⊎◌, inl, inr, true, pos, List, [], ◌∷◌, ◌++◌, length, map, replicate, Option, Some, None, refl, sym, ap, ◌∙◌, subst, subst₂, arith}
-use Rattle.std.specs.Prelude.{slice_get, slice_index_or}
+use Rattle.std.proofs.Common.{◌≡◌, ℕ, zero, suc, ◌+◌, ◌^◌, ◌<◌, ◌≤◌, ◌⊎◌, inl, inr, true, pos, List, [], ◌∷◌, ◌++◌, length, map, replicate, Option, Some, None, refl, subst, arith}
+use Rattle.std.specs.Prelude.{slice_index_or}
 use Rattle.std.specs.List.{All, AllWithin}
 use Rattle.std.proofs.lemmas.List.Elements.{All-nil, All-cons, All-replicate}
 use Rattle.gq_number.specs.Number.{Number, whole}
@@ -14,27 +14,24 @@ use Rattle.lp_core.specs.declared.answer.Rule.TheVariants.{Bland}
 use Rattle.lp_core.specs.declared.answer.StepName.{StepName}
 use Rattle.lp_core.specs.declared.program.Column.{Column}
 use Rattle.lp_core.specs.declared.program.Lp.{Lp}
-use Rattle.lp_core.specs.Feasible.{Feasible}
 use Rattle.lp_core.specs.WellFormed.{IsWellFormed}
-use Rattle.lp_core.specs.Proofs.{Crosses, row_sums, ProvesOptimal, ProvesInfeasible, ProvesCrossed, ProvesUnbounded}
+use Rattle.lp_core.specs.Proofs.{Crosses, FirstCrossed, row_sums}
 use Rattle.lp_core.specs.StandardForm.{standard_form, levels_back, duals_back, reduced_back, farkas_back, ray_back}
 use Rattle.lp_core.specs.Dictionary.{Dictionary, InPhaseOne, OpeningIsDue, Improves, Limits, first_dictionary, exchanged}
-use Rattle.lp_core.specs.Steps.{Due, AllFit, FirstStop, standard_steps, exchange_steps, ratio_steps, levels_steps, row_levels_steps, duals_steps, reduced_costs_steps, ray_steps, optimal_steps, infeasible_steps, unbounded_steps, interrupted_steps}
-use Rattle.lp_core.specs.Answers.{IsAllowed, IsChosen, NothingImproves, TestFits, IsUnlimitedBy, IsGoingOnBy, IsPhase, Leads, EndsSo, EndsSoBy, NoneCrosses, IsAnswer, last_of, last_along}
-use Rattle.lp_core.specs.Choices.{IsAllowedBy}
-use Rattle.lp_std.specs.declared.types.FinalKind.TheVariants as kind
-use Rattle.lp_std.specs.Meaning.{FirstCrossed}
+use Rattle.lp_core.specs.Steps.{Due, AllFit, standard_steps, exchange_steps, levels_steps, row_levels_steps, duals_steps, reduced_costs_steps, ray_steps, optimal_steps, infeasible_steps, unbounded_steps, interrupted_steps}
+use Rattle.lp_core.specs.Pivots.{IsAllowed, IsChosen, NothingImproves, TestFits, ByRule, LeadsWithin, last_of, last_along}
+use Rattle.lp_core.specs.Ends.{IsUnlimitedBy, IsGoingOnBy, IsPhase, LeadsTo, EndsWith, EndsSoBy}
+use Rattle.lp_core.specs.Answers.{IsAnswer}
+use Rattle.lp_core.specs.declared.answer.EndKind.TheVariants as kind
 use Rattle.lp_std.specs.Pieces.{first_stop}
-use Rattle.lp_std.proofs.Ends.{optimal_proved, infeasible_proved, unbounded_proved, point_feasible}
+use Rattle.lp_std.proofs.Ends.{proved_at}
 use Rattle.lp_std.proofs.Stops.{all_fit, stops_first}
 use Rattle.lp_std.proofs.Sums.{All-append_left, All-append_right}
 use Rattle.lp_exact.proofs.Improving.{found_or_not}
 use Rattle.lp_exact.proofs.Kept.{contains_get}
-use Rattle.lp_walk.specs.Ends.{EndsWith, IsLedBack, IsBrokenOff}
-use Rattle.lp_walk.proofs.Ending.{unlimited_legal, ended_so, broken_off_so}
-use Rattle.lp_walk.proofs.Rules.{bland_of, taken_of, ends_by}
+use Rattle.lp_walk.proofs.Rules.{taken_of}
 use Rattle.lp_walk.proofs.Standing.{Stands, first_stands, stands_after}
-use Rattle.lp_walk.proofs.Walking.{some_limits, limits_in_one, goes_on_by_pivot, ratio_stops}
+use Rattle.lp_walk.proofs.Walking.{some_limits, limits_in_one, goes_on_by_pivot}
 use Rattle.lp_bland.proofs.Deciding.{Case, nothing_improves, none_limits, test_stops, pivot_is_due, due_or_not, case_at}
 use Rattle.lp_bland.proofs.Fitting.{Fitting, all_meant}
 use Rattle.lp_bland.proofs.FittingForm.{HasFitting, form_within}
@@ -55,7 +52,7 @@ phase_at d =
       ]
     ]
 
-module _ {F : Type 0} (value : F → Number) (limit : ℕ) (some : 1 ≤ limit) (small : limit < 2 ^ 127) (within : (x : F) → Fitting limit (value x)) (each : (x : Number) → Fitting limit x → (y : F) × (value y ≡ x)) (lp : Lp F) (formed : IsWellFormed value lp) (iterlim : ℕ) (ordered : NoneCrosses value limit lp iterlim Bland) where
+module _ {F : Type 0} (value : F → Number) (limit : ℕ) (some : 1 ≤ limit) (small : limit < 2 ^ 127) (within : (x : F) → Fitting limit (value x)) (each : (x : Number) → Fitting limit x → (y : F) × (value y ≡ x)) (lp : Lp F) (formed : IsWellFormed value lp) (iterlim : ℕ) (ordered : FirstCrossed value lp.columns None) where
   meant : (xs : List Number) → All (Fitting limit) xs → (ys : List F) × (map value ys ≡ xs)
   meant xs h = all_meant value limit each xs h
 
@@ -83,22 +80,18 @@ module _ {F : Type 0} (value : F → Number) (limit : ℕ) (some : 1 ≤ limit) 
         let sums = sums_meant (All-append_right Fit first second point) in
         let ys = meant (duals_back value lp (last_of d)) (duals_back_within value limit some small within lp (last_of d) costs (All-append_right Fit (first ++ second) third front)) in
         let rs = meant (reduced_back value lp (last_of d)) (reduced_back_within value limit some small within lp (last_of d) costs (All-append_right Fit (first ++ second ++ third) fourth fit)) in
-        let proof = optimal_proved value lp formed ordered d stands.of_form none.0 away none in
-        let at_levels : ProvesOptimal value lp (map value xs.0) (map value sums.0) (duals_back value lp (last_of d)) (reduced_back value lp (last_of d)) =
-        subst₂ (λ a b. ProvesOptimal value lp a b (duals_back value lp (last_of d)) (reduced_back value lp (last_of d))) (sym xs.1) (sym sums.1) proof in
-        let proved : ProvesOptimal value lp (map value xs.0) (map value sums.0) (map value ys.0) (map value rs.0) =
-        subst₂ (λ a b. ProvesOptimal value lp (map value xs.0) (map value sums.0) a b) (sym ys.1) (sym rs.1) at_levels in
-        (Optimal xs.0 sums.0 ys.0 rs.0, inl ((xs.1, sums.1, ys.1, rs.1), fit, proved))
+        let told : LeadsTo value lp kind.Optimal (last_of d) (Optimal xs.0 sums.0 ys.0 rs.0) = (xs.1, sums.1, ys.1, rs.1) in
+        (Optimal xs.0 sums.0 ys.0 rs.0, inl (told, fit, proved_at value lp formed ordered d stands.of_form kind.Optimal (last_of d) (away, none, refl) (Optimal xs.0 sums.0 ys.0 rs.0) told))
 
     infeasible_end : InPhaseOne d → NothingImproves d → (o : Option StepName) → first_stop (infeasible_steps value limit lp (last_of d)) ≡ o → (end : End F) × EndsWith value limit lp kind.Infeasible (last_of d) end
     infeasible_end phase none (Some step) stops = (Refused step, inr (step, refl, stops_first (infeasible_steps value limit lp (last_of d)) step stops))
     infeasible_end phase none None fits =
         let fit : AllFit (infeasible_steps value limit lp (last_of d)) = all_fit (infeasible_steps value limit lp (last_of d)) fits in
         let ys = meant (farkas_back value lp (last_of d)) (farkas_back_within value limit some small within lp (last_of d) (costs_within limit some d fitting) fit) in
-        let proof = infeasible_proved value lp formed ordered d stands.of_form none.0 phase none in
-        (Infeasible ys.0 None, inl ((ys.1, refl), fit, subst (ProvesInfeasible value lp) (sym ys.1) proof))
+        let told : LeadsTo value lp kind.Infeasible (last_of d) (Infeasible ys.0 None) = (ys.1, refl) in
+        (Infeasible ys.0 None, inl (told, fit, proved_at value lp formed ordered d stands.of_form kind.Infeasible (last_of d) (phase, none, refl) (Infeasible ys.0 None) told))
 
-    unbounded_end : (q : ℕ) → ¬ (InPhaseOne d) → IsUnlimitedBy (IsChosen Bland d) d q → (o : Option StepName) → first_stop (unbounded_steps value limit lp (last_along d q)) ≡ o → (end : End F) × EndsWith value limit lp kind.Unbounded (last_along d q) end
+    unbounded_end : (q : ℕ) → ¬ (InPhaseOne d) → IsUnlimitedBy (Improves d) d q → (o : Option StepName) → first_stop (unbounded_steps value limit lp (last_along d q)) ≡ o → (end : End F) × EndsWith value limit lp kind.Unbounded (last_along d q) end
     unbounded_end q away along (Some step) stops = (Refused step, inr (step, refl, stops_first (unbounded_steps value limit lp (last_along d q)) step stops))
     unbounded_end q away along None fits =
         let first : List Due = levels_steps value limit lp (last_along d q) in
@@ -108,35 +101,26 @@ module _ {F : Type 0} (value : F → Number) (limit : ℕ) (some : 1 ≤ limit) 
         let point : AllFit (first ++ second) = All-append_left Fit (first ++ second) third fit in
         let xs = levels_meant (All-append_left Fit first second point) in
         let sums = sums_meant (All-append_right Fit first second point) in
-        let rs = meant (ray_back value lp (last_along d q)) (ray_back_within value limit some small within lp (last_along d q) (changes_within limit some d fitting q along.1.0.there) (All-append_right Fit (first ++ second) third fit)) in
-        let proof = unbounded_proved value lp formed ordered d stands.of_form along.0 away q (unlimited_legal (IsChosen Bland d) d (λ v chosen. chosen.0) q along) in
-        let at_levels : ProvesUnbounded value lp (map value xs.0) (map value sums.0) (ray_back value lp (last_along d q)) =
-        subst₂ (λ a b. ProvesUnbounded value lp a b (ray_back value lp (last_along d q))) (sym xs.1) (sym sums.1) proof in
-        (Unbounded xs.0 sums.0 rs.0, inl ((xs.1, sums.1, rs.1), fit, subst (λ a. ProvesUnbounded value lp (map value xs.0) (map value sums.0) a) (sym rs.1) at_levels))
+        let rs = meant (ray_back value lp (last_along d q)) (ray_back_within value limit some small within lp (last_along d q) (changes_within limit some d fitting q along.1.there) (All-append_right Fit (first ++ second) third fit)) in
+        let told : LeadsTo value lp kind.Unbounded (last_along d q) (Unbounded xs.0 sums.0 rs.0) = (xs.1, sums.1, rs.1) in
+        (Unbounded xs.0 sums.0 rs.0, inl (told, fit, proved_at value lp formed ordered d stands.of_form kind.Unbounded (last_along d q) (away, (q, along, refl)) (Unbounded xs.0 sums.0 rs.0) told))
 
-    interrupted_end : ¬ (OpeningIsDue d) → ¬ (InPhaseOne d) → (o : Option StepName) → first_stop (interrupted_steps value limit lp (last_of d)) ≡ o → (end : End F) × EndsWith value limit lp kind.Interrupted (last_of d) end
-    interrupted_end none away (Some step) stops = (Refused step, inr (step, refl, stops_first (interrupted_steps value limit lp (last_of d)) step stops))
-    interrupted_end none away None fits =
+    interrupted_end : ¬ (OpeningIsDue d) → ¬ (InPhaseOne d) → ((q : ℕ) × Improves d q) → (o : Option StepName) → first_stop (interrupted_steps value limit lp (last_of d)) ≡ o → (end : End F) × EndsWith value limit lp kind.Interrupted (last_of d) end
+    interrupted_end none away more (Some step) stops = (Refused step, inr (step, refl, stops_first (interrupted_steps value limit lp (last_of d)) step stops))
+    interrupted_end none away more None fits =
         let first : List Due = levels_steps value limit lp (last_of d) in
         let second : List Due = row_levels_steps value limit lp (last_of d) in
         let fit : AllFit (first ++ second) = all_fit (interrupted_steps value limit lp (last_of d)) fits in
         let xs = levels_meant (All-append_left Fit first second fit) in
         let sums = sums_meant (All-append_right Fit first second fit) in
-        let proof = point_feasible value lp formed ordered d stands.of_form none away in
-        (Interrupted 2 xs.0 sums.0, inl ((refl, xs.1, sums.1), fit, subst (Feasible value lp) (sym xs.1) proof))
+        let told : LeadsTo value lp kind.Interrupted (last_of d) (Interrupted 2 xs.0 sums.0) = (refl, xs.1, sums.1) in
+        (Interrupted 2 xs.0 sums.0, inl (told, fit, proved_at value lp formed ordered d stands.of_form kind.Interrupted (last_of d) (away, none, more, refl) (Interrupted 2 xs.0 sums.0) told))
 
     -- ---- the end of the search here
 
     module _ (pivots : ℕ) where
-      abbrev By : End F → Type 0
-      By end = EndsSoBy value limit lp iterlim (IsAllowedBy (IsChosen Bland d) d) (IsChosen Bland d) pivots d end
-
       abbrev So : End F → Type 0
-      So end = EndsSo value limit lp iterlim Bland pivots d end
-
-      under_bland : (end : End F) → By end → So end
-      under_bland end h =
-          ends_by value limit lp iterlim pivots d (IsAllowedBy (IsChosen Bland d) d) (IsAllowed Bland d) (IsChosen Bland d) (IsChosen Bland d) (bland_of d) (λ q chosen. chosen) end h
+      So end = EndsSoBy value limit lp iterlim (IsAllowed Bland d) (IsChosen Bland d) pivots d end
 
       ends_nothing : NothingImproves d → (end : End F) × So end
       ends_nothing none =
@@ -144,33 +128,27 @@ module _ {F : Type 0} (value : F → Number) (limit : ℕ) (some : 1 ≤ limit) 
             | inl found ↦
                 let phase : InPhaseOne d = contains_get d.basic found.0 0 found.1 in
                 let made = infeasible_end phase none (first_stop (infeasible_steps value limit lp (last_of d))) refl in
-                let led : IsLedBack value limit lp d None made.0 = record { kind = kind.Infeasible; last = last_of d; ends_by = (phase, none, refl); read = (phase, none, refl); ray = refl; gives = made.1 } in
-                (made.0, under_bland made.0 (ended_so value limit lp iterlim (IsChosen Bland d) pivots d (λ v chosen. chosen.0) None made.0 none led))
+                (made.0, inl (kind.Infeasible, last_of d, (phase, none, refl), made.1))
             | inr away ↦
                 let made = optimal_end away none (first_stop (optimal_steps value limit lp (last_of d))) refl in
-                let led : IsLedBack value limit lp d None made.0 = record { kind = kind.Optimal; last = last_of d; ends_by = (away, none, refl); read = (away, none, refl); ray = refl; gives = made.1 } in
-                (made.0, under_bland made.0 (ended_so value limit lp iterlim (IsChosen Bland d) pivots d (λ v chosen. chosen.0) None made.0 none led))
+                (made.0, inl (kind.Optimal, last_of d, (away, none, refl), made.1))
           ]
 
       ends_unlimited : (q : ℕ) → ¬ (OpeningIsDue d) → IsChosen Bland d q → ((k : ℕ) → ¬ (Limits d q k)) → (end : End F) × So end
       ends_unlimited q none chosen free =
           let away = limits_in_one d q chosen.0 free in
-          let along : IsUnlimitedBy (IsChosen Bland d) d q = (none, chosen, free) in
-          let legal = unlimited_legal (IsChosen Bland d) d (λ v picked. picked.0) q along in
-          let made = unbounded_end q away along (first_stop (unbounded_steps value limit lp (last_along d q))) refl in
-          let led : IsLedBack value limit lp d (Some q) made.0 = record { kind = kind.Unbounded; last = last_along d q; ends_by = (away, (q, legal, refl)); read = (away, (q, legal, refl)); ray = refl; gives = made.1 } in
-          (made.0, under_bland made.0 (ended_so value limit lp iterlim (IsChosen Bland d) pivots d (λ v picked. picked.0) (Some q) made.0 (away, along) led))
+          let made = unbounded_end q away (none, chosen.0, free) (first_stop (unbounded_steps value limit lp (last_along d q))) refl in
+          (made.0, inl (kind.Unbounded, last_along d q, (away, (q, (none, chosen, free), refl)), made.1))
 
       -- where the limit of pivots is met
       ends_broken : pivots ≡ iterlim → IsGoingOnBy (IsChosen Bland d) d → (end : End F) × So end
       ends_broken most goes =
           elim (phase_at d) [
-            | inl one ↦ (Interrupted 1 [] [], under_bland (Interrupted 1 [] []) (broken_off_so value limit lp iterlim (IsChosen Bland d) pivots d (λ v chosen. chosen.0) (Interrupted 1 [] []) most goes (inl (one, refl))))
+            | inl one ↦ (Interrupted 1 [] [], inr (inl (most, one, goes, refl)))
             | inr two ↦
                 let more : (q : ℕ) × Improves d q = elim goes [ inl due ↦ absurd (two.1 due) | inr on ↦ (on.1.0, on.1.2.0) ] in
-                let made = interrupted_end two.1 two.2 (first_stop (interrupted_steps value limit lp (last_of d))) refl in
-                let led : IsLedBack value limit lp d None made.0 = record { kind = kind.Interrupted; last = last_of d; ends_by = (two.2, two.1, more, refl); read = (two.2, two.1, more, refl); ray = refl; gives = made.1 } in
-                (made.0, under_bland made.0 (broken_off_so value limit lp iterlim (IsChosen Bland d) pivots d (λ v chosen. chosen.0) made.0 most goes (inr (two.0, led))))
+                let made = interrupted_end two.1 two.2 more (first_stop (interrupted_steps value limit lp (last_of d))) refl in
+                (made.0, inl (kind.Interrupted, last_of d, (two.2, two.1, (most, goes), refl), made.1))
           ]
 
       -- where no further pivot may be taken
@@ -184,59 +162,60 @@ module _ {F : Type 0} (value : F → Number) (limit : ℕ) (some : 1 ≤ limit) 
 
   -- ---- the walk
 
-  -- pivots from a dictionary, and an end
-  abbrev Goes : ℕ → ℕ → Dictionary → Type 0
-  Goes left done d =
-      (pivots : List Pivot) × (length pivots ≤ left) × ((last : Dictionary) × Leads Bland limit (done + 1) d pivots last × ((end : End F) × EndsSo value limit lp iterlim Bland (done + length pivots) last end))
+  -- pivots from a dictionary, to which so many others have led, and an end
+  abbrev Goes : ℕ → ℕ → List Pivot → Dictionary → Type 0
+  Goes left count done d =
+      (pivots : List Pivot) × (length pivots ≤ left) × ((last : Dictionary) × LeadsWithin (ByRule Bland) limit (count + 1) done d pivots last
+      × ((end : End F) × EndsSoBy value limit lp iterlim (IsAllowed Bland last) (IsChosen Bland last) (count + length pivots) last end))
 
-  ends_now : (left done : ℕ) (d : Dictionary) → ((end : End F) × EndsSo value limit lp iterlim Bland done d end) → Goes left done d
-  ends_now left done d made =
-      let count : done ≡ done + length {A = Pivot} [] = omega arith in
-      ([], omega arith, (d, refl, (made.0, subst (λ n. EndsSo value limit lp iterlim Bland n d made.0) count made.1)))
+  abbrev Ended : ℕ → Dictionary → End F → Type 0
+  Ended n d end = EndsSoBy value limit lp iterlim (IsAllowed Bland d) (IsChosen Bland d) n d end
 
-  goes_more : (left done : ℕ) (d : Dictionary) (p : Pivot) (k : ℕ) → IsAllowed Bland d p k → TestFits limit (done + 1) d p → AllFit (exchange_steps limit (done + 1) d p.enter k) → Goes left (done + 1) (exchanged d p.enter k) → Goes (suc left) done d
-  goes_more left done d p k allowed tested fit (pivots, few, (last, leads, (end, ends))) =
-      let count : done + 1 + length pivots ≡ done + length (p ∷ pivots) = omega arith in
-      (p ∷ pivots, omega arith, (last, (k, allowed, tested, fit, leads), (end, subst (λ n. EndsSo value limit lp iterlim Bland n last end) count ends)))
+  ends_now : (left count : ℕ) (done : List Pivot) (d : Dictionary) → ((end : End F) × Ended count d end) → Goes left count done d
+  ends_now left count done d made =
+      let same : count ≡ count + length {A = Pivot} [] = omega arith in
+      ([], omega arith, (d, (refl, tt), (made.0, subst (λ n. Ended n d made.0) same made.1)))
+
+  goes_more : (left count : ℕ) (done : List Pivot) (d : Dictionary) (p : Pivot) (k : ℕ) → IsAllowed Bland d p k → TestFits limit (count + 1) d p → AllFit (exchange_steps limit (count + 1) d p.enter k) → Goes left (count + 1) (done ++ p ∷ []) (exchanged d p.enter k) → Goes (suc left) count done d
+  goes_more left count done d p k allowed tested fit (pivots, few, (last, way, (end, ends))) =
+      let same : count + 1 + length pivots ≡ count + length (p ∷ pivots) = omega arith in
+      (p ∷ pivots, omega arith, (last, ((k, allowed, way.0), (tested, fit, way.1)), (end, subst (λ n. Ended n last end) same ends)))
 
   -- a further pivot is allowed: all its steps fit, or there is a first that does not
-  turns : (left done : ℕ) (d : Dictionary) (p : Pivot) (k : ℕ) → done < iterlim → IsAllowed Bland d p k → TestFits limit (done + 1) d p → (AllFit (exchange_steps limit (done + 1) d p.enter k) → Goes left (done + 1) (exchanged d p.enter k)) → (o : Option StepName) → first_stop (exchange_steps limit (done + 1) d p.enter k) ≡ o → Goes (suc left) done d
-  turns left done d p k less allowed tested next None fits =
-      let fit : AllFit (exchange_steps limit (done + 1) d p.enter k) = all_fit (exchange_steps limit (done + 1) d p.enter k) fits in
-      goes_more left done d p k allowed tested fit (next fit)
-  turns left done d p k less allowed tested next (Some name) stops =
-      ends_now (suc left) done d (Refused name, inl (less, inr (p, k, allowed, tested, stops_first (exchange_steps limit (done + 1) d p.enter k) name stops)))
+  turns : (left count : ℕ) (done : List Pivot) (d : Dictionary) (p : Pivot) (k : ℕ) → count < iterlim → IsAllowed Bland d p k → TestFits limit (count + 1) d p → (AllFit (exchange_steps limit (count + 1) d p.enter k) → Goes left (count + 1) (done ++ p ∷ []) (exchanged d p.enter k)) → (o : Option StepName) → first_stop (exchange_steps limit (count + 1) d p.enter k) ≡ o → Goes (suc left) count done d
+  turns left count done d p k less allowed tested next None fits =
+      let fit : AllFit (exchange_steps limit (count + 1) d p.enter k) = all_fit (exchange_steps limit (count + 1) d p.enter k) fits in
+      goes_more left count done d p k allowed tested fit (next fit)
+  turns left count done d p k less allowed tested next (Some name) stops =
+      ends_now (suc left) count done d (Refused name, inr (inr (less, (name, refl, inr (p, k, allowed, tested, stops_first (exchange_steps limit (count + 1) d p.enter k) name stops)))))
 
-  abbrev Next : ℕ → ℕ → Dictionary → Type 0
-  Next left done d =
-      (p : Pivot) (k : ℕ) → IsAllowed Bland d p k → AllFit (exchange_steps limit (done + 1) d p.enter k) → Goes left (done + 1) (exchanged d p.enter k)
+  abbrev Next : ℕ → ℕ → List Pivot → Dictionary → Type 0
+  Next left count done d =
+      (p : Pivot) (k : ℕ) → IsAllowed Bland d p k → AllFit (exchange_steps limit (count + 1) d p.enter k) → Goes left (count + 1) (done ++ p ∷ []) (exchanged d p.enter k)
 
-  by_case : (left done : ℕ) (d : Dictionary) → done < iterlim → Stands (standard_form value lp) d → HasFitting limit d → Next left done d → Case limit (done + 1) d → Goes (suc left) done d
-  by_case left done d less stands fitting next (nothing_improves none) = ends_now (suc left) done d (ends_nothing d stands fitting done none)
-  by_case left done d less stands fitting next (none_limits q none chosen free) = ends_now (suc left) done d (ends_unlimited d stands fitting done q none chosen free)
-  by_case left done d less stands fitting next (test_stops q none chosen name stops) =
-      let row = some_limits limit (done + 1) d q name stops in
-      ends_now (suc left) done d (Refused name, inl (less, inl (none, (q, row.0, chosen, row.1, stops))))
-  by_case left done d less stands fitting next (pivot_is_due p k allowed tested) =
-      turns left done d p k less allowed tested (λ fit. next p k allowed fit) (first_stop (exchange_steps limit (done + 1) d p.enter k)) refl
+  by_case : (left count : ℕ) (done : List Pivot) (d : Dictionary) → count < iterlim → Stands (standard_form value lp) d → HasFitting limit d → Next left count done d → Case limit (count + 1) d → Goes (suc left) count done d
+  by_case left count done d less stands fitting next (nothing_improves none) = ends_now (suc left) count done d (ends_nothing d stands fitting count none)
+  by_case left count done d less stands fitting next (none_limits q none chosen free) = ends_now (suc left) count done d (ends_unlimited d stands fitting count q none chosen free)
+  by_case left count done d less stands fitting next (test_stops q none chosen name stops) =
+      let row = some_limits limit (count + 1) d q name stops in
+      ends_now (suc left) count done d (Refused name, inr (inr (less, (name, refl, inl (none, (q, row.0, chosen, row.1, stops))))))
+  by_case left count done d less stands fitting next (pivot_is_due p k allowed tested) =
+      turns left count done d p k less allowed tested (λ fit. next p k allowed fit) (first_stop (exchange_steps limit (count + 1) d p.enter k)) refl
 
-  goes : (left done : ℕ) (d : Dictionary) → done + left ≡ iterlim → Stands (standard_form value lp) d → HasFitting limit d → Goes left done d
-  goes zero done d count stands fitting = ends_now zero done d (ends_at_limit d stands fitting done (omega arith) (case_at limit (done + 1) d stands.proper))
-  goes (suc left) done d count stands fitting =
-      by_case left done d (omega arith) stands fitting
-      (λ p k allowed fit. goes left (done + 1) (exchanged d p.enter k) (omega arith) (stands_after (standard_form value lp) d p k stands allowed.0) (turn_within limit some small (done + 1) d p.enter k fitting fit)) (case_at limit (done + 1) d stands.proper)
+  goes : (left count : ℕ) (done : List Pivot) (d : Dictionary) → count + left ≡ iterlim → Stands (standard_form value lp) d → HasFitting limit d → Goes left count done d
+  goes zero count done d all stands fitting = ends_now zero count done d (ends_at_limit d stands fitting count (omega arith) (case_at limit (count + 1) d stands.proper))
+  goes (suc left) count done d all stands fitting =
+      by_case left count done d (omega arith) stands fitting
+      (λ p k allowed fit. goes left (count + 1) (done ++ p ∷ []) (exchanged d p.enter k) (omega arith) (stands_after (standard_form value lp) d p k stands allowed.0) (turn_within limit some small (count + 1) d p.enter k fitting fit)) (case_at limit (count + 1) d stands.proper)
+
+  made_answer : AllFit (standard_steps value limit lp) → Goes iterlim 0 [] (first_dictionary (standard_form value lp)) → (answer : Answer F) × IsAnswer value limit lp iterlim Bland answer
+  made_answer fit (pivots, few, (last, way, (end, ends))) =
+      let same : 0 + length pivots ≡ length pivots = omega arith in
+      (record { pivots = pivots; end = end }, inr (inr (ordered, fit, few, (last, way, subst (λ n. Ended n last end) same ends))))
 
   -- the answer where the steps of the standard form fit
   pub walked : AllFit (standard_steps value limit lp) → (answer : Answer F) × IsAnswer value limit lp iterlim Bland answer
-  walked fit =
-      let start = first_dictionary (standard_form value lp) in
-      let found = goes iterlim 0 start (omega arith) (first_stands value lp formed) (form_within value limit some small within lp formed fit) in
-      made_answer fit found
-    where
-      made_answer : AllFit (standard_steps value limit lp) → Goes iterlim 0 (first_dictionary (standard_form value lp)) → (answer : Answer F) × IsAnswer value limit lp iterlim Bland answer
-      made_answer fit (pivots, few, (last, leads, (end, ends))) =
-          let count : 0 + length pivots ≡ length pivots = omega arith in
-          (record { pivots = pivots; end = end }, inr (inr (ordered, fit, few, (last, leads, subst (λ n. EndsSo value limit lp iterlim Bland n last end) count ends))))
+  walked fit = made_answer fit (goes iterlim 0 [] (first_dictionary (standard_form value lp)) (omega arith) (first_stands value lp formed) (form_within value limit some small within lp formed fit))
 
 -- ---- columns whose bounds cross
 
@@ -271,12 +250,12 @@ module _ {F : Type 0} (value : F → Number) (limit : ℕ) (some : 1 ≤ limit) 
   crossed_answer : (j : ℕ) → FirstCrossed value lp.columns (Some j) → (answer : Answer F) × IsAnswer value limit lp iterlim Bland answer
   crossed_answer j first =
       let zeros = all_meant value limit each (replicate (length lp.rows) (whole (pos 0))) (All-replicate (Fitting limit) (length lp.rows) (whole (pos 0)) (fits-zero limit some)) in
-      (record { pivots = []; end = Infeasible zeros.0 (Some j) }, inl (refl, record { crossed = first.0; first = first.1; duals_zero = zeros.1 }))
+      (record { pivots = []; end = Infeasible zeros.0 (Some j) }, inl (refl, (zeros.0, j, refl, record { first = first; duals_zero = zeros.1 })))
 
-  formed_answer : NoneCrosses value limit lp iterlim Bland → (o : Option StepName) → first_stop (standard_steps value limit lp) ≡ o → (answer : Answer F) × IsAnswer value limit lp iterlim Bland answer
+  formed_answer : FirstCrossed value lp.columns None → (o : Option StepName) → first_stop (standard_steps value limit lp) ≡ o → (answer : Answer F) × IsAnswer value limit lp iterlim Bland answer
   formed_answer ordered None fits = walked value limit some small within each lp formed iterlim ordered (all_fit (standard_steps value limit lp) fits)
   formed_answer ordered (Some step) stops =
-      (record { pivots = []; end = Refused step }, inr (inl (refl, ordered, stops_first (standard_steps value limit lp) step stops)))
+      (record { pivots = []; end = Refused step }, inr (inl (refl, (ordered, (step, refl, stops_first (standard_steps value limit lp) step stops)))))
 
   pub some_answer : (answer : Answer F) × IsAnswer value limit lp iterlim Bland answer
   some_answer =

@@ -3,19 +3,19 @@ use Rattle.std.proofs.Common.{ℕ, ◌≡◌, ◌≤◌, arith}
 use Rattle.std.specs.Prelude.{Result, Ok, Err, IfOk}
 use Rattle.gq_number.specs.Number.{Number}
 use Rattle.lp_core.specs.declared.answer.Answer.{Answer}
+use Rattle.lp_core.specs.Pivots.{IsChosen}
 use Rattle.lp_core.specs.declared.answer.Rule.TheVariants.{Bland}
 use Rattle.lp_core.specs.declared.program.Lp.{Lp}
 use Rattle.lp_core.specs.Dictionary.{Dictionary}
-use Rattle.lp_core.specs.Answers.{IsChosen, IsAnswer}
-use Rattle.lp_core.specs.Choices.{IsAnswerBy}
+use Rattle.lp_core.specs.Answers.{IsAnswer, IsAnswerByChoice}
 use Rattle.lp_core.specs.WellFormed.{IsWellFormed}
 use Rattle.lp_nocycle.specs.PivotCount.{HasFewPivots, ComesToEnd}
 use Rattle.lp_nocycle.proofs.Answering.{has_few, comes_to_end}
 use Rattle.lp_walk.proofs.Rules.{bland_choice, bland_answer}
 
 module _ {F : Type 0} (value : F → Number) (limit : ℕ) (lp : Lp F) (iterlim : ℕ) (formed : IsWellFormed value lp) {E : Type 0} where
-  pub bland_if_ok : (r : Result (Answer F) E) → IfOk r (IsAnswerBy bland_choice value limit lp iterlim) → IfOk r (IsAnswer value limit lp iterlim Bland)
-  bland_if_ok (Ok answer) answers = bland_answer value limit lp iterlim answer formed answers
+  pub bland_if_ok : (r : Result (Answer F) E) → IfOk r (IsAnswerByChoice value limit lp iterlim bland_choice) → IfOk r (IsAnswer value limit lp iterlim Bland)
+  bland_if_ok (Ok answer) answers = bland_answer value limit lp iterlim answer answers
   bland_if_ok (Err e) answers = answers
 
   pub few_if_ok : (r : Result (Answer F) E) → IfOk r (IsAnswer value limit lp iterlim Bland) → IfOk r (HasFewPivots value lp)

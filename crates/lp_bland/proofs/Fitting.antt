@@ -1,5 +1,5 @@
 -- Numbers that fit under a limit: what steps that fit give, and the values that mean them.
-use Rattle.std.proofs.Common.{◌≡◌, ℕ, zero, suc, ◌+◌, ◌*◌, ◌/◌, ◌^◌, ◌<◌, ◌≤◌, Bool, true, false, cond, ℤ, pos, ◌+ℤ◌, nat_abs, int_lt, List, [], ◌∷◌, ◌++◌, map, refl, sym, ap₂, ◌∙◌, subst, subst₂, arith, div-le_self}
+use Rattle.std.proofs.Common.{◌≡◌, ℕ, zero, suc, ◌+◌, ◌*◌, ◌/◌, ◌^◌, ◌<◌, ◌≤◌, Bool, true, false, cond, ℤ, pos, ◌+ℤ◌, nat_abs, int_lt, List, [], ◌∷◌, map, refl, sym, ap₂, ◌∙◌, subst, subst₂, arith, div-le_self}
 use Rattle.std.specs.List.{All, range_with_len}
 use Rattle.std.proofs.lemmas.Bool.Decides.{nat_tests}
 use Rattle.std.proofs.lemmas.List.Elements.{All-nil, All-cons, All-head, All-tail}

@@ -1,5 +1,5 @@
 -- Where the steps of the way back fit, each number that it gives fits.
-use Rattle.std.proofs.Common.{◌≡◌, ℕ, zero, suc, ◌+◌, ◌^◌, ◌<◌, ◌≤◌, ◌==◌, cond, Bool, true, pos, List, [], ◌∷◌, ◌++◌, map, Option, Some, None, sym, ap, ◌∙◌, subst}
+use Rattle.std.proofs.Common.{◌≡◌, ℕ, ◌+◌, ◌^◌, ◌<◌, ◌≤◌, ◌==◌, cond, true, pos, List, [], ◌∷◌, map, Option, Some, None, sym, ap, ◌∙◌, subst}
 use Rattle.std.specs.Prelude.{flat_map}
 use Rattle.std.specs.List.{All, enumerate_from}
 use Rattle.std.proofs.lemmas.List.Elements.{All-nil, All-cons, All-head, All-tail, All-map, All-weaker}
@@ -69,7 +69,7 @@ module _ {F : Type 0} (value : F → Number) (limit : ℕ) (some : 1 ≤ limit) 
 
   -- ---- duals
 
-  dual_within : (p : ℕ → Number) (i r : ℕ) (s : Sense) → ((r : ℕ) → Fitting limit (p r)) → AllFit (cond (form.count_by_sense s == 2) ((Recover 2 i 0 1, difference_fits limit (p r) (p (r + 1))) ∷ []) []) → Fitting limit (form.dual_by_sense s p r)
+  dual_within : (p : ℕ → Number) (i r : ℕ) (s : Sense) → ((r : ℕ) → Fitting limit (p r)) → AllFit (cond (form.rows_of_sense s == 2) ((Recover 2 i 0 1, difference_fits limit (p r) (p (r + 1))) ∷ []) []) → Fitting limit (form.dual_by_sense s p r)
   dual_within p i r sense.E h fit = difference_within limit (p r) (p (r + 1)) small (h r) (h (r + 1)) (All-head Fit (Recover 2 i 0 1, difference_fits limit (p r) (p (r + 1))) [] fit)
   dual_within p i r sense.L h fit = h r
   dual_within p i r sense.G h fit = neg_within limit (p r) (h r)
@@ -78,14 +78,14 @@ module _ {F : Type 0} (value : F → Number) (limit : ℕ) (some : 1 ≤ limit) 
   duals_from : (p : ℕ → Number) (i r : ℕ) (rows : List (Row F)) → ((r : ℕ) → Fitting limit (p r)) → AllFit (dual_steps limit p i r rows) → All (Fitting limit) (form.duals_from p r rows)
   duals_from p i r [] h fit = All-nil (Fitting limit)
   duals_from p i r (row ∷ rows) h fit =
-      let here : List Due = cond (form.count_by_sense row.sense == 2) ((Recover 2 i 0 1, difference_fits limit (p r) (p (r + 1))) ∷ []) [] in
-      let rest : List Due = dual_steps limit p (i + 1) (r + form.count_by_sense row.sense) rows in
-      All-cons (Fitting limit) (form.dual_by_sense row.sense p r) (form.duals_from p (r + form.count_by_sense row.sense) rows) (dual_within p i r row.sense h (All-append_left Fit here rest fit))
-      (duals_from p (i + 1) (r + form.count_by_sense row.sense) rows h (All-append_right Fit here rest fit))
+      let here : List Due = cond (form.rows_of_sense row.sense == 2) ((Recover 2 i 0 1, difference_fits limit (p r) (p (r + 1))) ∷ []) [] in
+      let rest : List Due = dual_steps limit p (i + 1) (r + form.rows_of_sense row.sense) rows in
+      All-cons (Fitting limit) (form.dual_by_sense row.sense p r) (form.duals_from p (r + form.rows_of_sense row.sense) rows) (dual_within p i r row.sense h (All-append_left Fit here rest fit))
+      (duals_from p (i + 1) (r + form.rows_of_sense row.sense) rows h (All-append_right Fit here rest fit))
 
   -- ---- reduced costs
 
-  reduced_within : (costs : List Number) (p : ℕ → Number) (j v r : ℕ) (lower upper : Option F) → All (Fitting limit) costs → ((r : ℕ) → Fitting limit (p r)) → AllFit (cond (form.count_by_bounds lower upper == 1) ((Recover 3 j 0 1, sum_fits limit (number_of costs v) (p r)) ∷ []) []) → Fitting limit (form.reduced_by_bounds costs p v r lower upper)
+  reduced_within : (costs : List Number) (p : ℕ → Number) (j v r : ℕ) (lower upper : Option F) → All (Fitting limit) costs → ((r : ℕ) → Fitting limit (p r)) → AllFit (cond (form.rows_of_bounds lower upper == 1) ((Recover 3 j 0 1, sum_fits limit (number_of costs v) (p r)) ∷ []) []) → Fitting limit (form.reduced_by_bounds costs p v r lower upper)
   reduced_within costs p j v r (Some l) (Some u) all h fit = sum_within limit (number_of costs v) (p r) small (number_within limit some costs v all) (h r) (All-head Fit (Recover 3 j 0 1, sum_fits limit (number_of costs v) (p r)) [] fit)
   reduced_within costs p j v r (Some l) None all h fit = number_within limit some costs v all
   reduced_within costs p j v r None (Some u) all h fit = neg_within limit (number_of costs v) (number_within limit some costs v all)
@@ -95,11 +95,11 @@ module _ {F : Type 0} (value : F → Number) (limit : ℕ) (some : 1 ≤ limit) 
   reduced_from costs p j r [] columns all h fit = All-nil (Fitting limit)
   reduced_from costs p j r (s ∷ shifts) [] all h fit = All-nil (Fitting limit)
   reduced_from costs p j r (s ∷ shifts) (column ∷ columns) all h fit =
-      let here : List Due = cond (form.count_by_bounds column.lower column.upper == 1) ((Recover 3 j 0 1, sum_fits limit (number_of costs s.0) (p r)) ∷ []) [] in
-      let rest : List Due = reduced_steps limit costs p (j + 1) (r + form.count_by_bounds column.lower column.upper) shifts columns in
-      All-cons (Fitting limit) (form.reduced_by_bounds costs p s.0 r column.lower column.upper) (form.reduced_from costs p (r + form.count_by_bounds column.lower column.upper) shifts columns)
+      let here : List Due = cond (form.rows_of_bounds column.lower column.upper == 1) ((Recover 3 j 0 1, sum_fits limit (number_of costs s.0) (p r)) ∷ []) [] in
+      let rest : List Due = reduced_steps limit costs p (j + 1) (r + form.rows_of_bounds column.lower column.upper) shifts columns in
+      All-cons (Fitting limit) (form.reduced_by_bounds costs p s.0 r column.lower column.upper) (form.reduced_from costs p (r + form.rows_of_bounds column.lower column.upper) shifts columns)
       (reduced_within costs p j s.0 r column.lower column.upper all h (All-append_left Fit here rest fit))
-      (reduced_from costs p (j + 1) (r + form.count_by_bounds column.lower column.upper) shifts columns all h (All-append_right Fit here rest fit))
+      (reduced_from costs p (j + 1) (r + form.rows_of_bounds column.lower column.upper) shifts columns all h (All-append_right Fit here rest fit))
 
   -- ---- a ray
 

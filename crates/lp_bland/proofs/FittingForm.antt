@@ -1,8 +1,8 @@
 -- Where the steps of the standard form fit, each number of the first dictionary fits.
-use Rattle.std.proofs.Common.{◌≡◌, ℕ, zero, suc, ◌+◌, ◌^◌, ◌<◌, ◌≤◌, ◌==◌, cond, Bool, true, false, inl, inr, pos, List, [], ◌∷◌, ◌++◌, length, map, Option, Some, None, refl, sym, ◌∙◌, subst, arith}
-use Rattle.std.specs.Prelude.{flat_map, slice_index_or, nat_lt}
-use Rattle.std.specs.List.{All, enumerate_from, range_with_len}
-use Rattle.std.proofs.lemmas.Bool.{cases_lt, cases_eq}
+use Rattle.std.proofs.Common.{◌≡◌, ℕ, zero, suc, ◌+◌, ◌^◌, ◌<◌, ◌≤◌, ◌==◌, cond, Bool, true, inl, inr, pos, List, [], ◌∷◌, length, map, Option, Some, None, sym, subst, arith}
+use Rattle.std.specs.Prelude.{slice_index_or, nat_lt}
+use Rattle.std.specs.List.{All, range_with_len}
+use Rattle.std.proofs.lemmas.Bool.{cases_eq}
 use Rattle.std.proofs.lemmas.List.Elements.{All-nil, All-cons, All-head, All-tail, All-append, All-map}
 use Rattle.gq_number.specs.Number.{Number, whole, ◌-ℚ◌, ◌*ℚ◌, neg_ℚ}
 use Rattle.gq_number.proofs.Ring.{ring_ℚ}
@@ -165,7 +165,7 @@ module _ {F : Type 0} (value : F → Number) (limit : ℕ) (some : 1 ≤ limit) 
   row_within columns r i row fit =
       (subst (Fitting limit) (right_sum value columns (value row.right) row.entries) (right_within columns r (value row.right) row.entries (within row.right) fit), entries_within columns row.entries)
 
-  sense_within : (columns : List (ℕ × form.Shift)) (r i : ℕ) (row : Row F) (s : Sense) → AllFit (cond (form.count_by_sense s == 0) [] (row_steps value limit columns r (value row.right) row.entries)) → All (RowFits limit some) (form.rows_by_sense s i (shifted_over value columns i row))
+  sense_within : (columns : List (ℕ × form.Shift)) (r i : ℕ) (row : Row F) (s : Sense) → AllFit (cond (form.rows_of_sense s == 0) [] (row_steps value limit columns r (value row.right) row.entries)) → All (RowFits limit some) (form.rows_by_sense s i (shifted_over value columns i row))
   sense_within columns r i row sense.E fit = by_sense limit some sense.E i (shifted_over value columns i row) (row_within columns r i row fit)
   sense_within columns r i row sense.L fit = by_sense limit some sense.L i (shifted_over value columns i row) (row_within columns r i row fit)
   sense_within columns r i row sense.G fit = by_sense limit some sense.G i (shifted_over value columns i row) (row_within columns r i row fit)
@@ -174,10 +174,10 @@ module _ {F : Type 0} (value : F → Number) (limit : ℕ) (some : 1 ≤ limit) 
   rows_within : (columns : List (ℕ × form.Shift)) (r i : ℕ) (rows : List (Row F)) → AllFit (rows_steps value limit columns r rows) → All (RowFits limit some) (rows_over value columns i rows)
   rows_within columns r i [] fit = All-nil (RowFits limit some)
   rows_within columns r i (row ∷ rows) fit =
-      let here : List Due = cond (form.count_by_sense row.sense == 0) [] (row_steps value limit columns r (value row.right) row.entries) in
-      let rest : List Due = rows_steps value limit columns (r + form.count_by_sense row.sense) rows in
+      let here : List Due = cond (form.rows_of_sense row.sense == 0) [] (row_steps value limit columns r (value row.right) row.entries) in
+      let rest : List Due = rows_steps value limit columns (r + form.rows_of_sense row.sense) rows in
       All-append (RowFits limit some) (form.rows_by_sense row.sense i (shifted_over value columns i row)) (rows_over value columns (i + 1) rows)
-      (sense_within columns r i row row.sense (All-append_left Fit here rest fit)) (rows_within columns (r + form.count_by_sense row.sense) (i + 1) rows (All-append_right Fit here rest fit))
+      (sense_within columns r i row row.sense (All-append_left Fit here rest fit)) (rows_within columns (r + form.rows_of_sense row.sense) (i + 1) rows (All-append_right Fit here rest fit))
 
   bound_within : (r j v : ℕ) (lower upper : Option F) → AllFit (bound_step limit r j (bound_value value lower) (bound_value value upper)) → All (RowFits limit some) (form.bound_rows j v (bound_value value lower) (bound_value value upper))
   bound_within r j v (Some l) (Some u) fit =
@@ -193,9 +193,9 @@ module _ {F : Type 0} (value : F → Number) (limit : ℕ) (some : 1 ≤ limit) 
   bounds_within columns r j [] fit = All-nil (RowFits limit some)
   bounds_within columns r j (column ∷ bounded) fit =
       let here : List Due = bound_step limit r j (bound_value value column.lower) (bound_value value column.upper) in
-      let rest : List Due = bounds_steps value limit (r + form.count_by_bounds column.lower column.upper) (j + 1) bounded in
+      let rest : List Due = bounds_steps value limit (r + form.rows_of_bounds column.lower column.upper) (j + 1) bounded in
       All-append (RowFits limit some) (form.bound_rows j (form.column_at columns j).0 (bound_value value column.lower) (bound_value value column.upper)) (bounds_over value columns (j + 1) bounded)
-      (bound_within r j (form.column_at columns j).0 column.lower column.upper (All-append_left Fit here rest fit)) (bounds_within columns (r + form.count_by_bounds column.lower column.upper) (j + 1) bounded (All-append_right Fit here rest fit))
+      (bound_within r j (form.column_at columns j).0 column.lower column.upper (All-append_left Fit here rest fit)) (bounds_within columns (r + form.rows_of_bounds column.lower column.upper) (j + 1) bounded (All-append_right Fit here rest fit))
 
   -- ---- the objective
 

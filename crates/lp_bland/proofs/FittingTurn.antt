@@ -1,17 +1,17 @@
 -- Where the steps of an exchange fit, each number of the dictionary after it fits; and so do the numbers that are read from a
 -- last dictionary.
 use Rattle.std.proofs.Common.{◌≡◌, ◌≢◌, ℕ, zero, suc, ◌+◌, ◌^◌, ◌<◌, ◌≤◌, ◌==◌, ◌&&◌, cond, not, Bool, true, false, true≢false, inl, inr, pos, List, [], ◌∷◌, ◌++◌, length, map, Option, Some, None, refl, sym, ◌∙◌, subst, arith}
-use Rattle.std.specs.Prelude.{flat_map, filter, position, unwrap_or, slice_set}
+use Rattle.std.specs.Prelude.{flat_map, filter, unwrap_or, slice_set}
 use Rattle.std.specs.List.{All, range_with_len}
 use Rattle.std.proofs.lemmas.Bool.{cases_Bool, cases_eq, eq-eqb, ne_eqb, not_from_false}
-use Rattle.std.proofs.lemmas.List.Elements.{All-nil, All-head, All-tail, All-map}
+use Rattle.std.proofs.lemmas.List.Elements.{All-head, All-tail, All-map}
 use Rattle.std.proofs.lemmas.List.Quantifiers.{position-Some}
-use Rattle.gq_number.specs.Number.{Number, whole, ◌-ℚ◌, ◌*ℚ◌, neg_ℚ}
+use Rattle.gq_number.specs.Number.{whole, ◌-ℚ◌, ◌*ℚ◌}
 use Rattle.lp_form.proofs.Zeros.{fits-zero}
 use Rattle.lp_core.specs.declared.answer.StepName.TheVariants.{Exchange}
-use Rattle.lp_core.specs.Dictionary.{Dictionary, basic_at, constant_at, entry_at, divided, exchanged_numbers, exchanged}
+use Rattle.lp_core.specs.Dictionary.{Dictionary, basic_at, entry_at, divided, exchanged_numbers, exchanged}
 use Rattle.lp_core.specs.Steps.{Due, AllFit, quotient_fits, product_fits, difference_fits, pivot_row_steps, other_row_steps, exchange_steps}
-use Rattle.lp_core.specs.Answers.{row_of_basic, value_by_row, change_by_row, cost_by_row, priced_row, all_variables, last_of, last_along}
+use Rattle.lp_core.specs.Pivots.{row_of_basic, value_by_row, change_by_row, cost_by_row, priced_row, all_variables, last_of, last_along}
 use Rattle.lp_std.proofs.Sums.{All-append_left, All-append_right}
 use Rattle.lp_exact.proofs.Exchanging.{length-put}
 use Rattle.lp_bland.proofs.Fitting.{Fitting, neg_within, difference_within, one_within, cond_within, range_holds}

@@ -9,7 +9,7 @@ use Rattle.lp_core.specs.declared.program.Lp.{Lp}
 use Rattle.lp_core.specs.Sums.{number_of, row_sum}
 use Rattle.lp_core.specs.Feasible.{bound_value}
 use Rattle.lp_core.specs.Proofs.{row_sums}
-use Rattle.lp_core.specs.StandardForm.{Shift, Standard, point_of, dual_by_sense, changed_back, variables_of, width, columns_of, count_by_bounds, count_by_sense, reduced_by_bounds, duals_from, reduced_from, multiplier, directed, Last, levels_back, duals_back, reduced_back, farkas_back, ray_back}
+use Rattle.lp_core.specs.StandardForm.{Shift, Standard, point_of, dual_by_sense, changed_back, variables_of, width, columns_of, rows_of_bounds, rows_of_sense, reduced_by_bounds, duals_from, reduced_from, multiplier, directed, Last, levels_back, duals_back, reduced_back, farkas_back, ray_back}
 use Rattle.lp_core.specs.Numbers.{column_numbers, row_numbers, lp_numbers}
 use Rattle.lp_nocycle.proofs.SameForm.{itself, sum_by_map, count_bounds_same, columns_same, variables_same, form_same}
 
@@ -28,7 +28,7 @@ module _ {F : Type 0} (value : F → Number) where
 
   duals_from_same : (p : ℕ → Number) (r : ℕ) (rows : List (Row F)) → duals_from p r (map (row_numbers value) rows) ≡ duals_from p r rows
   duals_from_same p r [] = refl
-  duals_from_same p r (row ∷ rows) = ap (λ l. dual_by_sense row.sense p r ∷ l) (duals_from_same p (r + count_by_sense row.sense) rows)
+  duals_from_same p r (row ∷ rows) = ap (λ l. dual_by_sense row.sense p r ∷ l) (duals_from_same p (r + rows_of_sense row.sense) rows)
 
   all_duals_same : (lp : Lp F) (last : Last) → duals_from (multiplier (variables_of itself (lp_numbers value lp)) last.costs) 0 (map (row_numbers value) lp.rows) ≡ duals_from (multiplier (variables_of value lp) last.costs) 0 lp.rows
   all_duals_same lp last =
@@ -41,8 +41,8 @@ module _ {F : Type 0} (value : F → Number) where
   pub farkas_same : (lp : Lp F) (last : Last) → farkas_back itself (lp_numbers value lp) last ≡ farkas_back value lp last
   farkas_same lp last = ap (map neg_ℚ) (all_duals_same lp last)
 
-  pub sense_counts_same : (rows : List (Row F)) → sum_by (λ (row : Row Number). count_by_sense row.sense) (map (row_numbers value) rows) ≡ sum_by (λ (row : Row F). count_by_sense row.sense) rows
-  sense_counts_same rows = sum_by_map (λ (row : Row Number). count_by_sense row.sense) (row_numbers value) rows
+  pub sense_counts_same : (rows : List (Row F)) → sum_by (λ (row : Row Number). rows_of_sense row.sense) (map (row_numbers value) rows) ≡ sum_by (λ (row : Row F). rows_of_sense row.sense) rows
+  sense_counts_same rows = sum_by_map (λ (row : Row Number). rows_of_sense row.sense) (row_numbers value) rows
 
   reduced_by_same : (costs : List Number) (p : ℕ → Number) (v r : ℕ) (lower upper : Option F) → reduced_by_bounds costs p v r (bound_value value lower) (bound_value value upper) ≡ reduced_by_bounds costs p v r lower upper
   reduced_by_same costs p v r None None = refl
@@ -55,7 +55,7 @@ module _ {F : Type 0} (value : F → Number) where
   reduced_from_same costs p r (s ∷ shifts) [] = refl
   reduced_from_same costs p r (s ∷ shifts) (c ∷ columns) =
       ap₂ (λ x l. x ∷ l) (reduced_by_same costs p s.0 r c.lower c.upper)
-      (ap (λ n. reduced_from costs p (r + n) shifts (map (column_numbers value) columns)) (count_bounds_same value c.lower c.upper) ∙ reduced_from_same costs p (r + count_by_bounds c.lower c.upper) shifts columns)
+      (ap (λ n. reduced_from costs p (r + n) shifts (map (column_numbers value) columns)) (count_bounds_same value c.lower c.upper) ∙ reduced_from_same costs p (r + rows_of_bounds c.lower c.upper) shifts columns)
 
   abbrev reduced_with : Lp F → Last → List (ℕ × Shift) → ℕ → List Number
   reduced_with lp last columns r = reduced_from last.costs (multiplier (sum_by (λ (p : ℕ × Shift). width p.1) columns) last.costs) r columns lp.columns
@@ -63,7 +63,7 @@ module _ {F : Type 0} (value : F → Number) where
   pub reduced_same : (lp : Lp F) (last : Last) → reduced_back itself (lp_numbers value lp) last ≡ reduced_back value lp last
   reduced_same lp last =
       ap (map (directed lp.maximize))
-      (reduced_from_same last.costs (multiplier (variables_of itself (lp_numbers value lp)) last.costs) (sum_by (λ (row : Row Number). count_by_sense row.sense) (map (row_numbers value) lp.rows)) (columns_of itself (lp_numbers value lp)) lp.columns
+      (reduced_from_same last.costs (multiplier (variables_of itself (lp_numbers value lp)) last.costs) (sum_by (λ (row : Row Number). rows_of_sense row.sense) (map (row_numbers value) lp.rows)) (columns_of itself (lp_numbers value lp)) lp.columns
       ∙ ap₂ (reduced_with lp last) (columns_same value lp) (sense_counts_same lp.rows))
 
   pub ray_same : (lp : Lp F) (last : Last) → ray_back itself (lp_numbers value lp) last ≡ ray_back value lp last

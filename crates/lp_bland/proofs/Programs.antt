@@ -11,7 +11,7 @@ use Rattle.lp_core.specs.declared.program.Row.{Row}
 use Rattle.lp_core.specs.declared.program.Lp.{Lp}
 use Rattle.lp_core.specs.Feasible.{bound_value}
 use Rattle.lp_core.specs.WellFormed.{IsWellFormed, AreEntries, rows_of_sense, rows_of_bounds, variables_of_bounds}
-use Rattle.lp_core.specs.Proofs.{Crosses, ProvesCrossed}
+use Rattle.lp_core.specs.Proofs.{Crosses, FirstCrossed, ProvesCrossed}
 use Rattle.lp_core.specs.Numbers.{entries_numbers, column_numbers, row_numbers, lp_numbers}
 use Rattle.lp_nocycle.proofs.SameForm.{itself, sum_by_map}
 
@@ -95,16 +95,21 @@ module _ {F G : Type 0} (value : F → Number) (other : G → Number) (lp : Lp F
       all_same (column_numbers value) (column_numbers other) lp.columns wide.columns columns_are (λ (c : Column F). ¬ (Crosses value c.lower c.upper)) (λ (c : Column G). ¬ (Crosses other c.lower c.upper))
       (λ a b e none h. none (crosses_back a b e h))
 
+  first_same : (j : ℕ) → FirstCrossed value lp.columns (Some j) → FirstCrossed other wide.columns (Some j)
+  first_same j h =
+      let column = h.0.0 in
+      let within = slice_get_within lp.columns j column h.0.1 in
+      let at : option_map (column_numbers other) (slice_get wide.columns j) ≡ Some (column_numbers value column) =
+      sym (slice_get-map (column_numbers other) wide.columns j) ∙ ap (λ l. slice_get l j) (sym columns_are) ∙ slice_get-map (column_numbers value) lp.columns j ∙ ap (option_map (column_numbers value)) h.0.1 in
+      let found = found_image (column_numbers other) (slice_get wide.columns j) (column_numbers value column) at in (
+        (found.0, found.1, crosses_same column found.0 (sym found.2) h.0.2),
+        λ k e low high cross. h.1 k column low high (crosses_back (slice_index_or lp.columns k column) (slice_index_or wide.columns k e) (same_image (column_numbers value) (column_numbers other) lp.columns wide.columns columns_are k column e (omega arith)) cross),
+      )
+
   pub crossed_same : (j : ℕ) (duals more : List Number) → more ≡ duals → ProvesCrossed value lp j duals → ProvesCrossed other wide j more
   crossed_same j duals more is h =
-      let column = h.crossed.0 in
-      let within = slice_get_within lp.columns j column h.crossed.1 in
-      let at : option_map (column_numbers other) (slice_get wide.columns j) ≡ Some (column_numbers value column) =
-      sym (slice_get-map (column_numbers other) wide.columns j) ∙ ap (λ l. slice_get l j) (sym columns_are) ∙ slice_get-map (column_numbers value) lp.columns j ∙ ap (option_map (column_numbers value)) h.crossed.1 in
-      let found = found_image (column_numbers other) (slice_get wide.columns j) (column_numbers value column) at in
       record {
-        crossed = (found.0, found.1, crosses_same column found.0 (sym found.2) h.crossed.2);
-        first = λ k e low high cross. h.first k column low high (crosses_back (slice_index_or lp.columns k column) (slice_index_or wide.columns k e) (same_image (column_numbers value) (column_numbers other) lp.columns wide.columns columns_are k column e (omega arith)) cross);
+        first = first_same j h.first;
         duals_zero = is ∙ h.duals_zero ∙ ap (λ n. replicate n (whole (pos 0))) (same_length (row_numbers value) (row_numbers other) lp.rows wide.rows rows_are);
       }
 

@@ -3,6 +3,8 @@ use Rattle.std.proofs.Common.{◌≡◌, ℕ, ◌+◌, ◌==◌, cond, List, [],
 use Rattle.std.specs.Prelude.{flat_map, sum_by}
 use Rattle.std.specs.List.{enumerate_from}
 use Rattle.gq_number.specs.Number.{Number, whole, ◌-ℚ◌, ◌+ℚ◌, ◌*ℚ◌}
+use Rattle.lp_core.specs.declared.answer.EndKind.{EndKind}
+use Rattle.lp_core.specs.declared.answer.EndKind.TheVariants as kind
 use Rattle.lp_core.specs.declared.answer.StepName.TheVariants.{Recover}
 use Rattle.lp_core.specs.declared.program.Column.{Column}
 use Rattle.lp_core.specs.declared.program.Row.{Row}
@@ -10,8 +12,8 @@ use Rattle.lp_core.specs.declared.program.Lp.{Lp}
 use Rattle.lp_core.specs.Sums.{number_of}
 use Rattle.gq_field.specs.Fits.{sum_fits}
 use Rattle.lp_core.specs.Feasible.{bound_value}
-use Rattle.lp_core.specs.StandardForm.{Shift, width, base, column_at, columns_of, variables_of, count_by_sense, count_by_bounds, multiplier, Last, levels_back}
-use Rattle.lp_core.specs.Steps.{product_fits, difference_fits, shifting, row_steps, rows_steps, bound_step, bounds_steps, count_of_rows, standard_steps, level_step, row_level_steps, dual_steps, reduced_steps, ray_step, levels_steps, row_levels_steps, duals_steps, reduced_costs_steps, ray_steps, optimal_steps, infeasible_steps, unbounded_steps, interrupted_steps}
+use Rattle.lp_core.specs.StandardForm.{Shift, width, base, column_at, columns_of, variables_of, rows_of_sense, rows_of_bounds, multiplier, Last, levels_back}
+use Rattle.lp_core.specs.Steps.{product_fits, difference_fits, shifting, row_steps, rows_steps, bound_step, bounds_steps, count_of_rows, standard_steps, level_step, row_level_steps, dual_steps, reduced_steps, ray_step, levels_steps, row_levels_steps, duals_steps, reduced_costs_steps, ray_steps, optimal_steps, infeasible_steps, unbounded_steps, interrupted_steps, steps_back}
 use Rattle.lp_core.specs.Numbers.{entries_numbers, column_numbers, row_numbers, lp_numbers}
 use Rattle.lp_nocycle.proofs.SameForm.{itself, bound_same, count_bounds_same, joined_same, columns_same, variables_same}
 use Rattle.lp_bland.proofs.Naturality.{levels_same}
@@ -27,17 +29,17 @@ module _ {F : Type 0} (value : F → Number) (limit : ℕ) where
   rows_steps_same : (columns : List (ℕ × Shift)) (r : ℕ) (rows : List (Row F)) → rows_steps itself limit columns r (map (row_numbers value) rows) ≡ rows_steps value limit columns r rows
   rows_steps_same columns r [] = refl
   rows_steps_same columns r (row ∷ rows) =
-      ap₂ (λ s l. cond (count_by_sense row.sense == 0) [] s ++ l) (row_steps_same columns r (value row.right) row.entries) (rows_steps_same columns (r + count_by_sense row.sense) rows)
+      ap₂ (λ s l. cond (rows_of_sense row.sense == 0) [] s ++ l) (row_steps_same columns r (value row.right) row.entries) (rows_steps_same columns (r + rows_of_sense row.sense) rows)
 
   bounds_steps_same : (r j : ℕ) (columns : List (Column F)) → bounds_steps itself limit r j (map (column_numbers value) columns) ≡ bounds_steps value limit r j columns
   bounds_steps_same r j [] = refl
   bounds_steps_same r j (c ∷ columns) =
       ap₂ (λ s l. s ++ l) (ap₂ (bound_step limit r j) (bound_same (bound_value value c.lower)) (bound_same (bound_value value c.upper)))
-      (ap (λ n. bounds_steps itself limit (r + n) (j + 1) (map (column_numbers value) columns)) (count_bounds_same value c.lower c.upper) ∙ bounds_steps_same (r + count_by_bounds c.lower c.upper) (j + 1) columns)
+      (ap (λ n. bounds_steps itself limit (r + n) (j + 1) (map (column_numbers value) columns)) (count_bounds_same value c.lower c.upper) ∙ bounds_steps_same (r + rows_of_bounds c.lower c.upper) (j + 1) columns)
 
   count_rows_same : (rows : List (Row F)) → count_of_rows (map (row_numbers value) rows) ≡ count_of_rows rows
   count_rows_same [] = refl
-  count_rows_same (row ∷ rows) = ap (λ n. count_by_sense row.sense + n) (count_rows_same rows)
+  count_rows_same (row ∷ rows) = ap (λ n. rows_of_sense row.sense + n) (count_rows_same rows)
 
   pub standard_steps_same : (lp : Lp F) → standard_steps itself limit (lp_numbers value lp) ≡ standard_steps value limit lp
   standard_steps_same lp =
@@ -63,7 +65,7 @@ module _ {F : Type 0} (value : F → Number) (limit : ℕ) where
   dual_steps_same : (p : ℕ → Number) (i r : ℕ) (rows : List (Row F)) → dual_steps limit p i r (map (row_numbers value) rows) ≡ dual_steps limit p i r rows
   dual_steps_same p i r [] = refl
   dual_steps_same p i r (row ∷ rows) =
-      ap (λ l. cond (count_by_sense row.sense == 2) ((Recover 2 i 0 1, difference_fits limit (p r) (p (r + 1))) ∷ []) [] ++ l) (dual_steps_same p (i + 1) (r + count_by_sense row.sense) rows)
+      ap (λ l. cond (rows_of_sense row.sense == 2) ((Recover 2 i 0 1, difference_fits limit (p r) (p (r + 1))) ∷ []) [] ++ l) (dual_steps_same p (i + 1) (r + rows_of_sense row.sense) rows)
 
   duals_steps_same : (lp : Lp F) (last : Last) → duals_steps itself limit (lp_numbers value lp) last ≡ duals_steps value limit lp last
   duals_steps_same lp last =
@@ -75,7 +77,7 @@ module _ {F : Type 0} (value : F → Number) (limit : ℕ) where
   reduced_steps_same costs p j r (s ∷ shifts) [] = refl
   reduced_steps_same costs p j r (s ∷ shifts) (c ∷ columns) =
       ap (λ n. cond (n == 1) ((Recover 3 j 0 1, sum_fits limit (number_of costs s.0) (p r)) ∷ []) [] ++ reduced_steps limit costs p (j + 1) (r + n) shifts (map (column_numbers value) columns)) (count_bounds_same value c.lower c.upper)
-      ∙ ap (λ l. cond (count_by_bounds c.lower c.upper == 1) ((Recover 3 j 0 1, sum_fits limit (number_of costs s.0) (p r)) ∷ []) [] ++ l) (reduced_steps_same costs p (j + 1) (r + count_by_bounds c.lower c.upper) shifts columns)
+      ∙ ap (λ l. cond (rows_of_bounds c.lower c.upper == 1) ((Recover 3 j 0 1, sum_fits limit (number_of costs s.0) (p r)) ∷ []) [] ++ l) (reduced_steps_same costs p (j + 1) (r + rows_of_bounds c.lower c.upper) shifts columns)
 
   reduced_costs_steps_same : (lp : Lp F) (last : Last) → reduced_costs_steps itself limit (lp_numbers value lp) last ≡ reduced_costs_steps value limit lp last
   reduced_costs_steps_same lp last =
@@ -96,3 +98,10 @@ module _ {F : Type 0} (value : F → Number) (limit : ℕ) where
 
   pub unbounded_steps_same : (lp : Lp F) (last : Last) → unbounded_steps itself limit (lp_numbers value lp) last ≡ unbounded_steps value limit lp last
   unbounded_steps_same lp last = ap₂ (λ a b. a ++ b) (interrupted_steps_same lp last) (ray_steps_same lp last)
+
+  -- the steps of the way back of each kind of end
+  pub steps_back_same : (how : EndKind) (lp : Lp F) (last : Last) → steps_back itself limit (lp_numbers value lp) how last ≡ steps_back value limit lp how last
+  steps_back_same kind.Optimal lp last = optimal_steps_same lp last
+  steps_back_same kind.Infeasible lp last = infeasible_steps_same lp last
+  steps_back_same kind.Unbounded lp last = unbounded_steps_same lp last
+  steps_back_same kind.Interrupted lp last = interrupted_steps_same lp last

@@ -1,7 +1,8 @@
 //! Bland's choice, and the answer of a program by it.
 ghost use Rattle.std.specs.Prelude.{⊤, IfOk};
 ghost use Rattle.lp_core.specs.declared.answer.Rule.TheVariants as by;
-ghost use Rattle.lp_core.specs.Answers.{IsChosen, IsAnswer};
+ghost use Rattle.lp_core.specs.Answers.{IsAnswer};
+ghost use Rattle.lp_core.specs.Pivots.{IsChosen};
 ghost use Rattle.lp_core.specs.WellFormed.{IsWellFormed};
 ghost use Rattle.lp_nocycle.specs.PivotCount.{HasFewPivots, ComesToEnd};
 ghost use Rattle.lp_bland.specs.Least.{least_improves};

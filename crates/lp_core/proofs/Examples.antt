@@ -13,7 +13,7 @@ use Rattle.lp_core.specs.declared.program.Lp.{Lp}
 use Rattle.lp_core.specs.StandardForm.{standard_form}
 use Rattle.lp_core.specs.Dictionary.{Dictionary, first_dictionary, exchanged}
 use Rattle.lp_core.specs.Steps.{standard_steps, ratio_steps, pivot_row_steps, other_row_steps, levels_steps}
-use Rattle.lp_core.specs.Answers.{last_of}
+use Rattle.lp_core.specs.Pivots.{last_of}
 
 abbrev key : ℕ → Key
 key n = record { symbol = n; tuple = [] }

@@ -149,7 +149,7 @@ none_kept value (Some b) (Some u) x h k l = Order.<ℚ_irrefl (value u) (Order.<
 
 pub none_between : {F : Type 0} (value : F → Number) (lp : Lp F) (j : ℕ) (duals x : List Number) → ProvesCrossed value lp j duals → ¬ (Feasible value lp x)
 none_between value lp j duals x proof feasible =
-    let column = proof.crossed.0 in
-    let here = enumerate_at 0 lp.columns j column (0, column) proof.crossed.1 in
+    let column = proof.first.0.0 in
+    let here = enumerate_at 0 lp.columns j column (0, column) proof.first.0.1 in
     let kept = subst (λ p. KeepsBounds value p.1 (number_of x p.0)) here.1 (feasible.bounds j (0, column) here.0) in
-    none_kept value column.lower column.upper (number_of x (0 + j)) proof.crossed.2 kept.0 kept.1
+    none_kept value column.lower column.upper (number_of x (0 + j)) proof.first.0.2 kept.0 kept.1

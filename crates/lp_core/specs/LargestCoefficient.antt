@@ -8,8 +8,10 @@ use Rattle.lp_core.specs.declared.answer.Rule.TheVariants.{Bland}
 use Rattle.lp_core.specs.declared.answer.Answer.{Answer}
 use Rattle.lp_core.specs.declared.program.Lp.{Lp}
 use Rattle.lp_core.specs.Dictionary.{Dictionary, constant_at, entry_at, IsPriced, Improves}
-use Rattle.lp_core.specs.Answers.{IsChosen, IsPhase}
-use Rattle.lp_core.specs.Choices.{leaving_row, reached, AllAlong, IsAnswerBy}
+use Rattle.lp_core.specs.Pivots.{IsChosen}
+use Rattle.lp_core.specs.Ends.{IsPhase}
+use Rattle.lp_core.specs.Answers.{IsAnswerByChoice}
+use Rattle.lp_core.specs.Choices.{leaving_row, reached, AllAlong}
 
 -- A variable improves with the greatest coefficient, and is the least of those that do so with the same.
 pub record HasGreatest (d : Dictionary) (q : ℕ) : Type 0 where
@@ -44,4 +46,4 @@ IsNext first pivots d q = (¬ (HasTurned first pivots d) × HasGreatest d q) ⊎
 
 -- an answer of a program under a limit of pivots by the rule of the largest coefficient
 abbrev pub IsLargestAnswer : {F : Type 0} → (F → Number) → ℕ → Lp F → ℕ → Answer F → Type 0
-IsLargestAnswer value limit lp iterlim answer = IsAnswerBy IsNext value limit lp iterlim answer
+IsLargestAnswer value limit lp iterlim answer = IsAnswerByChoice value limit lp iterlim IsNext answer

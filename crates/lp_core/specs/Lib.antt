@@ -7,6 +7,8 @@ pub mod Proofs
 pub mod StandardForm
 pub mod Dictionary
 pub mod Steps
+pub mod Pivots
+pub mod Ends
 pub mod Answers
 pub mod Numbers
 pub mod Choices

@@ -4,6 +4,8 @@ use Rattle.std.specs.List.{All, AllWithin, enumerate_from, range_with_len}
 use Rattle.gq_number.specs.Number.{Number, whole}
 use Rattle.gq_number.specs.Order.{◌≤ℚ◌, ◌<ℚ◌}
 use Rattle.gq_number.specs.Sums.{scaled, added}
+use Rattle.lp_core.specs.declared.answer.End.{End}
+use Rattle.lp_core.specs.declared.answer.End.TheVariants.{Optimal, Infeasible, Unbounded, Interrupted, Refused}
 use Rattle.lp_core.specs.declared.program.Sense.{Sense}
 use Rattle.lp_core.specs.declared.program.Sense.TheVariants as sense
 use Rattle.lp_core.specs.declared.program.Column.{Column}
@@ -17,6 +19,13 @@ use Rattle.lp_core.specs.DualBound.{reduced_cost, objective_costs, no_costs, dua
 abbrev pub Crosses : {F : Type 0} → (F → Number) → Option F → Option F → Type 0
 Crosses value (Some lower) (Some upper) = value upper <ℚ value lower
 Crosses value lower upper = ⊥
+
+-- the first of these columns whose bounds cross, if there is one: its bounds cross, and those of no column before it
+abbrev pub FirstCrossed : {F : Type 0} → (F → Number) → List (Column F) → Option ℕ → Type 0
+FirstCrossed {F} value columns (Some j) =
+    ((column : Column F) × (slice_get columns j ≡ Some column) × Crosses value column.lower column.upper)
+    × AllWithin (λ (column : Column F). ¬ (Crosses value column.lower column.upper)) columns 0 j
+FirstCrossed {F} value columns None = All (λ (column : Column F). ¬ (Crosses value column.lower column.upper)) columns
 
 -- what a direction may do with a sum that compares so with a right side
 abbrev pub KeepsSenseAlong : Sense → Number → Type 0
@@ -60,8 +69,7 @@ module _ {F : Type 0} (value : F → Number) (lp : Lp F) where
 
   -- Infeasible by a column: it is the first whose lower bound passes its upper one.
   pub record ProvesCrossed (j : ℕ) (duals : List Number) : Type 0 where
-    pub crossed : (column : Column F) × (slice_get lp.columns j ≡ Some column) × Crosses value column.lower column.upper
-    pub first : AllWithin (λ (column : Column F). ¬ (Crosses value column.lower column.upper)) lp.columns 0 j
+    pub first : FirstCrossed value lp.columns (Some j)
     pub duals_zero : duals ≡ replicate (length lp.rows) (whole (pos 0))
 
   -- A ray: a direction along which bounds and rows stay kept and the objective becomes better.
@@ -77,6 +85,15 @@ module _ {F : Type 0} (value : F → Number) (lp : Lp F) where
     pub feasible : Feasible value lp levels
     pub rows : row_levels ≡ row_sums levels
     pub along : IsRay ray
+
+  -- An end is proved by the program's own rows and bounds; after an interruption it is proved that the point is feasible.
+  abbrev pub IsProved : End F → Type 0
+  IsProved (Optimal levels row_levels duals reduced) = ProvesOptimal (map value levels) (map value row_levels) (map value duals) (map value reduced)
+  IsProved (Infeasible duals None) = ProvesInfeasible (map value duals)
+  IsProved (Infeasible duals (Some j)) = ProvesCrossed j (map value duals)
+  IsProved (Unbounded levels row_levels ray) = ProvesUnbounded (map value levels) (map value row_levels) (map value ray)
+  IsProved (Interrupted phase levels row_levels) = Feasible value lp (map value levels)
+  IsProved (Refused step) = ⊥
 
 -- the point as far along the ray as t says
 abbrev pub further : List Number → Number → List Number → List Number

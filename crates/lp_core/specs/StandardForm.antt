@@ -11,6 +11,8 @@ use Rattle.lp_core.specs.declared.program.Row.{Row}
 use Rattle.lp_core.specs.declared.program.Lp.{Lp}
 use Rattle.lp_core.specs.Sums.{number_of}
 use Rattle.lp_core.specs.Feasible.{bound_value}
+-- passed on: how many rows of the standard form a row and a column have
+pub use Rattle.lp_core.specs.WellFormed.{rows_of_sense, rows_of_bounds}
 
 -- How a column is told by variables that are at least 0: its lower bound plus one, its upper bound less one, or the
 -- difference of two.
@@ -157,13 +159,6 @@ pub record Last : Type 0 where
 abbrev pub multiplier : ℕ → List Number → ℕ → Number
 multiplier variables costs r = neg_ℚ (number_of costs (variables + 1 + r))
 
--- how many rows of the standard form a row has
-abbrev pub count_by_sense : Sense → ℕ
-count_by_sense sense.E = 2
-count_by_sense sense.L = 1
-count_by_sense sense.G = 1
-count_by_sense sense.N = 0
-
 -- what a row's multipliers make of its dual; r is the place of its first row in the standard form
 abbrev pub dual_by_sense : Sense → (ℕ → Number) → ℕ → Number
 dual_by_sense sense.E p r = p r -ℚ p (r + 1)
@@ -174,7 +169,7 @@ dual_by_sense sense.N p r = whole (pos 0)
 -- the duals of rows of which the first has its first row at place r
 abbrev pub duals_from : {F : Type 0} → (ℕ → Number) → ℕ → List (Row F) → List Number
 duals_from p r [] = []
-duals_from p r (row ∷ rows) = dual_by_sense row.sense p r ∷ duals_from p (r + count_by_sense row.sense) rows
+duals_from p r (row ∷ rows) = dual_by_sense row.sense p r ∷ duals_from p (r + rows_of_sense row.sense) rows
 
 -- the reduced cost of a column: v is its first variable, r the place of its row in the standard form, if it has one
 abbrev pub reduced_by_bounds : {B : Type 0} → List Number → (ℕ → Number) → ℕ → ℕ → Option B → Option B → Number
@@ -183,17 +178,12 @@ reduced_by_bounds costs p v r (Some lower) None = number_of costs v
 reduced_by_bounds costs p v r None (Some upper) = neg_ℚ (number_of costs v)
 reduced_by_bounds costs p v r None None = whole (pos 0)
 
--- 1 for a column with a row of its own in the standard form, else 0
-abbrev pub count_by_bounds : {B : Type 0} → Option B → Option B → ℕ
-count_by_bounds (Some lower) (Some upper) = 1
-count_by_bounds lower upper = 0
-
 -- the reduced costs of columns, given with the numbers of their first variables; r is the place of the next column's row
 abbrev pub reduced_from : {F : Type 0} → List Number → (ℕ → Number) → ℕ → List (ℕ × Shift) → List (Column F) → List Number
 reduced_from costs p r [] columns = []
 reduced_from costs p r (s ∷ shifts) [] = []
 reduced_from costs p r (s ∷ shifts) (column ∷ columns) =
-    reduced_by_bounds costs p s.0 r column.lower column.upper ∷ reduced_from costs p (r + count_by_bounds column.lower column.upper) shifts columns
+    reduced_by_bounds costs p s.0 r column.lower column.upper ∷ reduced_from costs p (r + rows_of_bounds column.lower column.upper) shifts columns
 
 -- the change of a column along a ray
 abbrev pub changed_back : ℕ × Shift → List Number → Number
@@ -213,7 +203,7 @@ module _ {F : Type 0} (value : F → Number) (lp : Lp F) (last : Last) where
   -- the reduced cost of each column of an optimum; the columns' own rows come after those of the program's rows
   abbrev pub reduced_back : List Number
   reduced_back =
-      map (directed lp.maximize) (reduced_from last.costs (multiplier (variables_of value lp) last.costs) (sum_by (λ (row : Row F). count_by_sense row.sense) lp.rows) (columns_of value lp) lp.columns)
+      map (directed lp.maximize) (reduced_from last.costs (multiplier (variables_of value lp) last.costs) (sum_by (λ (row : Row F). rows_of_sense row.sense) lp.rows) (columns_of value lp) lp.columns)
 
   -- the factor of each row where no point is feasible
   abbrev pub farkas_back : List Number

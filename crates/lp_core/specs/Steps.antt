@@ -5,6 +5,8 @@ use Rattle.std.specs.Ordering.{is_gt}
 use Rattle.gq_number.specs.Number.{Number, whole, ◌+ℚ◌, ◌-ℚ◌, ◌*ℚ◌, ◌/ℚ◌, neg_ℚ}
 use Rattle.gq_number.specs.Order.{number_cmp}
 use Rattle.gq_field.specs.Fits.{fits, sum_fits}
+use Rattle.lp_core.specs.declared.answer.EndKind.{EndKind}
+use Rattle.lp_core.specs.declared.answer.EndKind.TheVariants as kind
 use Rattle.lp_core.specs.declared.answer.StepName.{StepName}
 use Rattle.lp_core.specs.declared.answer.StepName.TheVariants.{Standard as StandardStep, Ratio, Exchange, Recover, Check}
 use Rattle.lp_core.specs.declared.program.Sense.{Sense}
@@ -14,7 +16,7 @@ use Rattle.lp_core.specs.declared.program.Row.{Row}
 use Rattle.lp_core.specs.declared.program.Lp.{Lp}
 use Rattle.lp_core.specs.Sums.{number_of}
 use Rattle.lp_core.specs.Feasible.{bound_value}
-use Rattle.lp_core.specs.StandardForm.{Shift, from_lower, from_upper, free, base, column_at, columns_of, variables_of, count_by_sense, count_by_bounds, multiplier, Last, levels_back}
+use Rattle.lp_core.specs.StandardForm.{Shift, from_lower, from_upper, free, base, column_at, columns_of, variables_of, rows_of_sense, rows_of_bounds, multiplier, Last, levels_back}
 use Rattle.lp_core.specs.Dictionary.{Dictionary, constant_at, entry_at, divided}
 
 -- A step that is due, and whether it fits. A step with a factor 0 and a sum with 0 always fit, so that a list may have them or
@@ -66,8 +68,8 @@ row_steps value limit columns r right (e ∷ entries) =
 abbrev pub rows_steps : {F : Type 0} → (F → Number) → ℕ → List (ℕ × Shift) → ℕ → List (Row F) → List Due
 rows_steps value limit columns r [] = []
 rows_steps value limit columns r (row ∷ rows) =
-    (if count_by_sense row.sense == 0 then [] else row_steps value limit columns r (value row.right) row.entries)
-    ++ rows_steps value limit columns (r + count_by_sense row.sense) rows
+    (if rows_of_sense row.sense == 0 then [] else row_steps value limit columns r (value row.right) row.entries)
+    ++ rows_steps value limit columns (r + rows_of_sense row.sense) rows
 
 -- the step on a column with two bounds: their difference
 abbrev pub bound_step : ℕ → ℕ → ℕ → Option Number → Option Number → List Due
@@ -79,12 +81,12 @@ abbrev pub bounds_steps : {F : Type 0} → (F → Number) → ℕ → ℕ → �
 bounds_steps value limit r j [] = []
 bounds_steps value limit r j (column ∷ columns) =
     bound_step limit r j (bound_value value column.lower) (bound_value value column.upper)
-    ++ bounds_steps value limit (r + count_by_bounds column.lower column.upper) (j + 1) columns
+    ++ bounds_steps value limit (r + rows_of_bounds column.lower column.upper) (j + 1) columns
 
 -- how many rows of the standard form these rows have
 abbrev pub count_of_rows : {F : Type 0} → List (Row F) → ℕ
 count_of_rows [] = 0
-count_of_rows (row ∷ rows) = count_by_sense row.sense + count_of_rows rows
+count_of_rows (row ∷ rows) = rows_of_sense row.sense + count_of_rows rows
 
 -- the steps of the standard form
 abbrev pub standard_steps : {F : Type 0} → (F → Number) → ℕ → Lp F → List Due
@@ -135,16 +137,16 @@ row_level_steps value limit i e s (p ∷ entries) x =
 abbrev pub dual_steps : {F : Type 0} → ℕ → (ℕ → Number) → ℕ → ℕ → List (Row F) → List Due
 dual_steps limit p i r [] = []
 dual_steps limit p i r (row ∷ rows) =
-    (if count_by_sense row.sense == 2 then (Recover 2 i 0 1, difference_fits limit (p r) (p (r + 1))) ∷ [] else [])
-    ++ dual_steps limit p (i + 1) (r + count_by_sense row.sense) rows
+    (if rows_of_sense row.sense == 2 then (Recover 2 i 0 1, difference_fits limit (p r) (p (r + 1))) ∷ [] else [])
+    ++ dual_steps limit p (i + 1) (r + rows_of_sense row.sense) rows
 
 -- the steps on the reduced costs of columns from place j on: the sum for a column with a row of its own, which is at place r
 abbrev pub reduced_steps : {F : Type 0} → ℕ → List Number → (ℕ → Number) → ℕ → ℕ → List (ℕ × Shift) → List (Column F) → List Due
 reduced_steps limit costs p j r [] columns = []
 reduced_steps limit costs p j r (s ∷ shifts) [] = []
 reduced_steps limit costs p j r (s ∷ shifts) (column ∷ columns) =
-    (if count_by_bounds column.lower column.upper == 1 then (Recover 3 j 0 1, sum_fits limit (number_of costs s.0) (p r)) ∷ [] else [])
-    ++ reduced_steps limit costs p (j + 1) (r + count_by_bounds column.lower column.upper) shifts columns
+    (if rows_of_bounds column.lower column.upper == 1 then (Recover 3 j 0 1, sum_fits limit (number_of costs s.0) (p r)) ∷ [] else [])
+    ++ reduced_steps limit costs p (j + 1) (r + rows_of_bounds column.lower column.upper) shifts columns
 
 -- the step on the change of a column along a ray: the difference for a free one
 abbrev pub ray_step : ℕ → ℕ → ℕ × Shift → List Number → List Due
@@ -182,6 +184,13 @@ module _ {F : Type 0} (value : F → Number) (limit : ℕ) (lp : Lp F) (last : L
 
   abbrev pub interrupted_steps : List Due
   interrupted_steps = levels_steps ++ row_levels_steps
+
+-- the steps of the way back of each kind of end, in their order
+abbrev pub steps_back : {F : Type 0} → (F → Number) → ℕ → Lp F → EndKind → Last → List Due
+steps_back value limit lp kind.Optimal last = optimal_steps value limit lp last
+steps_back value limit lp kind.Infeasible last = infeasible_steps value limit lp last
+steps_back value limit lp kind.Unbounded last = unbounded_steps value limit lp last
+steps_back value limit lp kind.Interrupted last = interrupted_steps value limit lp last
 
 -- ---- a check of a point: first its bounds, without a step; then row by row the sum, entry by entry; steps count from 0
 

@@ -69,8 +69,20 @@ pub enum StepName {
     },
 }
 
+/// How a search ends at a last dictionary. Each kind has its condition, the steps of its way back, what that way tells and what proves it.
+#[derive(Clone, Copy, Debug, PartialEq, Eq)]
+pub enum EndKind {
+    /// No variable improves the objective, and variable 0 is not basic.
+    Optimal,
+    /// No variable improves, and variable 0 is basic: it is above 0.
+    Infeasible,
+    /// A variable improves the objective, and no row limits it.
+    Unbounded,
+    /// The search was broken off in phase 2, though a variable improves.
+    Interrupted,
+}
+
 /// How the search for an answer ended.
-#[derive(Drop)]
 pub enum End<F> {
     /// No feasible point is better.
     Optimal {
@@ -115,11 +127,46 @@ pub enum End<F> {
     },
 }
 
+// Written out, so that it is proved here alone, and not in each crate that lets one go.
+impl<F: Drop> Drop for End<F> {
+    fn drop(self) {
+        match self {
+            Self::Optimal {
+                levels: _,
+                row_levels: _,
+                duals: _,
+                reduced: _,
+            } => {}
+            Self::Infeasible {
+                duals: _,
+                crossed: _,
+            } => {}
+            Self::Unbounded {
+                levels: _,
+                row_levels: _,
+                ray: _,
+            } => {}
+            Self::Interrupted {
+                phase: _,
+                levels: _,
+                row_levels: _,
+            } => {}
+            Self::Refused { step: _ } => {}
+        }
+    }
+}
+
 /// The answer of a linear program: the pivots that were taken, in order, and how they ended.
-#[derive(Drop)]
 pub struct Answer<F> {
     /// The pivots.
     pub pivots: Sequence<Pivot>,
     /// The end.
     pub end: End<F>,
+}
+
+// Written out, so that it is proved here alone, and not in each crate that lets one go.
+impl<F: Drop> Drop for Answer<F> {
+    fn drop(self) {
+        let Self { pivots: _, end: _ } = self;
+    }
 }

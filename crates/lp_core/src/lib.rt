@@ -9,7 +9,7 @@ mod program;
 mod sequence;
 mod shape;
 
-pub use answer::{Answer, End, Pivot, Rule, StepName};
+pub use answer::{Answer, End, EndKind, Pivot, Rule, StepName};
 pub use feasibility::feasible_at;
 pub use laws::{crossed_bounds, farkas, unbounded_ray, weak_duality};
 pub use program::{Column, Lp, Row, Sense};

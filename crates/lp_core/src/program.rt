@@ -16,7 +16,6 @@ pub enum Sense {
 }
 
 /// A column: an element of a variable with its bounds, each of which may be none.
-#[derive(Drop)]
 pub struct Column<F> {
     /// The element.
     pub key: Key,
@@ -26,10 +25,20 @@ pub struct Column<F> {
     pub upper: Option<F>,
 }
 
+// Written out, so that it is proved here alone, and not in each crate that lets one go.
+impl<F: Drop> Drop for Column<F> {
+    fn drop(self) {
+        let Self {
+            key: _,
+            lower: _,
+            upper: _,
+        } = self;
+    }
+}
+
 /// A row: an element of an equation, with its coefficients and its right side.
 ///
 /// `supply.. x + 2*y =l= 9;` is a row of sense L with the right side 9 and two entries.
-#[derive(Drop)]
 pub struct Row<F> {
     /// The element.
     pub key: Key,
@@ -41,8 +50,19 @@ pub struct Row<F> {
     pub entries: Sequence<(u32, F)>,
 }
 
+// Written out, so that it is proved here alone, and not in each crate that lets one go.
+impl<F: Drop> Drop for Row<F> {
+    fn drop(self) {
+        let Self {
+            key: _,
+            sense: _,
+            right: _,
+            entries: _,
+        } = self;
+    }
+}
+
 /// A linear program: the objective is the value of one of the columns, to be greatest or least.
-#[derive(Drop)]
 pub struct Lp<F> {
     /// The columns.
     pub columns: Sequence<Column<F>>,
@@ -52,4 +72,16 @@ pub struct Lp<F> {
     pub objective: u32,
     /// Whether the objective is to be greatest; otherwise least.
     pub maximize: bool,
+}
+
+// Written out, so that it is proved here alone, and not in each crate that lets one go.
+impl<F: Drop> Drop for Lp<F> {
+    fn drop(self) {
+        let Self {
+            columns: _,
+            rows: _,
+            objective: _,
+            maximize: _,
+        } = self;
+    }
 }

@@ -6,7 +6,7 @@ use Rattle.std.proofs.lemmas.List.{length-append, append_assoc}
 use Rattle.gq_number.specs.Number.{Number, whole}
 use Rattle.lp_core.specs.declared.answer.Pivot.{Pivot}
 use Rattle.lp_core.specs.Dictionary.{Dictionary, constant_at, IsLegal, exchanged}
-use Rattle.lp_core.specs.Answers.{IsPhase}
+use Rattle.lp_core.specs.Ends.{IsPhase}
 use Rattle.lp_core.specs.Choices.{leaving_row, after_pivot, reached, AllAlong}
 use Rattle.lp_core.specs.LargestCoefficient.{IsOfPhase, StandsStill, HasTurned}
 use Rattle.lp_exact.specs.Pivots.{IsProper}

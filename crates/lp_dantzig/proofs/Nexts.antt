@@ -5,7 +5,7 @@ use Rattle.gq_number.proofs.Order.{≤ℚ_antisymm}
 use Rattle.lp_core.specs.declared.answer.Pivot.{Pivot}
 use Rattle.lp_core.specs.declared.answer.Rule.TheVariants.{Bland}
 use Rattle.lp_core.specs.Dictionary.{Dictionary, entry_at, Improves}
-use Rattle.lp_core.specs.Answers.{IsChosen}
+use Rattle.lp_core.specs.Pivots.{IsChosen}
 use Rattle.lp_core.specs.LargestCoefficient.{HasGreatest, HasTurned, IsNext}
 use Rattle.lp_exact.proofs.Improving.{priced_there}
 

@@ -5,7 +5,7 @@ use Rattle.gq_number.specs.Number.{whole}
 use Rattle.gq_number.proofs.Order.{<ℚ_irrefl, <ℚ-≤ℚ_trans, <ℚ_trans}
 use Rattle.lp_core.specs.declared.answer.Pivot.{Pivot}
 use Rattle.lp_core.specs.Dictionary.{Dictionary, constant_at, InPhaseOne, OpeningIsDue, IsOpening, IsLegal, exchanged}
-use Rattle.lp_core.specs.Answers.{IsPhase}
+use Rattle.lp_core.specs.Ends.{IsPhase}
 use Rattle.lp_exact.specs.Pivots.{IsProper}
 use Rattle.lp_exact.proofs.Kept.{contains_get, index_get}
 use Rattle.lp_exact.proofs.Improving.{found_or_not}

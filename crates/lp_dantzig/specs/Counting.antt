@@ -2,7 +2,7 @@
 use Rattle.std.specs.Prelude.{◌≡◌, ◌⊎◌, ℕ, ◌+◌, ◌≤◌, nat_lt, Bool, List, ◌++◌, length, if◌then◌else◌}
 use Rattle.lp_core.specs.declared.answer.Pivot.{Pivot}
 use Rattle.lp_core.specs.Dictionary.{Dictionary}
-use Rattle.lp_core.specs.Answers.{IsPhase}
+use Rattle.lp_core.specs.Ends.{IsPhase}
 use Rattle.lp_core.specs.Choices.{reached, AllAlong}
 use Rattle.lp_core.specs.LargestCoefficient.{StandsStill, HasTurned}
 use Rattle.lp_dantzig.specs.declared.largest.Largest.{Largest}

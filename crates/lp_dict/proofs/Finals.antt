@@ -7,7 +7,7 @@ use Rattle.gq_number.specs.Number.{Number, whole, neg_ℚ}
 use Rattle.gq_number.proofs.Ring.{neg-zero}
 use Rattle.lp_core.specs.Sums.{number_of}
 use Rattle.lp_core.specs.Dictionary.{Dictionary, entry_at, IsPriced}
-use Rattle.lp_core.specs.Answers.{row_of_basic, value_by_row, change_by_row, cost_by_row, priced_row, last_of, last_along}
+use Rattle.lp_core.specs.Pivots.{row_of_basic, value_by_row, change_by_row, cost_by_row, priced_row, last_of, last_along}
 use Rattle.lp_exact.specs.Pivots.{IsProper}
 use Rattle.lp_exact.specs.Reading.{AreNumbers, AreChanges}
 use Rattle.lp_exact.proofs.Kept.{get_within, contains_get}

@@ -2,9 +2,10 @@
 ghost use Rattle.std.specs.Prelude.{◌≡◌, ◌<◌, ◌≤◌, ◌+◌, ◌-◌, ◌^◌, ◌↔◌, ℕ, pos, min, List, map, slice_get, IsTrue, Some, Contains, MatchOption, IfOk, IfErr, length};
 ghost use Rattle.gq_number.specs.Number.{Number, whole};
 ghost use Rattle.lp_core.specs.Sums.{number_of};
+ghost use Rattle.lp_core.specs.Pivots.{last_of};
 ghost use Rattle.lp_core.specs.Dictionary.{constant_at, entry_at, OpeningIsDue, IsPriced, Improves, IsOpening, IsBland, IsLegal, Meets, first_dictionary, exchanged};
 ghost use Rattle.lp_core.specs.Steps.{AllFit, ratio_steps, exchange_steps};
-ghost use Rattle.lp_core.specs.Answers.{IsPhase, last_of};
+ghost use Rattle.lp_core.specs.Ends.{IsPhase};
 ghost use Rattle.lp_core.specs.LargestCoefficient.{HasGreatest};
 ghost use Rattle.lp_core.specs.declared.program.Lp.{Lp};
 ghost use Rattle.lp_core.specs.WellFormed.{IsWellFormed};
@@ -21,9 +22,9 @@ use crate::number::number_at;
 use crate::turning::{begun, pivoted};
 use crate::{last, reading};
 use gq_field::ExactField;
-use lp_core::{Pivot, Sequence};
+use lp_core::{EndKind, Pivot, Sequence};
 use lp_exact::{ExactDict, is_above_zero};
-use lp_std::{Final, FinalKind, Standard, Stop};
+use lp_std::{Final, Standard, Stop};
 use std::alloc::{AllocError, Global};
 use std::marker::Model;
 
@@ -305,19 +306,19 @@ impl<F: ExactField> Dict<F> {
     }
 
     /// How the walk over dictionaries ends here.
-    fn kind(&self, enter: Option<u32>) -> FinalKind
+    fn kind(&self, enter: Option<u32>) -> EndKind
         requires { IsDone (dictionary F.value self.now) enter }
         ensures { EndsBy (dictionary F.value self.now) enter result }
     {
         if enter.is_some() {
-            return FinalKind::Unbounded;
+            return EndKind::Unbounded;
         }
         if self.is_basic(0) {
-            return FinalKind::Infeasible;
+            return EndKind::Infeasible;
         }
         match self.entering() {
-            Some(_) => FinalKind::Interrupted,
-            None => FinalKind::Optimal,
+            Some(_) => EndKind::Interrupted,
+            None => EndKind::Optimal,
         }
     }
 

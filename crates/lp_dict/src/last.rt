@@ -1,6 +1,6 @@
 //! What is read off a last dictionary whose rows are whole numbers.
 ghost use Rattle.std.specs.Prelude.{◌≡◌, ◌+◌, ◌≤◌, ◌<◌, map, length, Some, Contains, IfOk};
-ghost use Rattle.lp_core.specs.Answers.{last_of, last_along};
+ghost use Rattle.lp_core.specs.Pivots.{last_of, last_along};
 ghost use Rattle.lp_whole.specs.Whole.{dictionary as dictionary_of};
 ghost use Rattle.lp_dict.specs.Reading.{AreByVariable, AreOfRow};
 

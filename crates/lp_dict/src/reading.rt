@@ -2,7 +2,7 @@
 ghost use Rattle.std.specs.Prelude.{◌≡◌, ◌+◌, ◌≤◌, ◌<◌, ◌↔◌, ℕ, pos, length, slice_get, Some, Contains, IsTrue};
 ghost use Rattle.gq_number.specs.Number.{whole};
 ghost use Rattle.lp_core.specs.Dictionary.{constant_at, entry_at, IsPriced};
-ghost use Rattle.lp_core.specs.Answers.{priced_row};
+ghost use Rattle.lp_core.specs.Pivots.{priced_row};
 ghost use Rattle.lp_exact.specs.Rows.{IsRow, number_in};
 ghost use Rattle.lp_exact.specs.Tableau as exact;
 ghost use Rattle.lp_exact.specs.Tableau.{IsPlace};

@@ -8,10 +8,10 @@ use Rattle.gq_number.proofs.Ring.{neg-zero}
 use Rattle.lp_core.specs.Sums.{number_of}
 use Rattle.lp_core.specs.StandardForm.{Last}
 use Rattle.lp_core.specs.Dictionary.{Dictionary, entry_at, InPhaseOne, OpeningIsDue}
-use Rattle.lp_core.specs.Answers.{row_of_basic, value_by_row, change_by_row, cost_by_row, priced_row, last_of, last_along, NothingImproves}
-use Rattle.lp_std.specs.declared.types.FinalKind.{FinalKind}
-use Rattle.lp_std.specs.declared.types.FinalKind.TheVariants as kind
-use Rattle.lp_std.specs.Last.{EndsAt}
+use Rattle.lp_core.specs.Pivots.{row_of_basic, value_by_row, change_by_row, cost_by_row, priced_row, last_of, last_along, NothingImproves}
+use Rattle.lp_core.specs.declared.answer.EndKind.{EndKind}
+use Rattle.lp_core.specs.declared.answer.EndKind.TheVariants as kind
+use Rattle.lp_std.specs.Last.{IsReadAt}
 use Rattle.lp_exact.specs.Rows.{number_in}
 use Rattle.lp_exact.specs.Lines.{line}
 use Rattle.lp_exact.specs.Tableau.{Tableau, dictionary, IsTableau}
@@ -122,7 +122,7 @@ same_last d values costs changes v c none = ap₂ (λ x y. last_from x y changes
 same_along : (d : Dictionary) (q : ℕ) (values costs changes : List Number) → values ≡ (last_of d).values → costs ≡ (last_of d).costs → changes ≡ (last_along d q).changes → last_from values costs changes ≡ last_along d q
 same_along d q values costs changes v c ray = ap₂ (λ x y. last_from x y changes) v c ∙ ap (last_from (last_of d).values (last_of d).costs) ray
 
-pub ends_at : (d : Dictionary) (enter : Option ℕ) (k : FinalKind) (values costs changes : List Number) → EndsBy d enter k → values ≡ (last_of d).values → costs ≡ (last_of d).costs → RayIs d enter changes → EndsAt d k (record { values = values; costs = costs; changes = changes })
+pub ends_at : (d : Dictionary) (enter : Option ℕ) (k : EndKind) (values costs changes : List Number) → EndsBy d enter k → values ≡ (last_of d).values → costs ≡ (last_of d).costs → RayIs d enter changes → IsReadAt d k (record { values = values; costs = costs; changes = changes })
 ends_at d enter kind.Optimal values costs changes ends v c ray =
     (ends.0, ends.1, same_last d values costs changes v c (subst (λ e. RayIs d e changes) ends.2 ray))
 ends_at d enter kind.Infeasible values costs changes ends v c ray =

@@ -2,11 +2,12 @@
 use Rattle.std.specs.Prelude.{◌≡◌, ◌≢◌, ◌⊎◌, ℕ, ◌+◌, ◌<◌, pos, List, [], map, length, take, slice_get, slice_index_or, Option, Some, None}
 use Rattle.gq_number.specs.Number.{Number, whole, neg_ℚ}
 use Rattle.lp_core.specs.declared.answer.Rule.TheVariants.{Legal}
+use Rattle.lp_core.specs.Ends.{IsUnlimited}
 use Rattle.lp_core.specs.Sums.{number_of}
 use Rattle.lp_core.specs.Dictionary.{Dictionary, InPhaseOne, OpeningIsDue, Improves}
-use Rattle.lp_core.specs.Answers.{NothingImproves, IsUnlimited, last_along}
-use Rattle.lp_std.specs.declared.types.FinalKind.{FinalKind}
-use Rattle.lp_std.specs.declared.types.FinalKind.TheVariants as kind
+use Rattle.lp_core.specs.Pivots.{NothingImproves, last_along}
+use Rattle.lp_core.specs.declared.answer.EndKind.{EndKind}
+use Rattle.lp_core.specs.declared.answer.EndKind.TheVariants as kind
 use Rattle.lp_exact.specs.declared.row.Entry.{Entry}
 use Rattle.lp_exact.specs.Rows.{number_in}
 
@@ -17,7 +18,7 @@ IsDone d None = NothingImproves d ⊎ (¬ (InPhaseOne d) × ¬ (OpeningIsDue d) 
 IsDone d (Some q) = ¬ (InPhaseOne d) × IsUnlimited Legal d q
 
 -- how the walk ends
-abbrev pub EndsBy : Dictionary → Option ℕ → FinalKind → Type 0
+abbrev pub EndsBy : Dictionary → Option ℕ → EndKind → Type 0
 EndsBy d enter kind.Optimal = ¬ (InPhaseOne d) × NothingImproves d × (enter ≡ None)
 EndsBy d enter kind.Infeasible = InPhaseOne d × NothingImproves d × (enter ≡ None)
 EndsBy d enter kind.Unbounded = ¬ (InPhaseOne d) × ((q : ℕ) × IsUnlimited Legal d q × (enter ≡ Some q))

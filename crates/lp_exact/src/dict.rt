@@ -4,7 +4,7 @@ ghost use Rattle.gq_number.specs.Number.{Number, whole};
 ghost use Rattle.lp_core.specs.Sums.{number_of};
 ghost use Rattle.lp_core.specs.Dictionary.{constant_at, entry_at, OpeningIsDue, IsPriced, Improves, IsOpening, IsBland, IsLegal, Meets, first_dictionary, exchanged};
 ghost use Rattle.lp_core.specs.Steps.{AllFit, ratio_steps, exchange_steps};
-ghost use Rattle.lp_core.specs.Answers.{last_of};
+ghost use Rattle.lp_core.specs.Pivots.{last_of};
 ghost use Rattle.lp_core.specs.LargestCoefficient.{HasGreatest};
 ghost use Rattle.lp_core.specs.declared.program.Lp.{Lp};
 ghost use Rattle.lp_core.specs.WellFormed.{IsWellFormed};

@@ -17,11 +17,21 @@ use std::marker::Model;
 ///
 /// The left side of `cost.. z - 2*x =e= 5;` is the form with the constant 0, the number 1 at `z` and -2 at `x`. A key
 /// that is not there has the number 0.
-#[derive(Drop)]
 pub struct Form<F: ExactField> {
     constant: F,
     keys: Vec<Key>,
     numbers: Vec<F>,
+}
+
+// Written out, so that it is proved here alone, and not in each crate that lets one go.
+impl<F: ExactField> Drop for Form<F> {
+    fn drop(self) {
+        let Self {
+            constant: _,
+            keys: _,
+            numbers: _,
+        } = self;
+    }
 }
 
 impl<F: ExactField> Model for Form<F> {

@@ -7,12 +7,22 @@ use std::alloc::{AllocError, Global};
 /// An element of a symbol, such as `x(seattle,chicago)`: the symbol by its number, and the tuple of labels.
 ///
 /// Keys are ordered by their symbols, and those of one symbol by their tuples.
-#[derive(PartialEq, Eq, PartialOrd, Ord, Drop)]
+#[derive(PartialEq, Eq, PartialOrd, Ord)]
 pub struct Key {
     /// The symbol, by its number.
     pub symbol: u32,
     /// The labels of the element, of which there are none for a symbol without indices.
     pub tuple: Tuple,
+}
+
+// Written out, so that it is proved here alone, and not in each crate that lets one go.
+impl Drop for Key {
+    fn drop(self) {
+        let Self {
+            symbol: _,
+            tuple: _,
+        } = self;
+    }
 }
 
 impl Key {

@@ -1,15 +1,22 @@
 -- What the count of pivots says of answers.
-use Rattle.std.proofs.Common.{◌≡◌, ℕ, zero, suc, ◌*◌, ◌<◌, inl, inr, List, [], length, Some, None, sym, subst, arith}
+use Rattle.std.proofs.Common.{◌≡◌, ℕ, zero, suc, ◌*◌, ◌<◌, inl, inr, List, [], length, sym, subst, arith}
 use Rattle.std.specs.Prelude.{◌^◌}
 use Rattle.std.proofs.Math.Nat.{pow-suc}
 use Rattle.gq_number.specs.Number.{Number}
 use Rattle.lp_core.specs.declared.answer.Answer.{Answer}
 use Rattle.lp_core.specs.declared.answer.End.{End}
+use Rattle.lp_core.specs.declared.answer.EndKind.{EndKind}
+use Rattle.lp_core.specs.declared.answer.EndKind.TheVariants as kind
+use Rattle.lp_core.specs.declared.answer.Pivot.{Pivot}
+use Rattle.lp_core.specs.declared.answer.StepName.{StepName}
 use Rattle.lp_core.specs.declared.answer.End.TheVariants.{Optimal, Infeasible, Unbounded, Interrupted, Refused}
 use Rattle.lp_core.specs.declared.answer.Rule.TheVariants.{Bland}
 use Rattle.lp_core.specs.declared.program.Lp.{Lp}
+use Rattle.lp_core.specs.StandardForm.{Last}
 use Rattle.lp_core.specs.Dictionary.{Dictionary}
-use Rattle.lp_core.specs.Answers.{IsAnswer, AnswersCrossed, AnswersStopped, EndsSo}
+use Rattle.lp_core.specs.Pivots.{IsChosen, ByRule}
+use Rattle.lp_core.specs.Ends.{IsGoingOnBy, EndsAt, LeadsTo, EndsSoBy}
+use Rattle.lp_core.specs.Answers.{IsAnswer, EndsCrossed}
 use Rattle.lp_core.specs.WellFormed.{IsWellFormed}
 use Rattle.lp_nocycle.specs.PivotCount.{variable_count, IsInterrupted, HasFewPivots, ComesToEnd}
 use Rattle.lp_nocycle.proofs.Following.{few_pivots}
@@ -25,44 +32,44 @@ no_pivots : {X : Type 0} (xs : List X) (w : ℕ) → xs ≡ [] → length xs < 2
 no_pivots {X} xs w none = subst (λ (ys : List X). length ys < 2 * 2 ^ w) (sym none) (two_power_above w)
 
 module _ {F : Type 0} (value : F → Number) (limit : ℕ) (lp : Lp F) (iterlim : ℕ) where
-  not_crossed : (end : End F) → IsInterrupted end → ¬ (AnswersCrossed value limit lp iterlim Bland end)
-  not_crossed (Optimal levels row_levels duals reduced) is h = is
-  not_crossed (Infeasible duals None) is h = is
-  not_crossed (Infeasible duals (Some j)) is h = is
-  not_crossed (Unbounded levels row_levels ray) is h = is
-  not_crossed (Interrupted phase levels row_levels) is h = h
-  not_crossed (Refused step) is h = is
+  not_crossed : (end : End F) → IsInterrupted end → ¬ (EndsCrossed value lp end)
+  not_crossed end is h = subst IsInterrupted h.2 is
 
-  not_stopped : (end : End F) → IsInterrupted end → ¬ (AnswersStopped value limit lp iterlim Bland end)
-  not_stopped (Optimal levels row_levels duals reduced) is h = is
-  not_stopped (Infeasible duals crossed) is h = is
-  not_stopped (Unbounded levels row_levels ray) is h = is
-  not_stopped (Interrupted phase levels row_levels) is h = h
-  not_stopped (Refused step) is h = is
+  not_refused : (end : End F) (step : StepName) → end ≡ Refused step → IsInterrupted end → ⊥
+  not_refused end step refused is = subst IsInterrupted refused is
 
-  at_the_limit : (pivots : ℕ) (d : Dictionary) (end : End F) → IsInterrupted end → EndsSo value limit lp iterlim Bland pivots d end → pivots ≡ iterlim
-  at_the_limit pivots d (Optimal levels row_levels duals reduced) is ends = absurd is
-  at_the_limit pivots d (Infeasible duals None) is ends = absurd is
-  at_the_limit pivots d (Infeasible duals (Some j)) is ends = absurd is
-  at_the_limit pivots d (Unbounded levels row_levels ray) is ends = absurd is
-  at_the_limit pivots d (Interrupted phase levels row_levels) is ends = ends.0
-  at_the_limit pivots d (Refused step) is ends = absurd is
+  -- of a kind of end it is that one alone which an interrupted search tells
+  at_kind : (Chosen : ℕ → Type 0) (pivots : ℕ) (d : Dictionary) (how : EndKind) (last : Last) (end : End F) → IsInterrupted end → EndsAt Chosen ((pivots ≡ iterlim) × IsGoingOnBy Chosen d) d how last → LeadsTo value lp how last end → pivots ≡ iterlim
+  at_kind Chosen pivots d kind.Interrupted last end is at leads = at.2.0
+  at_kind Chosen pivots d kind.Optimal last (Interrupted phase levels row_levels) is at leads = absurd leads
+  at_kind Chosen pivots d kind.Infeasible last (Interrupted phase levels row_levels) is at leads = absurd leads
+  at_kind Chosen pivots d kind.Unbounded last (Interrupted phase levels row_levels) is at leads = absurd leads
+  at_kind Chosen pivots d how last (Optimal levels row_levels duals reduced) is at leads = absurd is
+  at_kind Chosen pivots d how last (Infeasible duals crossed) is at leads = absurd is
+  at_kind Chosen pivots d how last (Unbounded levels row_levels ray) is at leads = absurd is
+  at_kind Chosen pivots d how last (Refused step) is at leads = absurd is
+
+  at_the_limit : (Allowed : Pivot → ℕ → Type 0) (Chosen : ℕ → Type 0) (pivots : ℕ) (d : Dictionary) (end : End F) → IsInterrupted end → EndsSoBy value limit lp iterlim Allowed Chosen pivots d end → pivots ≡ iterlim
+  at_the_limit Allowed Chosen pivots d end is (inl (how, last, at, inl told)) = at_kind Chosen pivots d how last end is at told.0
+  at_the_limit Allowed Chosen pivots d end is (inl (how, last, at, inr refused)) = absurd (not_refused end refused.0 refused.1 is)
+  at_the_limit Allowed Chosen pivots d end is (inr (inl most)) = most.0
+  at_the_limit Allowed Chosen pivots d end is (inr (inr stops)) = absurd (not_refused end stops.1.0 stops.1.1 is)
 
   pub has_few : (answer : Answer F) → IsWellFormed value lp → IsAnswer value limit lp iterlim Bland answer → HasFewPivots value lp answer
   has_few answer formed answers =
       elim answers [
         | inl crossed ↦ no_pivots answer.pivots (variable_count value lp) crossed.0
         | inr (inl stopped) ↦ no_pivots answer.pivots (variable_count value lp) stopped.0
-        | inr (inr led) ↦ few_pivots value lp limit answer.pivots led.3.0 formed led.3.1
+        | inr (inr led) ↦ few_pivots value lp answer.pivots led.3.0 formed led.3.1.0
       ]
 
   pub comes_to_end : (answer : Answer F) → IsWellFormed value lp → IsAnswer value limit lp iterlim Bland answer → ComesToEnd value lp iterlim answer
   comes_to_end answer formed answers enough is =
       elim answers [
         | inl crossed ↦ not_crossed answer.end is crossed.1
-        | inr (inl stopped) ↦ not_stopped answer.end is stopped.2
+        | inr (inl stopped) ↦ not_refused answer.end stopped.1.1.0 stopped.1.1.1 is
         | inr (inr led) ↦
-            let few = few_pivots value lp limit answer.pivots led.3.0 formed led.3.1 in
-            let same = at_the_limit (length answer.pivots) led.3.0 answer.end is led.3.2 in
+            let few = few_pivots value lp answer.pivots led.3.0 formed led.3.1.0 in
+            let same = at_the_limit (ByRule Bland answer.pivots led.3.0) (IsChosen Bland led.3.0) (length answer.pivots) led.3.0 answer.end is led.3.2 in
             absurd (omega arith)
       ]

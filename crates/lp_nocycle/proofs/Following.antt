@@ -1,20 +1,21 @@
 -- From lists of pivots to runs, and back.
-use Rattle.std.proofs.Common.{◌≡◌, ◌≢◌, ℕ, zero, suc, ◌+◌, ◌-◌, ◌*◌, ◌<◌, ◌≤◌, inl, inr, List, [], ◌∷◌, length, refl, sym, ap, ◌∙◌, subst, arith}
+use Rattle.std.proofs.Common.{◌≡◌, ◌≢◌, ℕ, zero, suc, ◌+◌, ◌-◌, ◌*◌, ◌<◌, ◌≤◌, inl, inr, List, [], ◌∷◌, ◌++◌, length, refl, sym, ap, ◌∙◌, subst, arith}
 use Rattle.std.specs.Prelude.{◌^◌}
 use Rattle.std.proofs.lemmas.Bool.{cases_lt}
 use Rattle.gq_number.specs.Number.{Number}
 use Rattle.lp_core.specs.declared.answer.Pivot.{Pivot}
+use Rattle.lp_core.specs.Pivots.{ByRule, Leads}
 use Rattle.lp_core.specs.declared.answer.Rule.TheVariants.{Bland}
 use Rattle.lp_core.specs.declared.program.Lp.{Lp}
 use Rattle.lp_core.specs.StandardForm.{standard_form}
 use Rattle.lp_core.specs.Dictionary.{Dictionary, IsLegal, IsBland, first_dictionary, exchanged}
-use Rattle.lp_core.specs.Answers.{IsPhase, Leads}
+use Rattle.lp_core.specs.Ends.{IsPhase}
 use Rattle.lp_core.specs.WellFormed.{IsWellFormed}
 use Rattle.lp_exact.specs.Pivots.{IsProper}
 use Rattle.lp_exact.proofs.Proper.{proper_after}
 use Rattle.lp_exact.proofs.Begins.{first_proper}
 use Rattle.lp_exact.proofs.InForm.{form_in_order}
-use Rattle.lp_nocycle.specs.Cycling.{Follows, SameBasic, NoneRepeats}
+use Rattle.lp_nocycle.specs.Cycling.{SameBasic, NoneRepeats}
 use Rattle.lp_nocycle.specs.PivotCount.{twice_sets}
 use Rattle.lp_nocycle.proofs.Runs.{IsRun, proper_at}
 use Rattle.lp_nocycle.proofs.Fickle.{no_return}
@@ -23,83 +24,83 @@ use Rattle.lp_nocycle.proofs.Pigeons.{at_most, code, code_within, same_code}
 -- ---- the places of a list of pivots
 
 -- the dictionary before the j-th pivot
-dictionary_at : (pivots : List Pivot) (d last : Dictionary) → Follows d pivots last → ℕ → Dictionary
-dictionary_at [] d last f j = d
-dictionary_at (p ∷ pivots) d last f zero = d
-dictionary_at (p ∷ pivots) d last f (suc j) = dictionary_at pivots (exchanged d p.enter f.0) last f.2 j
+dictionary_at : (done pivots : List Pivot) (d last : Dictionary) → Leads (ByRule Bland) done d pivots last → ℕ → Dictionary
+dictionary_at done [] d last f j = d
+dictionary_at done (p ∷ pivots) d last f zero = d
+dictionary_at done (p ∷ pivots) d last f (suc j) = dictionary_at (done ++ p ∷ []) pivots (exchanged d p.enter f.0) last f.2 j
 
 pivot_at : List Pivot → ℕ → Pivot
 pivot_at [] j = record { enter = 0; leave = 0 }
 pivot_at (p ∷ pivots) zero = p
 pivot_at (p ∷ pivots) (suc j) = pivot_at pivots j
 
-row_at : (pivots : List Pivot) (d last : Dictionary) → Follows d pivots last → ℕ → ℕ
-row_at [] d last f j = 0
-row_at (p ∷ pivots) d last f zero = f.0
-row_at (p ∷ pivots) d last f (suc j) = row_at pivots (exchanged d p.enter f.0) last f.2 j
+row_at : (done pivots : List Pivot) (d last : Dictionary) → Leads (ByRule Bland) done d pivots last → ℕ → ℕ
+row_at done [] d last f j = 0
+row_at done (p ∷ pivots) d last f zero = f.0
+row_at done (p ∷ pivots) d last f (suc j) = row_at (done ++ p ∷ []) pivots (exchanged d p.enter f.0) last f.2 j
 
-first_at : (pivots : List Pivot) (d last : Dictionary) (f : Follows d pivots last) → dictionary_at pivots d last f 0 ≡ d
+first_at : (done pivots : List Pivot) (d last : Dictionary) (f : Leads (ByRule Bland) done d pivots last) → dictionary_at done pivots d last f 0 ≡ d
 unfolding dictionary_at
-first_at [] d last f = refl
-first_at (p ∷ pivots) d last f = refl
+first_at done [] d last f = refl
+first_at done (p ∷ pivots) d last f = refl
 
-last_at : (pivots : List Pivot) (d last : Dictionary) (f : Follows d pivots last) → dictionary_at pivots d last f (length pivots) ≡ last
+last_at : (done pivots : List Pivot) (d last : Dictionary) (f : Leads (ByRule Bland) done d pivots last) → dictionary_at done pivots d last f (length pivots) ≡ last
 unfolding dictionary_at
-last_at [] d last f = sym f
-last_at (p ∷ pivots) d last f = last_at pivots (exchanged d p.enter f.0) last f.2
+last_at done [] d last f = sym f
+last_at done (p ∷ pivots) d last f = last_at (done ++ p ∷ []) pivots (exchanged d p.enter f.0) last f.2
 
-legal_at : (pivots : List Pivot) (d last : Dictionary) (f : Follows d pivots last) (j : ℕ) → j < length pivots → IsLegal (dictionary_at pivots d last f j) (pivot_at pivots j) (row_at pivots d last f j)
+legal_at : (done pivots : List Pivot) (d last : Dictionary) (f : Leads (ByRule Bland) done d pivots last) (j : ℕ) → j < length pivots → IsLegal (dictionary_at done pivots d last f j) (pivot_at pivots j) (row_at done pivots d last f j)
 unfolding dictionary_at pivot_at row_at
-legal_at [] d last f j less = absurd (omega arith)
-legal_at (p ∷ pivots) d last f zero less = f.1.0
-legal_at (p ∷ pivots) d last f (suc j) less = legal_at pivots (exchanged d p.enter f.0) last f.2 j (omega arith)
+legal_at done [] d last f j less = absurd (omega arith)
+legal_at done (p ∷ pivots) d last f zero less = f.1.0
+legal_at done (p ∷ pivots) d last f (suc j) less = legal_at (done ++ p ∷ []) pivots (exchanged d p.enter f.0) last f.2 j (omega arith)
 
-bland_at : (pivots : List Pivot) (d last : Dictionary) (f : Follows d pivots last) (j : ℕ) → j < length pivots → IsBland (dictionary_at pivots d last f j) (pivot_at pivots j)
+bland_at : (done pivots : List Pivot) (d last : Dictionary) (f : Leads (ByRule Bland) done d pivots last) (j : ℕ) → j < length pivots → IsBland (dictionary_at done pivots d last f j) (pivot_at pivots j)
 unfolding dictionary_at pivot_at
-bland_at [] d last f j less = absurd (omega arith)
-bland_at (p ∷ pivots) d last f zero less = f.1.1
-bland_at (p ∷ pivots) d last f (suc j) less = bland_at pivots (exchanged d p.enter f.0) last f.2 j (omega arith)
+bland_at done [] d last f j less = absurd (omega arith)
+bland_at done (p ∷ pivots) d last f zero less = f.1.1
+bland_at done (p ∷ pivots) d last f (suc j) less = bland_at (done ++ p ∷ []) pivots (exchanged d p.enter f.0) last f.2 j (omega arith)
 
-next_at : (pivots : List Pivot) (d last : Dictionary) (f : Follows d pivots last) (j : ℕ) → j < length pivots → dictionary_at pivots d last f (suc j) ≡ exchanged (dictionary_at pivots d last f j) (pivot_at pivots j).enter (row_at pivots d last f j)
+next_at : (done pivots : List Pivot) (d last : Dictionary) (f : Leads (ByRule Bland) done d pivots last) (j : ℕ) → j < length pivots → dictionary_at done pivots d last f (suc j) ≡ exchanged (dictionary_at done pivots d last f j) (pivot_at pivots j).enter (row_at done pivots d last f j)
 unfolding dictionary_at pivot_at row_at
-next_at [] d last f j less = absurd (omega arith)
-next_at (p ∷ pivots) d last f zero less = first_at pivots (exchanged d p.enter f.0) last f.2
-next_at (p ∷ pivots) d last f (suc j) less = next_at pivots (exchanged d p.enter f.0) last f.2 j (omega arith)
+next_at done [] d last f j less = absurd (omega arith)
+next_at done (p ∷ pivots) d last f zero less = first_at (done ++ p ∷ []) pivots (exchanged d p.enter f.0) last f.2
+next_at done (p ∷ pivots) d last f (suc j) less = next_at (done ++ p ∷ []) pivots (exchanged d p.enter f.0) last f.2 j (omega arith)
 
-variables_at : (pivots : List Pivot) (d last : Dictionary) (f : Follows d pivots last) (j : ℕ) → (dictionary_at pivots d last f j).variables ≡ d.variables
+variables_at : (done pivots : List Pivot) (d last : Dictionary) (f : Leads (ByRule Bland) done d pivots last) (j : ℕ) → (dictionary_at done pivots d last f j).variables ≡ d.variables
 unfolding dictionary_at
-variables_at [] d last f j = refl
-variables_at (p ∷ pivots) d last f zero = refl
-variables_at (p ∷ pivots) d last f (suc j) = variables_at pivots (exchanged d p.enter f.0) last f.2 j
+variables_at done [] d last f j = refl
+variables_at done (p ∷ pivots) d last f zero = refl
+variables_at done (p ∷ pivots) d last f (suc j) = variables_at (done ++ p ∷ []) pivots (exchanged d p.enter f.0) last f.2 j
 
-run_of : (pivots : List Pivot) (d last : Dictionary) (f : Follows d pivots last) → IsProper d → IsRun (length pivots) (dictionary_at pivots d last f) (pivot_at pivots) (row_at pivots d last f)
-run_of pivots d last f proper =
+run_of : (done pivots : List Pivot) (d last : Dictionary) (f : Leads (ByRule Bland) done d pivots last) → IsProper d → IsRun (length pivots) (dictionary_at done pivots d last f) (pivot_at pivots) (row_at done pivots d last f)
+run_of done pivots d last f proper =
     record {
-      proper = subst IsProper (sym (first_at pivots d last f)) proper;
-      legal = legal_at pivots d last f;
-      bland = bland_at pivots d last f;
-      next = next_at pivots d last f;
+      proper = subst IsProper (sym (first_at done pivots d last f)) proper;
+      legal = legal_at done pivots d last f;
+      bland = bland_at done pivots d last f;
+      next = next_at done pivots d last f;
     }
 
 -- ---- no basis comes back
 
-proper_along : (pivots : List Pivot) (d last : Dictionary) → Follows d pivots last → IsProper d → IsProper last
-proper_along [] d last f proper = subst IsProper (sym f) proper
-proper_along (p ∷ pivots) d last f proper = proper_along pivots (exchanged d p.enter f.0) last f.2 (proper_after d p f.0 proper f.1.0)
+proper_along : (done pivots : List Pivot) (d last : Dictionary) → Leads (ByRule Bland) done d pivots last → IsProper d → IsProper last
+proper_along done [] d last f proper = subst IsProper (sym f) proper
+proper_along done (p ∷ pivots) d last f proper = proper_along (done ++ p ∷ []) pivots (exchanged d p.enter f.0) last f.2 (proper_after d p f.0 proper f.1.0)
 
-none_follows : (p : Pivot) (between : List Pivot) (d e : Dictionary) (phase : ℕ) → IsProper d → Follows d (p ∷ between) e → IsPhase d phase → IsPhase e phase → ¬ (SameBasic d e)
-none_follows p between d e phase proper f first second same =
-    let starts = first_at (p ∷ between) d e f in
-    let ends = last_at (p ∷ between) d e f in
-    let at = dictionary_at (p ∷ between) d e f in
-    no_return (length between) at (pivot_at (p ∷ between)) (row_at (p ∷ between) d e f) (run_of (p ∷ between) d e f proper) phase
+none_follows : (p : Pivot) (done between : List Pivot) (d e : Dictionary) (phase : ℕ) → IsProper d → Leads (ByRule Bland) done d (p ∷ between) e → IsPhase d phase → IsPhase e phase → ¬ (SameBasic d e)
+none_follows p done between d e phase proper f first second same =
+    let starts = first_at done (p ∷ between) d e f in
+    let ends = last_at done (p ∷ between) d e f in
+    let at = dictionary_at done (p ∷ between) d e f in
+    no_return (length between) at (pivot_at (p ∷ between)) (row_at done (p ∷ between) d e f) (run_of done (p ∷ between) d e f proper) phase
     (subst (λ c. IsPhase c phase) (sym starts) first)
     (subst (λ c. IsPhase c phase) (sym ends) second)
     (subst (λ c. SameBasic c (at (suc (length between)))) (sym starts) (subst (λ c. SameBasic d c) (sym ends) same))
 
 pub none_repeats : {F : Type 0} (value : F → Number) → NoneRepeats value
 none_repeats value lp before between p d e phase formed f g first second same =
-    none_follows p between d e phase (proper_along before (first_dictionary (standard_form value lp)) d f (first_proper (standard_form value lp) (form_in_order value lp formed))) g first second same
+    none_follows p before between d e phase (proper_along [] before (first_dictionary (standard_form value lp)) d f (first_proper (standard_form value lp) (form_in_order value lp formed))) g first second same
 
 -- ---- how many pivots there are
 
@@ -138,14 +139,8 @@ module _ (m w : ℕ) (at : ℕ → Dictionary) (pivot : ℕ → Pivot) (row : �
       let all : suc m ≤ 2 * 2 ^ w = at_most (2 * 2 ^ w) (suc m) (λ j. code w (at j)) (λ j less. code_within w (at j)) codes_apart in
       omega arith
 
--- the pivots without their steps
-follows_of : (limit n : ℕ) (d : Dictionary) (pivots : List Pivot) (last : Dictionary) → Leads Bland limit n d pivots last → Follows d pivots last
-follows_of limit n d [] last leads = leads
-follows_of limit n d (p ∷ pivots) last leads = (leads.0, leads.1, follows_of limit (n + 1) (exchanged d p.enter leads.0) pivots last leads.4)
-
-pub few_pivots : {F : Type 0} (value : F → Number) (lp : Lp F) (limit : ℕ) (pivots : List Pivot) (last : Dictionary) → IsWellFormed value lp → Leads Bland limit 1 (first_dictionary (standard_form value lp)) pivots last → length pivots < twice_sets ((first_dictionary (standard_form value lp)).variables + 1)
-few_pivots value lp limit pivots last formed leads =
-    let f = follows_of limit 1 (first_dictionary (standard_form value lp)) pivots last leads in
-    few (length pivots) ((first_dictionary (standard_form value lp)).variables + 1) (dictionary_at pivots (first_dictionary (standard_form value lp)) last f) (pivot_at pivots) (row_at pivots (first_dictionary (standard_form value lp)) last f)
-    (run_of pivots (first_dictionary (standard_form value lp)) last f (first_proper (standard_form value lp) (form_in_order value lp formed)))
-    (λ j. ap (λ v. v + 1) (variables_at pivots (first_dictionary (standard_form value lp)) last f j))
+pub few_pivots : {F : Type 0} (value : F → Number) (lp : Lp F) (pivots : List Pivot) (last : Dictionary) → IsWellFormed value lp → Leads (ByRule Bland) [] (first_dictionary (standard_form value lp)) pivots last → length pivots < twice_sets ((first_dictionary (standard_form value lp)).variables + 1)
+few_pivots value lp pivots last formed f =
+    few (length pivots) ((first_dictionary (standard_form value lp)).variables + 1) (dictionary_at [] pivots (first_dictionary (standard_form value lp)) last f) (pivot_at pivots) (row_at [] pivots (first_dictionary (standard_form value lp)) last f)
+    (run_of [] pivots (first_dictionary (standard_form value lp)) last f (first_proper (standard_form value lp) (form_in_order value lp formed)))
+    (λ j. ap (λ v. v + 1) (variables_at [] pivots (first_dictionary (standard_form value lp)) last f j))

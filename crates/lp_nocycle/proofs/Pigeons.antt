@@ -7,7 +7,7 @@ use Rattle.gq_number.specs.Number.{whole}
 use Rattle.gq_number.specs.Order.{◌<ℚ◌}
 use Rattle.gq_number.proofs.Order.{≤ℚ_or_above, not_above}
 use Rattle.lp_core.specs.Dictionary.{Dictionary, constant_at, OpeningIsDue, InPhaseOne}
-use Rattle.lp_core.specs.Answers.{IsPhase}
+use Rattle.lp_core.specs.Ends.{IsPhase}
 use Rattle.lp_exact.specs.Pivots.{IsProper}
 use Rattle.lp_exact.proofs.Kept.{contains_get}
 use Rattle.lp_exact.proofs.Improving.{same_or_not, found_or_not}

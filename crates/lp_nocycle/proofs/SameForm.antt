@@ -9,7 +9,7 @@ use Rattle.lp_core.specs.declared.program.Column.{Column}
 use Rattle.lp_core.specs.declared.program.Row.{Row}
 use Rattle.lp_core.specs.declared.program.Lp.{Lp}
 use Rattle.lp_core.specs.Feasible.{bound_value}
-use Rattle.lp_core.specs.StandardForm.{Shift, Standard, StandardRow, of_row, shift_of, numbered, spread, base, column_at, rows_by_sense, bound_rows, directed, objective_of, columns_of, variables_of, standard_form, width, count_by_bounds}
+use Rattle.lp_core.specs.StandardForm.{Shift, Standard, StandardRow, of_row, shift_of, numbered, spread, base, column_at, rows_by_sense, bound_rows, directed, objective_of, columns_of, variables_of, standard_form, width, rows_of_bounds}
 use Rattle.lp_core.specs.Dictionary.{first_dictionary}
 use Rattle.lp_std.specs.Pieces.{shifted_over, rows_over, bounds_over}
 use Rattle.lp_core.specs.Numbers.{column_numbers, row_numbers, lp_numbers}
@@ -35,7 +35,7 @@ joined_same f g h n (x ∷ xs) same = ap₂ (λ a b. a ++ b) (same n x) (joined_
 pub sum_by_map : {X Y : Type 0} (f : Y → ℕ) (g : X → Y) (xs : List X) → sum_by f (map g xs) ≡ sum_by (λ x. f (g x)) xs
 sum_by_map f g xs = fold-map (λ a y. a + f y) g 0 xs
 
-pub count_bounds_same : {F : Type 0} (value : F → Number) (lower upper : Option F) → count_by_bounds (bound_value value lower) (bound_value value upper) ≡ count_by_bounds lower upper
+pub count_bounds_same : {F : Type 0} (value : F → Number) (lower upper : Option F) → rows_of_bounds (bound_value value lower) (bound_value value upper) ≡ rows_of_bounds lower upper
 count_bounds_same value None None = refl
 count_bounds_same value None (Some u) = refl
 count_bounds_same value (Some l) None = refl

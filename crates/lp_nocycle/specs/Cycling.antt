@@ -1,27 +1,23 @@
 -- That no basis comes back under Bland's rule (Chvatal, Linear Programming, chapter 3).
-use Rattle.std.specs.Prelude.{◌≡◌, ◌↔◌, ℕ, List, [], ◌∷◌, Contains}
+use Rattle.std.specs.Prelude.{◌↔◌, ℕ, List, [], ◌∷◌, Contains}
 use Rattle.gq_number.specs.Number.{Number}
 use Rattle.lp_core.specs.declared.answer.Pivot.{Pivot}
+use Rattle.lp_core.specs.Ends.{IsPhase}
 use Rattle.lp_core.specs.declared.answer.Rule.TheVariants.{Bland}
 use Rattle.lp_core.specs.declared.program.Lp.{Lp}
 use Rattle.lp_core.specs.StandardForm.{standard_form}
-use Rattle.lp_core.specs.Dictionary.{Dictionary, first_dictionary, exchanged}
-use Rattle.lp_core.specs.Answers.{IsAllowed, IsPhase}
+use Rattle.lp_core.specs.Dictionary.{Dictionary, first_dictionary}
+use Rattle.lp_core.specs.Pivots.{ByRule, Leads}
 use Rattle.lp_core.specs.WellFormed.{IsWellFormed}
-
--- pivots that Bland's rule allows, each at the dictionary that the ones before it lead to; the last one is where all of them lead
-abbrev pub Follows : Dictionary → List Pivot → Dictionary → Type 0
-Follows d [] last = last ≡ d
-Follows d (p ∷ pivots) last = (k : ℕ) × IsAllowed Bland d p k × Follows (exchanged d p.enter k) pivots last
 
 -- two dictionaries with the same basic variables, in whatever rows
 abbrev pub SameBasic : Dictionary → Dictionary → Type 0
 SameBasic d e = (v : ℕ) → Contains d.basic v ↔ Contains e.basic v
 
--- no basis comes back within a phase: of Bland's pivots from the first dictionary of a program some lead to d, one more and
--- those between lead on to e, and both are of one phase; then d and e have not the same basic variables
+-- no basis comes back within a phase, whatever the numbers: of Bland's pivots from the first dictionary of a program some lead to d,
+-- one more and those between lead on to e, and both are of one phase; then d and e have not the same basic variables
 abbrev pub NoneRepeats : {F : Type 0} → (F → Number) → Type 0
 NoneRepeats {F} value =
     (lp : Lp F) (before between : List Pivot) (p : Pivot) (d e : Dictionary) (phase : ℕ) →
-    IsWellFormed value lp → Follows (first_dictionary (standard_form value lp)) before d → Follows d (p ∷ between) e →
+    IsWellFormed value lp → Leads (ByRule Bland) [] (first_dictionary (standard_form value lp)) before d → Leads (ByRule Bland) before d (p ∷ between) e →
     IsPhase d phase → IsPhase e phase → ¬ (SameBasic d e)

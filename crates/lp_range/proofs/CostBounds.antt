@@ -24,9 +24,9 @@ use Rattle.lp_core.specs.WellFormed.{IsWellFormed}
 use Rattle.lp_core.specs.DualBound.{row_lower, row_upper, used, total, both, reduced_cost, low, high, objective_costs}
 use Rattle.lp_core.specs.Proofs.{Crosses}
 use Rattle.lp_core.specs.StandardForm as form
-use Rattle.lp_core.specs.StandardForm.{Shift, Standard, base, width, changed_back, shifted_back, column_at, columns_of, variables_of, standard_form, point_of, directed, multiplier, duals_from, dual_by_sense, count_by_sense, levels_back}
+use Rattle.lp_core.specs.StandardForm.{Shift, Standard, base, width, changed_back, shifted_back, column_at, columns_of, variables_of, standard_form, point_of, directed, multiplier, duals_from, dual_by_sense, rows_of_sense, levels_back}
 use Rattle.lp_core.specs.Dictionary.{Dictionary, constant_at, entry_at, InPhaseOne, OpeningIsDue}
-use Rattle.lp_core.specs.Answers.{row_of_basic, last_of, NothingImproves}
+use Rattle.lp_core.specs.Pivots.{row_of_basic, last_of, NothingImproves}
 use Rattle.lp_core.proofs.RowSums.{sum_by_same, unit_at, unit_sum}
 use Rattle.lp_core.proofs.Duality.{low_at_most, high_at_least}
 use Rattle.lp_std.specs.Points.{sum_at, objective_at}
@@ -119,7 +119,7 @@ both_pick value lp prices factors false t e = e
 
 length-duals_from : {F : Type 0} (p : ℕ → Number) (r : ℕ) (rows : List (Row F)) → length (duals_from p r rows) ≡ length rows
 length-duals_from p r [] = refl
-length-duals_from p r (row ∷ rows) = ap (λ k. suc k) (length-duals_from p (r + count_by_sense row.sense) rows)
+length-duals_from p r (row ∷ rows) = ap (λ k. suc k) (length-duals_from p (r + rows_of_sense row.sense) rows)
 
 -- ---- costs of which one is exchanged
 

@@ -1,15 +1,16 @@
 -- The ranges of a solved program: what is read at the last dictionary, and what each interval proves.
-use Rattle.std.proofs.Common.{◌≡◌, ℕ, List, length, map, Some, sym, ap, ◌∙◌, subst}
+use Rattle.std.proofs.Common.{◌≡◌, ℕ, List, [], length, map, Some, sym, ap, ◌∙◌, subst}
 use Rattle.std.specs.Prelude.{slice_get, Option}
 use Rattle.gq_number.specs.Number.{Number}
 use Rattle.lp_core.specs.declared.answer.Pivot.{Pivot}
+use Rattle.lp_core.specs.Pivots.{ByRule, LeadsWithin}
 use Rattle.lp_core.specs.declared.answer.Rule.TheVariants.{Legal}
 use Rattle.lp_core.specs.declared.answer.End.TheVariants.{Optimal}
 use Rattle.lp_core.specs.declared.answer.Answer.{Answer}
 use Rattle.lp_core.specs.declared.program.Lp.{Lp}
 use Rattle.lp_core.specs.StandardForm.{Standard, standard_form}
 use Rattle.lp_core.specs.Dictionary.{Dictionary, first_dictionary}
-use Rattle.lp_core.specs.Answers.{Leads, IsAnswer}
+use Rattle.lp_core.specs.Answers.{IsAnswer}
 use Rattle.lp_core.specs.WellFormed.{IsWellFormed}
 use Rattle.lp_std.specs.Last.{IsDictionaryOf}
 use Rattle.lp_range.specs.declared.interval.Interval.{Interval}
@@ -26,11 +27,11 @@ module _ {F : Type 0} (value : F → Number) (limit : ℕ) (lp : Lp F) (answer :
 
   -- pivots lead from the first dictionary as it is kept
   module _ (first : Dictionary) (s : Standard) (pivots : List Pivot) (first_is : first ≡ first_dictionary s) (form_is : s ≡ standard_form value lp) (pivots_are : pivots ≡ answer.pivots) where
-    pub leads_back : (last : Dictionary) → LeadTo value limit lp answer.pivots last → Leads Legal limit 1 first pivots last
+    pub leads_back : (last : Dictionary) → LeadTo value limit lp answer.pivots last → LeadsWithin (ByRule Legal) limit 1 [] first pivots last
     leads_back last leads =
-        subst (λ (d : Dictionary). Leads Legal limit 1 d pivots last) (sym (first_is ∙ ap first_dictionary form_is)) (subst (λ (ps : List Pivot). Leads Legal limit 1 (first_dictionary (standard_form value lp)) ps last) (sym pivots_are) leads)
+        subst (λ (d : Dictionary). LeadsWithin (ByRule Legal) limit 1 [] d pivots last) (sym (first_is ∙ ap first_dictionary form_is)) (subst (λ (ps : List Pivot). LeadsWithin (ByRule Legal) limit 1 [] (first_dictionary (standard_form value lp)) ps last) (sym pivots_are) leads)
 
-    pub some_last : IsOptimum answer → (last : Dictionary) × Leads Legal limit 1 first pivots last
+    pub some_last : IsOptimum answer → (last : Dictionary) × LeadsWithin (ByRule Legal) limit 1 [] first pivots last
     some_last optimum = let all = optimum_solved optimum in (all.last, leads_back all.last all.leads)
 
   module _ (formed : IsWellFormed value lp) (made : Dictionary) (of_form : IsDictionaryOf (standard_form value lp) made) (reached : (last : Dictionary) → LeadTo value limit lp answer.pivots last → made ≡ last) (rs cs : List (Option (Interval F))) (rights_are : map (span_value value) rs ≡ rights value limit lp made) (costs_are : map (span_value value) cs ≡ costs value limit lp made) where

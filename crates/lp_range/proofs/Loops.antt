@@ -24,11 +24,11 @@ use Rattle.lp_core.specs.declared.program.Lp.{Lp}
 use Rattle.lp_core.specs.WellFormed.{IsWellFormed, rows_of_sense}
 use Rattle.lp_core.specs.Feasible.{bound_value}
 use Rattle.lp_core.specs.DualBound.{objective_costs}
-use Rattle.lp_core.specs.StandardForm.{count_by_sense, width, numbered}
+use Rattle.lp_core.specs.StandardForm.{width, numbered}
 use Rattle.lp_core.specs.StandardForm as form
 use Rattle.lp_core.specs.Dictionary.{Dictionary, entry_at, IsLegal, exchanged}
 use Rattle.lp_core.specs.Steps.{Due, AllFit, FirstStop, exchange_steps, count_of_rows}
-use Rattle.lp_core.specs.Answers.{row_of_basic, change_by_row, Leads}
+use Rattle.lp_core.specs.Pivots.{row_of_basic, change_by_row, ByRule, LeadsWithin}
 use Rattle.lp_std.specs.declared.types.Shift.{Shift}
 use Rattle.lp_std.specs.Meaning.{shift_value}
 use Rattle.lp_std.specs.Pieces.{rows_over, bounds_over}
@@ -143,20 +143,20 @@ module _ (limit : ℕ) (d : Dictionary) (v k : ℕ) (x y : Number) (first : x �
 
 -- ---- rows
 
-pub same_count : (s : Sense) → rows_of_sense s ≡ count_by_sense s
+pub same_count : (s : Sense) → rows_of_sense s ≡ rows_of_sense s
 same_count sense.E = refl
 same_count sense.L = refl
 same_count sense.G = refl
 same_count sense.N = refl
 
 module _ {F : Type 0} (value : F → Number) (limit : ℕ) (d : Dictionary) (rows : List (Row F)) (i : ℕ) (row : Row F) (here : i < length rows) (is : row ≡ get_or rows i row) where
-  pub rows_left : count_of_rows (drop i rows) ≡ count_by_sense row.sense + count_of_rows (drop (i + 1) rows)
+  pub rows_left : count_of_rows (drop i rows) ≡ rows_of_sense row.sense + count_of_rows (drop (i + 1) rows)
   rows_left = ap count_of_rows (drop_item rows i row here is)
 
-  pub spans_go : (made : List (Option (Interval F))) (o : Option (Interval F)) (v : ℕ) → span_value value o ≡ span limit (value row.right) (right_gains limit d row.sense v) → map (span_value value) (made ++ o ∷ []) ++ right_spans limit d value (v + count_by_sense row.sense) (drop (i + 1) rows) ≡ map (span_value value) made ++ right_spans limit d value v (drop i rows)
+  pub spans_go : (made : List (Option (Interval F))) (o : Option (Interval F)) (v : ℕ) → span_value value o ≡ span limit (value row.right) (right_gains limit d row.sense v) → map (span_value value) (made ++ o ∷ []) ++ right_spans limit d value (v + rows_of_sense row.sense) (drop (i + 1) rows) ≡ map (span_value value) made ++ right_spans limit d value v (drop i rows)
   spans_go made o v o_is =
-      ap (λ l. l ++ right_spans limit d value (v + count_by_sense row.sense) (drop (i + 1) rows)) (map-append (span_value value) made (o ∷ []) ∙ ap (λ s. map (span_value value) made ++ s ∷ []) o_is)
-      ∙ append_assoc (map (span_value value) made) (span limit (value row.right) (right_gains limit d row.sense v) ∷ []) (right_spans limit d value (v + count_by_sense row.sense) (drop (i + 1) rows))
+      ap (λ l. l ++ right_spans limit d value (v + rows_of_sense row.sense) (drop (i + 1) rows)) (map-append (span_value value) made (o ∷ []) ∙ ap (λ s. map (span_value value) made ++ s ∷ []) o_is)
+      ∙ append_assoc (map (span_value value) made) (span limit (value row.right) (right_gains limit d row.sense v) ∷ []) (right_spans limit d value (v + rows_of_sense row.sense) (drop (i + 1) rows))
       ∙ sym (ap (λ xs. map (span_value value) made ++ right_spans limit d value v xs) (drop_item rows i row here is))
 
 pub spans_end : {F : Type 0} (value : F → Number) (limit : ℕ) (d : Dictionary) (rows : List (Row F)) (i v : ℕ) (made : List (Option (Interval F))) → length rows ≤ i → map (span_value value) made ≡ map (span_value value) made ++ right_spans limit d value v (drop i rows)
@@ -204,15 +204,25 @@ fit_or_stop steps name fit stop =
 pub leaves_row : (d : Dictionary) (p : Pivot) (k : ℕ) → IsLegal d p k → slice_get d.basic k ≡ Some p.leave
 leaves_row d p k legal = elim legal [ inl opening ↦ opening.leaves | inr step ↦ step.leaves ]
 
-module _ (limit n : ℕ) (d : Dictionary) (pivots : List Pivot) (i : ℕ) (p : Pivot) (here : i < length pivots) (is : p ≡ get_or pivots i p) (last : Dictionary) (leads : Leads Legal limit n d (drop i pivots) last) where
-  leads_here : Leads Legal limit n d (p ∷ drop (i + 1) pivots) last
-  leads_here = subst (λ (ps : List Pivot). Leads Legal limit n d ps last) (drop_item pivots i p here is) leads
+-- a rule does not look at the pivots so far
+forget_done : (limit n : ℕ) (done other : List Pivot) (d : Dictionary) (pivots : List Pivot) (last : Dictionary) → LeadsWithin (ByRule Legal) limit n done d pivots last → LeadsWithin (ByRule Legal) limit n other d pivots last
+forget_done limit n done other d [] last leads = (leads.0, tt)
+forget_done limit n done other d (p ∷ pivots) last leads =
+    let rest = forget_done limit (n + 1) (done ++ p ∷ []) (other ++ p ∷ []) (exchanged d p.enter leads.0.0) pivots last (leads.0.2, leads.1.2) in
+    ((leads.0.0, leads.0.1, rest.0), (leads.1.0, leads.1.1, rest.1))
+
+module _ (limit n : ℕ) (d : Dictionary) (pivots : List Pivot) (i : ℕ) (p : Pivot) (here : i < length pivots) (is : p ≡ get_or pivots i p) (last : Dictionary) (leads : LeadsWithin (ByRule Legal) limit n [] d (drop i pivots) last) where
+  leads_here : LeadsWithin (ByRule Legal) limit n [] d (p ∷ drop (i + 1) pivots) last
+  leads_here = subst (λ (ps : List Pivot). LeadsWithin (ByRule Legal) limit n [] d ps last) (drop_item pivots i p here is) leads
 
   pub pivot_is_due : (upcoming : ℕ) → n ≡ upcoming → (k : ℕ) × IsLegal d p k × AllFit (exchange_steps limit upcoming d p.enter k)
-  pivot_is_due upcoming same = (leads_here.0, leads_here.1, subst (λ u. AllFit (exchange_steps limit u d p.enter leads_here.0)) same leads_here.3)
+  pivot_is_due upcoming same = (leads_here.0.0, leads_here.0.1, subst (λ u. AllFit (exchange_steps limit u d p.enter leads_here.0.0)) same leads_here.1.1)
 
-  pub leads_on : (after : Dictionary) → ((k : ℕ) → slice_get d.basic k ≡ Some p.leave → after ≡ exchanged d p.enter k) → Leads Legal limit (n + 1) after (drop (i + 1) pivots) last
-  leads_on after is_exchanged = subst (λ (e : Dictionary). Leads Legal limit (n + 1) e (drop (i + 1) pivots) last) (sym (is_exchanged leads_here.0 (leaves_row d p leads_here.0 leads_here.1))) leads_here.4
+  pub leads_on : (after : Dictionary) → ((k : ℕ) → slice_get d.basic k ≡ Some p.leave → after ≡ exchanged d p.enter k) → LeadsWithin (ByRule Legal) limit (n + 1) [] after (drop (i + 1) pivots) last
+  leads_on after is_exchanged =
+      let row = leads_here.0.0 in
+      subst (λ (e : Dictionary). LeadsWithin (ByRule Legal) limit (n + 1) [] e (drop (i + 1) pivots) last) (sym (is_exchanged row (leaves_row d p row leads_here.0.1)))
+      (forget_done limit (n + 1) (p ∷ []) [] (exchanged d p.enter row) (drop (i + 1) pivots) last (leads_here.0.2, leads_here.1.2))
 
-pub leads_end : (limit n : ℕ) (d : Dictionary) (pivots : List Pivot) (i : ℕ) (last : Dictionary) → length pivots ≤ i → Leads Legal limit n d (drop i pivots) last → d ≡ last
-leads_end limit n d pivots i last end leads = sym (subst (λ (ps : List Pivot). Leads Legal limit n d ps last) (drop_all i pivots end) leads)
+pub leads_end : (limit n : ℕ) (d : Dictionary) (pivots : List Pivot) (i : ℕ) (last : Dictionary) → length pivots ≤ i → LeadsWithin (ByRule Legal) limit n [] d (drop i pivots) last → d ≡ last
+leads_end limit n d pivots i last end leads = sym (subst (λ (ps : List Pivot). LeadsWithin (ByRule Legal) limit n [] d ps last) (drop_all i pivots end) leads).0

@@ -13,7 +13,7 @@ use Rattle.gq_number.proofs.Sums.{sum_by_ℚ-nil, sum_by_ℚ-cons, sum_by_ℚ--�
 use Rattle.lp_core.specs.Sums.{number_of}
 use Rattle.lp_core.specs.StandardForm as form
 use Rattle.lp_core.specs.Dictionary.{Dictionary, basic_at, constant_at, entry_at, row_at, Meets, InPhaseOne, OpeningIsDue, no_row, first_dictionary}
-use Rattle.lp_core.specs.Answers.{row_of_basic, cost_by_row, priced_row, all_variables, last_of, NothingImproves}
+use Rattle.lp_core.specs.Pivots.{row_of_basic, cost_by_row, priced_row, all_variables, last_of, NothingImproves}
 use Rattle.lp_core.proofs.RowSums.{sum_by_same}
 use Rattle.lp_std.specs.Points.{sum_at}
 use Rattle.lp_std.specs.Last.{HasZero, IsDictionaryOf}

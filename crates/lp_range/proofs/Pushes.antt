@@ -13,7 +13,7 @@ use Rattle.lp_core.specs.declared.program.Sense.TheVariants as sense
 use Rattle.lp_core.specs.declared.program.Row.{Row}
 use Rattle.lp_core.specs.declared.program.Lp.{Lp}
 use Rattle.lp_core.specs.StandardForm as form
-use Rattle.lp_core.specs.StandardForm.{StandardRow, count_by_sense}
+use Rattle.lp_core.specs.StandardForm.{StandardRow, rows_of_sense}
 use Rattle.lp_core.specs.Dictionary.{Dictionary, entry_at, no_row}
 use Rattle.lp_core.specs.Steps.{count_of_rows}
 use Rattle.lp_core.specs.WellFormed.{IsWellFormed}
@@ -39,7 +39,7 @@ push_of sense.N v t w = whole (pos 0)
 abbrev pub slack_at : {F : Type 0} → ℕ → ℕ → List (Row F) → ℕ
 slack_at v i [] = v
 slack_at v zero (row ∷ rows) = v
-slack_at v (suc i) (row ∷ rows) = slack_at (v + count_by_sense row.sense) i rows
+slack_at v (suc i) (row ∷ rows) = slack_at (v + rows_of_sense row.sense) i rows
 
 two_zeros : whole (pos 0) +ℚ whole (pos 0) ≡ whole (pos 0)
 two_zeros = simp ring_ℚ
@@ -50,7 +50,7 @@ push_before sense.L v t w less = unit_there v w t (omega arith)
 push_before sense.G v t w less = unit_there v w (neg_ℚ t) (omega arith)
 push_before sense.N v t w less = refl
 
-push_past : (s : Sense) (v : ℕ) (t : Number) (w : ℕ) → v + count_by_sense s ≤ w → push_of s v t w ≡ whole (pos 0)
+push_past : (s : Sense) (v : ℕ) (t : Number) (w : ℕ) → v + rows_of_sense s ≤ w → push_of s v t w ≡ whole (pos 0)
 push_past sense.E v t w more =
     let far : v + 2 ≤ w = more in
     ap₂ (λ a b. a +ℚ b) (unit_there v w t (omega arith)) (unit_there (v + 1) w (neg_ℚ t) (omega arith)) ∙ two_zeros
@@ -61,15 +61,15 @@ push_past sense.N v t w more = refl
 slack_low : {F : Type 0} (v i : ℕ) (rows : List (Row F)) → v ≤ slack_at v i rows
 slack_low v i [] = omega arith
 slack_low v zero (row ∷ rows) = omega arith
-slack_low v (suc i) (row ∷ rows) = omega (arith, slack_low (v + count_by_sense row.sense) i rows)
+slack_low v (suc i) (row ∷ rows) = omega (arith, slack_low (v + rows_of_sense row.sense) i rows)
 
-pub slack_high : {F : Type 0} (v i : ℕ) (rows : List (Row F)) (row : Row F) → slice_get rows i ≡ Some row → slack_at v i rows + count_by_sense row.sense ≤ v + count_of_rows rows
+pub slack_high : {F : Type 0} (v i : ℕ) (rows : List (Row F)) (row : Row F) → slice_get rows i ≡ Some row → slack_at v i rows + rows_of_sense row.sense ≤ v + count_of_rows rows
 slack_high v i [] row at = absurd (cc)
 slack_high {F} v zero (x ∷ rows) row at =
     let same : x ≡ row = cc in
-    subst (λ (r : Row F). v + count_by_sense r.sense ≤ v + (count_by_sense x.sense + count_of_rows rows)) same (omega arith)
+    subst (λ (r : Row F). v + rows_of_sense r.sense ≤ v + (rows_of_sense x.sense + count_of_rows rows)) same (omega arith)
 slack_high v (suc i) (x ∷ rows) row at =
-    let rest = slack_high (v + count_by_sense x.sense) i rows row at in
+    let rest = slack_high (v + rows_of_sense x.sense) i rows row at in
     omega (arith, rest)
 
 -- ---- rows of the standard form, one by one
@@ -164,11 +164,11 @@ module _ (columns : List (ℕ × form.Shift)) (right : Number) where
       let old = shifted_over itself columns j x in
       let first = form.rows_by_sense x.sense j (shifted_over itself columns j x) in
       let count = counted_by_sense x.sense j (shifted_over itself columns j x) in
-      let slack = slack_at (v + count_by_sense x.sense) i rows in
-      let push = push_of row.sense (slack_at (v + count_by_sense x.sense) i rows) (right -ℚ row.right) in
+      let slack = slack_at (v + rows_of_sense x.sense) i rows in
+      let push = push_of row.sense (slack_at (v + rows_of_sense x.sense) i rows) (right -ℚ row.right) in
       moved_append push v first (rows_over itself columns (j + 1) rows) first (rows_over itself columns (j + 1) (rows_with_right i right rows))
-      (unmoved push v first (λ w low high. push_before row.sense slack (right -ℚ row.right) w (omega (arith, slack_low (v + count_by_sense x.sense) i rows, count, high))))
-      (subst (λ n. AreMoved push n (rows_over itself columns (j + 1) rows) (rows_over itself columns (j + 1) (rows_with_right i right rows))) (ap (λ n. v + n) (sym count)) (rows_moved (v + count_by_sense x.sense) i (j + 1) rows row at))
+      (unmoved push v first (λ w low high. push_before row.sense slack (right -ℚ row.right) w (omega (arith, slack_low (v + rows_of_sense x.sense) i rows, count, high))))
+      (subst (λ n. AreMoved push n (rows_over itself columns (j + 1) rows) (rows_over itself columns (j + 1) (rows_with_right i right rows))) (ap (λ n. v + n) (sym count)) (rows_moved (v + rows_of_sense x.sense) i (j + 1) rows row at))
 
 -- ---- a program
 
@@ -219,7 +219,7 @@ module _ (limit : ℕ) (d : Dictionary) (v : ℕ) (t : Number) (k : ℕ) where
       sum_by_same (λ u. entry_at d k u *ℚ unit_at w c u) (λ u. unit_at w c u *ℚ entry_at d k u) (range_with_len 0 (d.variables + 1)) (λ u. *ℚ_comm (entry_at d k u) (unit_at w c u))
       ∙ range_unit w c (entry_at d k) 0 (d.variables + 1) (omega arith) (omega arith)
 
-  pub gained_is : (s : Sense) → v + count_by_sense s ≤ d.variables + 1 → gained (push_of s v t) d k ≡ t *ℚ (right_gain limit d s v k).each
+  pub gained_is : (s : Sense) → v + rows_of_sense s ≤ d.variables + 1 → gained (push_of s v t) d k ≡ t *ℚ (right_gain limit d s v k).each
   gained_is sense.E room =
       let far : v + 2 ≤ d.variables + 1 = room in
       sum_by_same (λ u. entry_at d k u *ℚ (unit_at v t u +ℚ unit_at (v + 1) (neg_ℚ t) u)) (λ u. entry_at d k u *ℚ unit_at v t u +ℚ entry_at d k u *ℚ unit_at (v + 1) (neg_ℚ t) u) (range_with_len 0 (d.variables + 1)) (λ u. apart (entry_at d k u) (unit_at v t u) (unit_at (v + 1) (neg_ℚ t) u))

@@ -15,7 +15,7 @@ use Rattle.lp_core.specs.Sums.{number_of}
 use Rattle.lp_core.specs.StandardForm as form
 use Rattle.lp_core.specs.StandardForm.{Shift, from_lower, from_upper, free, width, changed_back, spread, objective_of}
 use Rattle.lp_core.specs.Dictionary.{Dictionary, basic_at, constant_at, entry_at, row_at, Meets, InPhaseOne, OpeningIsDue, no_row, first_dictionary}
-use Rattle.lp_core.specs.Answers.{row_of_basic, value_by_row, change_by_row, all_variables, last_of, NothingImproves}
+use Rattle.lp_core.specs.Pivots.{row_of_basic, value_by_row, change_by_row, all_variables, last_of, NothingImproves}
 use Rattle.lp_core.proofs.RowSums.{sum_by_same}
 use Rattle.lp_std.specs.Points.{sum_at, objective_at}
 use Rattle.lp_std.specs.Last.{HasZero, IsDictionaryOf}

@@ -19,9 +19,9 @@ use Rattle.lp_core.specs.WellFormed.{IsWellFormed}
 use Rattle.lp_core.specs.DualBound.{dual_bound}
 use Rattle.lp_core.specs.Proofs.{Crosses}
 use Rattle.lp_core.specs.Numbers.{row_numbers, lp_numbers}
-use Rattle.lp_core.specs.StandardForm.{Standard, standard_form, variables_of, count_by_sense, dual_by_sense, duals_from, multiplier, directed, levels_back, duals_back}
+use Rattle.lp_core.specs.StandardForm.{Standard, standard_form, variables_of, rows_of_sense, dual_by_sense, duals_from, multiplier, directed, levels_back, duals_back}
 use Rattle.lp_core.specs.Dictionary.{Dictionary, constant_at, InPhaseOne, OpeningIsDue}
-use Rattle.lp_core.specs.Answers.{last_of, NothingImproves}
+use Rattle.lp_core.specs.Pivots.{last_of, NothingImproves}
 use Rattle.lp_std.specs.Last.{IsDictionaryOf}
 use Rattle.lp_std.proofs.Shapes.{All-from_map}
 use Rattle.lp_std.proofs.Ends.{within_form, optimal_proved, count_is}
@@ -69,7 +69,7 @@ module _ (limit : ℕ) (d : Dictionary) (s : Sense) (v : ℕ) where
 duals_rows : (right : Number) (q : ℕ → Number) (r i : ℕ) (rows : List (Row Number)) → duals_from q r (rows_with_right i right rows) ≡ duals_from q r rows
 duals_rows right q r i [] = refl
 duals_rows right q r zero (row ∷ rows) = refl
-duals_rows right q r (suc i) (row ∷ rows) = ap (λ l. dual_by_sense row.sense q r ∷ l) (duals_rows right q (r + count_by_sense row.sense) i rows)
+duals_rows right q r (suc i) (row ∷ rows) = ap (λ l. dual_by_sense row.sense q r ∷ l) (duals_rows right q (r + rows_of_sense row.sense) i rows)
 
 -- ---- a program of numbers
 
@@ -80,7 +80,7 @@ module _ (limit : ℕ) (lp : Lp Number) (formed : IsWellFormed itself lp) (order
   abbrev pushed : ℕ → Number
   pushed = push lp formed i row at right
 
-  room : v + count_by_sense row.sense ≤ d.variables + 1
+  room : v + rows_of_sense row.sense ≤ d.variables + 1
   room =
       let high = slack_high (variables_of itself lp + 1) i lp.rows row at in
       omega (arith, high, is.variables, count_is itself lp formed, rows_room lp formed i row at right)
@@ -112,19 +112,19 @@ module _ (limit : ℕ) (lp : Lp Number) (formed : IsWellFormed itself lp) (order
 spans_at : {F : Type 0} (value : F → Number) (limit : ℕ) (d : Dictionary) (v : ℕ) (rows : List (Row F)) (i : ℕ) (o : Option Span) → slice_get (right_spans limit d value v rows) i ≡ Some o → (row : Row F) × (slice_get rows i ≡ Some row) × (span limit (value row.right) (right_gains limit d row.sense (slack_at v i rows)) ≡ o)
 spans_at value limit d v [] i o at = absurd (cc)
 spans_at value limit d v (row ∷ rows) zero o at = (row, refl, cc)
-spans_at value limit d v (row ∷ rows) (suc i) o at = spans_at value limit d (v + count_by_sense row.sense) rows i o at
+spans_at value limit d v (row ∷ rows) (suc i) o at = spans_at value limit d (v + rows_of_sense row.sense) rows i o at
 
 module _ {F : Type 0} (value : F → Number) (limit : ℕ) (lp : Lp F) (d : Dictionary) where
   spans_same : (v : ℕ) (rows : List (Row F)) → right_spans limit d itself v (map (row_numbers value) rows) ≡ right_spans limit d value v rows
   spans_same v [] = refl
-  spans_same v (row ∷ rows) = ap (λ l. span limit (value row.right) (right_gains limit d row.sense v) ∷ l) (spans_same (v + count_by_sense row.sense) rows)
+  spans_same v (row ∷ rows) = ap (λ l. span limit (value row.right) (right_gains limit d row.sense v) ∷ l) (spans_same (v + rows_of_sense row.sense) rows)
 
   rights_same : rights itself limit (lp_numbers value lp) d ≡ rights value limit lp d
   rights_same = spans_same (variables_of itself (lp_numbers value lp) + 1) lp.rows ∙ ap (λ n. right_spans limit d value (n + 1) lp.rows) (variables_same value lp)
 
   duals_from_same : (p : ℕ → Number) (r : ℕ) (rows : List (Row F)) → duals_from p r (map (row_numbers value) rows) ≡ duals_from p r rows
   duals_from_same p r [] = refl
-  duals_from_same p r (row ∷ rows) = ap (λ l. dual_by_sense row.sense p r ∷ l) (duals_from_same p (r + count_by_sense row.sense) rows)
+  duals_from_same p r (row ∷ rows) = ap (λ l. dual_by_sense row.sense p r ∷ l) (duals_from_same p (r + rows_of_sense row.sense) rows)
 
   duals_same : duals_back itself (lp_numbers value lp) (last_of d) ≡ duals_back value lp (last_of d)
   duals_same =

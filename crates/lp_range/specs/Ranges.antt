@@ -12,10 +12,10 @@ use Rattle.lp_core.specs.declared.program.Row.{Row}
 use Rattle.lp_core.specs.declared.program.Lp.{Lp}
 use Rattle.lp_core.specs.Feasible.{bound_value}
 use Rattle.lp_core.specs.DualBound.{objective_costs}
-use Rattle.lp_core.specs.StandardForm.{standard_form, Shift, from_lower, from_upper, free, directed, columns_of, variables_of, count_by_sense}
+use Rattle.lp_core.specs.StandardForm.{standard_form, Shift, from_lower, from_upper, free, directed, columns_of, variables_of, rows_of_sense}
 use Rattle.lp_core.specs.Dictionary.{Dictionary, first_dictionary, constant_at, entry_at}
 use Rattle.lp_core.specs.Steps.{difference_fits}
-use Rattle.lp_core.specs.Answers.{Leads, row_of_basic, change_by_row}
+use Rattle.lp_core.specs.Pivots.{row_of_basic, change_by_row, ByRule, LeadsWithin}
 use Rattle.lp_range.specs.declared.interval.Interval.{Interval}
 use Rattle.lp_range.specs.Spans.{Gain, Span, span}
 
@@ -23,9 +23,9 @@ use Rattle.lp_range.specs.Spans.{Gain, Span, span}
 abbrev pub IsOptimum : {F : Type 0} → Answer F → Type 0
 IsOptimum {F} answer = (levels row_levels duals reduced : List F) × (answer.end ≡ Optimal levels row_levels duals reduced)
 
--- these pivots lead from the first dictionary of a program to this one
+-- these pivots lead from the first dictionary of a program to this one, and all their steps fit
 abbrev pub LeadTo : {F : Type 0} → (F → Number) → ℕ → Lp F → List Pivot → Dictionary → Type 0
-LeadTo value limit lp pivots last = Leads Legal limit 1 (first_dictionary (standard_form value lp)) pivots last
+LeadTo value limit lp pivots last = LeadsWithin (ByRule Legal) limit 1 [] (first_dictionary (standard_form value lp)) pivots last
 
 -- an interval as numbers
 abbrev pub interval_value : {F : Type 0} → (F → Number) → Interval F → Span
@@ -54,7 +54,7 @@ module _ (limit : ℕ) (d : Dictionary) where
   -- the ranges of right sides of rows of which the first has the first slack v
   abbrev pub right_spans : {F : Type 0} → (F → Number) → ℕ → List (Row F) → List (Option Span)
   right_spans value v [] = []
-  right_spans value v (row ∷ rows) = span limit (value row.right) (right_gains row.sense v) ∷ right_spans value (v + count_by_sense row.sense) rows
+  right_spans value v (row ∷ rows) = span limit (value row.right) (right_gains row.sense v) ∷ right_spans value (v + rows_of_sense row.sense) rows
 
   -- the variables from number 1 that are not basic
   abbrev pub others : List ℕ

@@ -1,12 +1,13 @@
 //! From a program and its pivots to the last dictionary.
-ghost use Rattle.std.specs.Prelude.{◌≡◌, ◌+◌, ◌-◌, ◌^◌, ℕ, min, slice_get, Some, IfOk};
+ghost use Rattle.std.specs.Prelude.{◌≡◌, ◌+◌, ◌-◌, ◌^◌, ℕ, [], min, slice_get, Some, IfOk};
 ghost use Rattle.lp_core.specs.Dictionary.{Dictionary, IsLegal, exchanged, first_dictionary};
+ghost use Rattle.lp_core.specs.Proofs.{FirstCrossed};
+ghost use Rattle.lp_core.specs.Pivots.{ByRule, LeadsWithin};
 ghost use Rattle.lp_core.specs.StandardForm.{Standard as StandardNumbers, standard_form};
 ghost use Rattle.lp_core.specs.Steps.{AllFit, exchange_steps, standard_steps};
-ghost use Rattle.lp_core.specs.Answers.{Leads, NoneCrosses};
 ghost use Rattle.lp_core.specs.declared.answer.Rule.TheVariants.{Legal};
 ghost use Rattle.lp_core.specs.WellFormed.{IsWellFormed};
-ghost use Rattle.lp_std.specs.Meaning.{standard_value, FirstCrossed};
+ghost use Rattle.lp_std.specs.Meaning.{standard_value};
 ghost use Rattle.lp_std.specs.Last.{IsDictionaryOf};
 ghost use Rattle.lp_dict.specs.Tableau.{dictionary};
 ghost use Rattle.std.specs.Prelude.{None};
@@ -54,8 +55,8 @@ pub(crate) fn replayed<F: ExactField>(
     pivots: &[Pivot],
 ) -> Result<Dict<F>, AllocError>
     requires upcoming { first.upcoming ≡ 1 }
-    requires leads { (last : Dictionary) × Leads Legal F.limit 1 (dictionary F.value first) pivots.now last }
-    ensures reached { IfOk result (λ made. (last : Dictionary) → Leads Legal F.limit 1 (dictionary F.value first) pivots.now last → dictionary F.value made ≡ last) }
+    requires leads { (last : Dictionary) × LeadsWithin (ByRule Legal) F.limit 1 [] (dictionary F.value first) pivots.now last }
+    ensures reached { IfOk result (λ made. (last : Dictionary) → LeadsWithin (ByRule Legal) F.limit 1 [] (dictionary F.value first) pivots.now last → dictionary F.value made ≡ last) }
     ensures of_form { IfOk result (λ made. (s : StandardNumbers) → IsDictionaryOf s (dictionary F.value first) → IsDictionaryOf s (dictionary F.value made)) }
 {
     let mut dict = first;

@@ -1,7 +1,7 @@
 //! The ranges of right sides.
 ghost use Rattle.std.specs.Prelude.{◌≡◌, ◌+◌, ◌<◌, ◌≤◌, map, length, IfOk};
 ghost use Rattle.lp_core.specs.WellFormed.{IsWellFormed};
-ghost use Rattle.lp_core.specs.StandardForm.{standard_form, count_by_sense};
+ghost use Rattle.lp_core.specs.StandardForm.{standard_form, rows_of_sense};
 ghost use Rattle.lp_core.specs.Steps.{count_of_rows};
 ghost use Rattle.lp_std.specs.Last.{IsDictionaryOf};
 ghost use Rattle.lp_dict.specs.Tableau.{dictionary};
@@ -20,7 +20,7 @@ use std::alloc::{AllocError, Global};
 /// where the difference of the two slacks of an equation does not fit.
 fn gain_of<F: ExactField>(dict: &Dict<F>, sense: Sense, slack: usize, row: usize) -> Option<F>
     requires row { row < length dict.now.basic }
-    requires room { slack + count_by_sense sense ≤ dict.now.variables + 1 }
+    requires room { slack + rows_of_sense sense ≤ dict.now.variables + 1 }
     ensures { IsFound F.value (right_gain F.limit (dictionary F.value dict.now) sense slack row) result }
 {
     dict.keeps();
@@ -42,7 +42,7 @@ fn range_of<F: ExactField>(
     slack: usize,
     right: F,
 ) -> Option<Interval<F>>
-    requires { slack + count_by_sense sense ≤ dict.now.variables + 1 }
+    requires { slack + rows_of_sense sense ≤ dict.now.variables + 1 }
     ensures { span_value F.value result ≡ span F.limit (F.value right) (right_gains F.limit (dictionary F.value dict.now) sense slack) }
 {
     let mut moves = all_numbers();

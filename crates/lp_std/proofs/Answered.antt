@@ -1,5 +1,5 @@
 -- The way back as a whole: what is read has its sizes, and the end that it leads to is proved.
-use Rattle.std.proofs.Common.{◌≡◌, ℕ, ◌+◌, ◌≤◌, List, [], ◌∷◌, length, map, Some, None, refl, sym, ap, ap₂, ◌∙◌, subst, arith}
+use Rattle.std.proofs.Common.{◌≡◌, ℕ, ◌+◌, ◌≤◌, List, [], ◌∷◌, length, map, None, refl, sym, ap, ap₂, ◌∙◌, subst, arith}
 use Rattle.std.specs.Prelude.{sum_by, Result, Ok, Err}
 use Rattle.std.specs.Result.{IfOk, IfErr}
 use Rattle.std.proofs.lemmas.List.{length-map, length-append}
@@ -7,42 +7,42 @@ use Rattle.std.proofs.lemmas.List.Sums.{sum_by-cons}
 use Rattle.std.proofs.lemmas.List.FromFn.{length-map-range_with_len}
 use Rattle.gq_number.specs.Number.{Number}
 use Rattle.lp_core.specs.declared.answer.End.{End}
-use Rattle.lp_core.specs.declared.answer.End.TheVariants.{Optimal, Infeasible, Unbounded, Interrupted}
+use Rattle.lp_core.specs.Ends.{LeadsTo}
 use Rattle.lp_core.specs.declared.program.Column.{Column}
 use Rattle.lp_core.specs.declared.program.Lp.{Lp}
 use Rattle.lp_core.specs.WellFormed.{IsWellFormed}
-use Rattle.lp_core.specs.Feasible.{bound_value, Feasible}
-use Rattle.lp_core.specs.Proofs.{row_sums, ProvesOptimal, ProvesInfeasible, ProvesUnbounded}
+use Rattle.lp_core.specs.Feasible.{bound_value}
+use Rattle.lp_core.specs.Proofs.{FirstCrossed, IsProved}
 use Rattle.lp_core.specs.StandardForm as form
-use Rattle.lp_core.specs.Steps.{AllFit, Due, count_of_rows}
+use Rattle.lp_core.specs.Steps.{AllFit, Due, count_of_rows, steps_back}
 use Rattle.lp_core.specs.Dictionary.{Dictionary}
-use Rattle.lp_core.specs.Answers.{last_of, value_by_row, cost_by_row, change_by_row, row_of_basic, priced_row, all_variables}
+use Rattle.lp_core.specs.Pivots.{last_of, value_by_row, cost_by_row, change_by_row, row_of_basic, priced_row, all_variables}
 use Rattle.lp_std.specs.declared.types.Shift.{Shift}
 use Rattle.lp_std.specs.declared.types.Standard.{Standard}
 use Rattle.lp_std.specs.declared.types.Final.{Final}
-use Rattle.lp_std.specs.declared.types.FinalKind.{FinalKind}
-use Rattle.lp_std.specs.declared.types.FinalKind.TheVariants as kind
+use Rattle.lp_core.specs.declared.answer.EndKind.{EndKind}
+use Rattle.lp_core.specs.declared.answer.EndKind.TheVariants as kind
 use Rattle.lp_std.specs.declared.stop.Stop.{Stop}
 use Rattle.lp_std.specs.declared.stop.Stop.TheVariants as stop
-use Rattle.lp_std.specs.Meaning.{shift_value, row_value, standard_value, FirstCrossed}
+use Rattle.lp_std.specs.Meaning.{shift_value, row_value, standard_value}
 use Rattle.lp_std.specs.Pieces.{StopsAt, ComputesEnd, IsSized, HasRay, AreSized, rows_over, bounds_over}
-use Rattle.lp_std.specs.Last.{IsDictionaryOf, EndsAt, IsLast, last_value}
-use Rattle.lp_std.specs.Back.{LeadsTo, IsProved, steps_back, HasNoWayBack}
+use Rattle.lp_std.specs.Last.{IsDictionaryOf, IsReadAt, IsLast, last_value}
+use Rattle.lp_std.specs.Back.{HasNoWayBack}
 use Rattle.lp_std.proofs.Stops.{all_fit, stops_first}
 use Rattle.lp_std.proofs.BoundSteps.{counted_by_bounds}
 use Rattle.lp_std.proofs.Shapes.{widths_of_shifts, widths-numbered, variables_counted, variables_few, rows_few}
 use Rattle.lp_std.proofs.Proved.{rows_over_counted}
 use Rattle.lp_std.proofs.Recovers.{count_is_sum}
-use Rattle.lp_std.proofs.Ends.{count_is, point_feasible, optimal_proved, unbounded_proved, infeasible_proved}
+use Rattle.lp_std.proofs.Ends.{count_is, proved_at}
 
 -- ---- sizes
 
-bounds_over_counted : {F : Type 0} (value : F → Number) (columns : List (ℕ × form.Shift)) (j : ℕ) (bounded : List (Column F)) → length (bounds_over value columns j bounded) ≡ sum_by (λ (column : Column F). form.count_by_bounds column.lower column.upper) bounded
+bounds_over_counted : {F : Type 0} (value : F → Number) (columns : List (ℕ × form.Shift)) (j : ℕ) (bounded : List (Column F)) → length (bounds_over value columns j bounded) ≡ sum_by (λ (column : Column F). form.rows_of_bounds column.lower column.upper) bounded
 bounds_over_counted value columns j [] = refl
 bounds_over_counted {F} value columns j (column ∷ bounded) =
     length-append (form.bound_rows j (form.column_at columns j).0 (bound_value value column.lower) (bound_value value column.upper)) (bounds_over value columns (j + 1) bounded)
     ∙ ap₂ (λ a b. a + b) (counted_by_bounds value j (form.column_at columns j).0 column.lower column.upper) (bounds_over_counted value columns (j + 1) bounded)
-    ∙ sym (sum_by-cons (λ (column : Column F). form.count_by_bounds column.lower column.upper) column bounded)
+    ∙ sym (sum_by-cons (λ (column : Column F). form.rows_of_bounds column.lower column.upper) column bounded)
 
 module _ {F : Type 0} (value : F → Number) (lp : Lp F) (formed : IsWellFormed value lp) (s : Standard F) (is_form : standard_value value s ≡ form.standard_form value lp) where
   pub columns_are : form.numbered 1 (map (shift_value value) s.shifts) ≡ form.columns_of value lp
@@ -55,13 +55,13 @@ module _ {F : Type 0} (value : F → Number) (lp : Lp F) (formed : IsWellFormed 
   pub shifts_within : sum_by (λ (t : Shift F). form.width (shift_value value t)) s.shifts ≤ 3000
   shifts_within = omega (arith, shifts_count, variables_counted value lp, variables_few value lp formed)
 
-  all_counted : length (form.rows_of value lp) ≡ count_of_rows lp.rows + sum_by (λ (column : Column F). form.count_by_bounds column.lower column.upper) lp.columns
+  all_counted : length (form.rows_of value lp) ≡ count_of_rows lp.rows + sum_by (λ (column : Column F). form.rows_of_bounds column.lower column.upper) lp.columns
   all_counted =
       length-append (rows_over value (form.columns_of value lp) 0 lp.rows) (bounds_over value (form.columns_of value lp) 0 lp.columns)
       ∙ ap₂ (λ a b. a + b) (rows_over_counted value (form.columns_of value lp) 0 lp.rows ∙ sym (count_is_sum lp.rows)) (bounds_over_counted value (form.columns_of value lp) 0 lp.columns)
 
   -- the form's own counts
-  pub form_counted : length s.objective + length s.rows ≡ form.variables_of value lp + (count_of_rows lp.rows + sum_by (λ (column : Column F). form.count_by_bounds column.lower column.upper) lp.columns)
+  pub form_counted : length s.objective + length s.rows ≡ form.variables_of value lp + (count_of_rows lp.rows + sum_by (λ (column : Column F). form.rows_of_bounds column.lower column.upper) lp.columns)
   form_counted =
       ap₂ (λ a b. a + b) (sym (length-map s.objective value) ∙ ap (λ (t : form.Standard). length t.objective) is_form ∙ count_is value lp formed) (sym (length-map s.rows (row_value value)) ∙ ap (λ (t : form.Standard). length t.rows) is_form ∙ all_counted)
 
@@ -84,7 +84,7 @@ module _ {F : Type 0} (value : F → Number) (lp : Lp F) (formed : IsWellFormed 
     costs_sized : (final : Final F) → last_value value final ≡ last_of d → IsSized value lp (length final.costs)
     costs_sized final e = read_sized final.costs (λ v. cost_by_row d (priced_row d) v (row_of_basic d v)) (ap (λ (l : form.Last). l.costs) e)
 
-    sized_at : (final : Final F) (k : FinalKind) → EndsAt d k (last_value value final) → IsSized value lp (length final.values) × IsSized value lp (length final.costs) × HasRay k (IsSized value lp (length final.ray))
+    sized_at : (final : Final F) (k : EndKind) → IsReadAt d k (last_value value final) → IsSized value lp (length final.values) × IsSized value lp (length final.costs) × HasRay k (IsSized value lp (length final.ray))
     sized_at final kind.Optimal h = (values_sized final h.2, costs_sized final h.2, tt)
     sized_at final kind.Infeasible h = (values_sized final h.2, costs_sized final h.2, tt)
     sized_at final kind.Unbounded h = (
@@ -102,36 +102,13 @@ module _ {F : Type 0} (value : F → Number) (lp : Lp F) (formed : IsWellFormed 
     proper : IsDictionaryOf (form.standard_form value lp) d
     proper = subst (λ t. IsDictionaryOf t d) is_form is
 
-    proved_at : (k : FinalKind) (last : form.Last) → EndsAt d k last → (end : End F) → LeadsTo value lp k last end → IsProved value lp end
-    proved_at kind.Optimal last at (Optimal levels row_levels duals reduced) h =
-        let proof = subst (λ l. ProvesOptimal value lp (form.levels_back value lp l) (row_sums value lp (form.levels_back value lp l)) (form.duals_back value lp l) (form.reduced_back value lp l)) (sym at.2) (optimal_proved value lp formed none d proper at.1.0 at.0 at.1) in
-        subst (λ x. ProvesOptimal value lp x (map value row_levels) (map value duals) (map value reduced)) (sym h.0)
-        (subst (λ x. ProvesOptimal value lp (form.levels_back value lp last) x (map value duals) (map value reduced)) (sym h.1)
-        (subst (λ x. ProvesOptimal value lp (form.levels_back value lp last) (row_sums value lp (form.levels_back value lp last)) x (map value reduced)) (sym h.2)
-        (subst (λ x. ProvesOptimal value lp (form.levels_back value lp last) (row_sums value lp (form.levels_back value lp last)) (form.duals_back value lp last) x) (sym h.3) proof)))
-    proved_at kind.Infeasible last at (Infeasible duals None) h =
-        subst (λ x. ProvesInfeasible value lp x) (sym (h.0 ∙ ap (form.farkas_back value lp) at.2)) (infeasible_proved value lp formed none d proper at.1.0 at.0 at.1)
-    proved_at kind.Infeasible last at (Infeasible duals (Some j)) h = absurd (let clash : Some j ≡ None = h.1 in cc)
-    proved_at kind.Unbounded last at (Unbounded levels row_levels ray) h =
-        let q = at.1.0 in
-        let unlimited = at.1.1 in
-        let e = at.1.2 in
-        let point : form.levels_back value lp last ≡ form.levels_back value lp (last_of d) = ap (λ l. form.levels_back value lp l) e in
-        let proof = unbounded_proved value lp formed none d proper unlimited.0 at.0 q unlimited in
-        subst (λ x. ProvesUnbounded value lp x (map value row_levels) (map value ray)) (sym (h.0 ∙ point))
-        (subst (λ x. ProvesUnbounded value lp (form.levels_back value lp (last_of d)) x (map value ray)) (sym (h.1 ∙ ap (row_sums value lp) point))
-        (subst (λ x. ProvesUnbounded value lp (form.levels_back value lp (last_of d)) (row_sums value lp (form.levels_back value lp (last_of d))) x) (sym (h.2 ∙ ap (form.ray_back value lp) e)) proof))
-    proved_at kind.Interrupted last at (Interrupted phase levels row_levels) h =
-        subst (λ x. Feasible value lp x) (sym (h.1 ∙ ap (form.levels_back value lp) at.3)) (point_feasible value lp formed none d proper at.1 at.0)
-    proved_at k last at end h = absurd (h)
-
   pub end_proved : FirstCrossed value lp.columns None → (final : Final F) → IsLast value s final → (steps : List Due) (r : Result (End F) Stop) → ComputesEnd steps (LeadsTo value lp final.kind (last_value value final)) r → IfOk r (IsProved value lp)
-  end_proved none final last steps (Ok end) h = proved_at none last.0 last.1 final.kind (last_value value final) last.2 end h.1
+  end_proved none final last steps (Ok end) h = proved_at value lp formed none last.0 (proper none last.0 last.1) final.kind (last_value value final) last.2 end h.1
   end_proved none final last steps (Err stop) h = tt
 
 -- ---- the answer of the whole
 
-module _ {F : Type 0} (value : F → Number) (limit : ℕ) (lp : Lp F) (k : FinalKind) (last : form.Last) where
+module _ {F : Type 0} (value : F → Number) (limit : ℕ) (lp : Lp F) (k : EndKind) (last : form.Last) where
   pub end_is : (r : Result (End F) Stop) → ComputesEnd (steps_back value limit lp k last) (LeadsTo value lp k last) r → IfOk r (LeadsTo value lp k last)
   end_is (Ok end) h = h.1
   end_is (Err s) h = tt
@@ -150,13 +127,13 @@ module _ {F : Type 0} (value : F → Number) (limit : ℕ) (lp : Lp F) (k : Fina
   end_stops (Err s) h = stop_back s h
 
 -- a ray is there, or none is wanted
-pub has_ray : (k : FinalKind) (P : Type 0) → P → HasRay k P
+pub has_ray : (k : EndKind) (P : Type 0) → P → HasRay k P
 has_ray kind.Optimal P h = tt
 has_ray kind.Infeasible P h = tt
 has_ray kind.Unbounded P h = h
 has_ray kind.Interrupted P h = tt
 
-pub no_ray : (k : FinalKind) (P : Type 0) → (k ≡ kind.Unbounded → ⊥) → HasRay k P
+pub no_ray : (k : EndKind) (P : Type 0) → (k ≡ kind.Unbounded → ⊥) → HasRay k P
 no_ray kind.Optimal P h = tt
 no_ray kind.Infeasible P h = tt
 no_ray kind.Unbounded P h = absurd (h refl)

@@ -14,7 +14,7 @@ use Rattle.gq_number.proofs.Signs.{zero-<ℚ-one}
 use Rattle.gq_number.proofs.Sums.{sum_by_ℚ-nil, sum_by_ℚ-cons, sum_by_ℚ-zero, sum_by_ℚ-+ℚ}
 use Rattle.lp_core.specs.StandardForm as form
 use Rattle.lp_core.specs.Dictionary.{Dictionary, basic_at, constant_at, entry_at}
-use Rattle.lp_core.specs.Answers.{row_of_basic, value_by_row, change_by_row}
+use Rattle.lp_core.specs.Pivots.{row_of_basic, value_by_row, change_by_row}
 use Rattle.lp_core.proofs.RowSums.{sum_by_same}
 use Rattle.lp_std.specs.Last.{IsDictionaryOf}
 use Rattle.lp_std.proofs.Sums.{unit_at, unit_here, unit_there, range_unit}

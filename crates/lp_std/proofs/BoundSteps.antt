@@ -18,7 +18,7 @@ use Rattle.lp_std.proofs.Stops.{stop_behind}
 use Rattle.lp_std.proofs.Walks.{column_at-map}
 use Rattle.lp_std.proofs.RowSteps.{stops_in_front}
 
-pub counted_by_bounds : {F : Type 0} (value : F → Number) (j v : ℕ) (lower upper : Option F) → length (form.bound_rows j v (bound_value value lower) (bound_value value upper)) ≡ form.count_by_bounds lower upper
+pub counted_by_bounds : {F : Type 0} (value : F → Number) (j v : ℕ) (lower upper : Option F) → length (form.bound_rows j v (bound_value value lower) (bound_value value upper)) ≡ form.rows_of_bounds lower upper
 counted_by_bounds value j v (Some l) (Some u) = refl
 counted_by_bounds value j v (Some l) None = refl
 counted_by_bounds value j v None (Some u) = refl
@@ -33,18 +33,18 @@ module _ {F : Type 0} (value : F → Number) (limit : ℕ) (columns : List (ℕ 
 
   pub bounds_stop : (r : ℕ) (s : Stop) → StopsAt (step r) s → StopsAt (bounds_steps value limit r j (drop j bounded)) s
   bounds_stop r s h =
-      subst (λ xs. StopsAt (bounds_steps value limit r j xs) s) (sym (drop_item bounded j column here is)) (stops_in_front (step r) (bounds_steps value limit (r + form.count_by_bounds column.lower column.upper) (j + 1) (drop (j + 1) bounded)) s h)
+      subst (λ xs. StopsAt (bounds_steps value limit r j xs) s) (sym (drop_item bounded j column here is)) (stops_in_front (step r) (bounds_steps value limit (r + form.rows_of_bounds column.lower column.upper) (j + 1) (drop (j + 1) bounded)) s h)
 
-  pub bounds_go : (r : ℕ) → first_stop (step r) ≡ None → first_stop (bounds_steps value limit r j (drop j bounded)) ≡ first_stop (bounds_steps value limit (r + form.count_by_bounds column.lower column.upper) (j + 1) (drop (j + 1) bounded))
+  pub bounds_go : (r : ℕ) → first_stop (step r) ≡ None → first_stop (bounds_steps value limit r j (drop j bounded)) ≡ first_stop (bounds_steps value limit (r + form.rows_of_bounds column.lower column.upper) (j + 1) (drop (j + 1) bounded))
   bounds_go r h =
       ap (λ xs. first_stop (bounds_steps value limit r j xs)) (drop_item bounded j column here is)
-      ∙ stop_behind (step r) (bounds_steps value limit (r + form.count_by_bounds column.lower column.upper) (j + 1) (drop (j + 1) bounded)) h
+      ∙ stop_behind (step r) (bounds_steps value limit (r + form.rows_of_bounds column.lower column.upper) (j + 1) (drop (j + 1) bounded)) h
 
-  pub bounds_count : sum_by (λ (c : Column F). form.count_by_bounds c.lower c.upper) (drop j bounded) ≡ form.count_by_bounds column.lower column.upper + sum_by (λ (c : Column F). form.count_by_bounds c.lower c.upper) (drop (j + 1) bounded)
-  bounds_count = ap (sum_by (λ (c : Column F). form.count_by_bounds c.lower c.upper)) (drop_item bounded j column here is) ∙ sum_by-cons (λ (c : Column F). form.count_by_bounds c.lower c.upper) column (drop (j + 1) bounded)
+  pub bounds_count : sum_by (λ (c : Column F). form.rows_of_bounds c.lower c.upper) (drop j bounded) ≡ form.rows_of_bounds column.lower column.upper + sum_by (λ (c : Column F). form.rows_of_bounds c.lower c.upper) (drop (j + 1) bounded)
+  bounds_count = ap (sum_by (λ (c : Column F). form.rows_of_bounds c.lower c.upper)) (drop_item bounded j column here is) ∙ sum_by-cons (λ (c : Column F). form.rows_of_bounds c.lower c.upper) column (drop (j + 1) bounded)
 
   module _ (old new : List (StdRow F)) (h : map (row_value value) new ≡ map (row_value value) old ++ row_there) where
-    pub bounds_length : length new ≡ length old + form.count_by_bounds column.lower column.upper
+    pub bounds_length : length new ≡ length old + form.rows_of_bounds column.lower column.upper
     bounds_length =
         sym (length-map new (row_value value)) ∙ ap length h ∙ length-append (map (row_value value) old) row_there
         ∙ ap₂ (λ a b. a + b) (length-map old (row_value value)) (counted_by_bounds value j p.0 column.lower column.upper)

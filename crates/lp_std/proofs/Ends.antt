@@ -11,7 +11,12 @@ use Rattle.gq_number.proofs.Order
 use Rattle.gq_number.proofs.Ring.{ring_ℚ, zero-*ℚ}
 use Rattle.gq_number.proofs.Linear.{≤ℚ_from, <ℚ_from}
 use Rattle.gq_number.proofs.Sums.{sum_by_ℚ-nil, sum_by_ℚ-cons, sum_by_ℚ-zero}
+use Rattle.lp_core.specs.declared.answer.End.{End}
+use Rattle.lp_core.specs.declared.answer.End.TheVariants.{Optimal, Infeasible, Unbounded, Interrupted}
+use Rattle.lp_core.specs.declared.answer.EndKind.{EndKind}
+use Rattle.lp_core.specs.declared.answer.EndKind.TheVariants as kind
 use Rattle.lp_core.specs.declared.answer.Rule.TheVariants.{Legal}
+use Rattle.lp_core.specs.Ends.{IsUnlimited, LeadsTo}
 use Rattle.lp_core.specs.declared.program.Sense.{Sense}
 use Rattle.lp_core.specs.declared.program.Sense.TheVariants as sense
 use Rattle.lp_core.specs.declared.program.Column.{Column}
@@ -21,16 +26,16 @@ use Rattle.lp_core.specs.Sums.{number_of, row_sum}
 use Rattle.lp_core.specs.Feasible.{bound_value, Feasible}
 use Rattle.lp_core.specs.WellFormed.{IsWellFormed}
 use Rattle.lp_core.specs.DualBound.{row_lower, row_upper, used, total, both, low, high, dual_bound, reduced_cost, objective_costs, no_costs}
-use Rattle.lp_core.specs.Proofs.{Crosses, KeepsSenseAlong, KeepsLowerAlong, KeepsUpperAlong, Improves, row_sums, ProvesOptimal, ProvesInfeasible, ProvesUnbounded}
+use Rattle.lp_core.specs.Proofs.{Crosses, KeepsSenseAlong, KeepsLowerAlong, KeepsUpperAlong, Improves, row_sums, ProvesOptimal, ProvesInfeasible, ProvesUnbounded, FirstCrossed, IsProved}
 use Rattle.lp_core.specs.StandardForm as form
 use Rattle.lp_core.specs.Dictionary.{Dictionary, constant_at, InPhaseOne, OpeningIsDue}
-use Rattle.lp_core.specs.Answers.{NothingImproves, IsUnlimited, last_of, last_along}
+use Rattle.lp_core.specs.Pivots.{NothingImproves, last_of, last_along}
 use Rattle.lp_core.proofs.RowSums.{sum_by_same, unit_sum}
 use Rattle.lp_core.proofs.Duality.{bound_below, bound_above}
 use Rattle.lp_core.proofs.Points.{entries_within}
 use Rattle.lp_std.specs.Pieces.{spread_entries, rows_over, bounds_over}
 use Rattle.lp_std.specs.Points.{AreAtLeastZero, sum_at, objective_at}
-use Rattle.lp_std.specs.Last.{IsDictionaryOf}
+use Rattle.lp_std.specs.Last.{IsDictionaryOf, IsReadAt}
 use Rattle.lp_std.proofs.Shapes.{shift_for, columns_numbered}
 use Rattle.lp_std.proofs.SamePoints.{number_of-map, column_at-numbered, spread_changes, negated_at, at_least_zero, spread_within, columns_sized, objective_sum, objective_numbered, same_points, same_objective}
 use Rattle.lp_std.proofs.Sums.{All-append_left, All-append_right}
@@ -171,15 +176,15 @@ module _ {F : Type 0} (value : F → Number) (costs : List Number) (n : ℕ) (be
   pub reduced_are : (columns : List (Column F)) (v r : ℕ) → 1 ≤ v → ((k : ℕ) → k < length columns → number_of (by_columns value costs n (second value costs n) v r columns) k ≡ whole (pos 0)) → form.reduced_from costs (form.multiplier n costs) r (form.numbered v (map (shift_for value) columns)) columns ≡ by_columns value costs n (slope value costs n) v r columns
   reduced_are [] v r past seconds = refl
   reduced_are (column ∷ columns) v r past seconds =
-      ap₂ (λ a more. a ∷ more) (reduced_is column.lower column.upper v r past (seconds 0 (omega arith))) (reduced_are columns (v + form.width (shift_for value column)) (r + form.count_by_bounds column.lower column.upper) (omega arith) (λ k h. seconds (suc k) (omega arith)))
+      ap₂ (λ a more. a ∷ more) (reduced_is column.lower column.upper v r past (seconds 0 (omega arith))) (reduced_are columns (v + form.width (shift_for value column)) (r + form.rows_of_bounds column.lower column.upper) (omega arith) (λ k h. seconds (suc k) (omega arith)))
 
 length-duals_from : {F : Type 0} (p : ℕ → Number) (r : ℕ) (rows : List (Row F)) → length (form.duals_from p r rows) ≡ length rows
 length-duals_from p r [] = refl
-length-duals_from p r (row ∷ rows) = ap (λ k. suc k) (length-duals_from p (r + form.count_by_sense row.sense) rows)
+length-duals_from p r (row ∷ rows) = ap (λ k. suc k) (length-duals_from p (r + form.rows_of_sense row.sense) rows)
 
 length-of_columns : {F : Type 0} (value : F → Number) (numbers : List Number) (n : ℕ) (f : ℕ → ℕ → Option F → Option F → Number) (v r : ℕ) (columns : List (Column F)) → length (by_columns value numbers n f v r columns) ≡ length columns
 length-of_columns value numbers n f v r [] = refl
-length-of_columns value numbers n f v r (column ∷ columns) = ap (λ k. suc k) (length-of_columns value numbers n f (v + form.width (shift_for value column)) (r + form.count_by_bounds column.lower column.upper) columns)
+length-of_columns value numbers n f v r (column ∷ columns) = ap (λ k. suc k) (length-of_columns value numbers n f (v + form.width (shift_for value column)) (r + form.rows_of_bounds column.lower column.upper) columns)
 
 -- the bound in a direction, by cases
 both_pick : {F : Type 0} (value : F → Number) (lp : Lp F) (prices : ℕ → Number) (factors : List Number) (b : Bool) (t : Number) → both (total (map (λ (q : Row F × Number). used q.1 (cond b (row_upper q.0.sense (value q.0.right)) (row_lower q.0.sense (value q.0.right))) (cond b (row_lower q.0.sense (value q.0.right)) (row_upper q.0.sense (value q.0.right)))) (zip lp.rows factors))) (total (map (λ (q : ℕ × Column F). used (reduced_cost value lp prices factors q.0) (cond b (bound_value value q.1.upper) (bound_value value q.1.lower)) (cond b (bound_value value q.1.lower) (bound_value value q.1.upper))) (enumerate_from 0 lp.columns))) ≡ Some t → cond b (high value lp prices factors) (low value lp prices factors) ≡ Some t
@@ -321,3 +326,29 @@ module _ {F : Type 0} (value : F → Number) (lp : Lp F) (formed : IsWellFormed 
       where
         balanced : (k t : Number) → k +ℚ neg_ℚ k ≡ t +ℚ neg_ℚ t
         balanced k t = simp ring_ℚ
+
+-- ---- what the way back tells of an end of any kind is proved
+
+module _ {F : Type 0} (value : F → Number) (lp : Lp F) (formed : IsWellFormed value lp) (none : FirstCrossed value lp.columns None) (d : Dictionary) (is : IsDictionaryOf (form.standard_form value lp) d) where
+  pub proved_at : (k : EndKind) (last : form.Last) → IsReadAt d k last → (end : End F) → LeadsTo value lp k last end → IsProved value lp end
+  proved_at kind.Optimal last at (Optimal levels row_levels duals reduced) h =
+      let proof = subst (λ l. ProvesOptimal value lp (form.levels_back value lp l) (row_sums value lp (form.levels_back value lp l)) (form.duals_back value lp l) (form.reduced_back value lp l)) (sym at.2) (optimal_proved value lp formed none d is at.1.0 at.0 at.1) in
+      subst (λ x. ProvesOptimal value lp x (map value row_levels) (map value duals) (map value reduced)) (sym h.0)
+      (subst (λ x. ProvesOptimal value lp (form.levels_back value lp last) x (map value duals) (map value reduced)) (sym h.1)
+      (subst (λ x. ProvesOptimal value lp (form.levels_back value lp last) (row_sums value lp (form.levels_back value lp last)) x (map value reduced)) (sym h.2)
+      (subst (λ x. ProvesOptimal value lp (form.levels_back value lp last) (row_sums value lp (form.levels_back value lp last)) (form.duals_back value lp last) x) (sym h.3) proof)))
+  proved_at kind.Infeasible last at (Infeasible duals None) h =
+      subst (λ x. ProvesInfeasible value lp x) (sym (h.0 ∙ ap (form.farkas_back value lp) at.2)) (infeasible_proved value lp formed none d is at.1.0 at.0 at.1)
+  proved_at kind.Infeasible last at (Infeasible duals (Some j)) h = absurd (let clash : Some j ≡ None = h.1 in cc)
+  proved_at kind.Unbounded last at (Unbounded levels row_levels ray) h =
+      let q = at.1.0 in
+      let unlimited = at.1.1 in
+      let e = at.1.2 in
+      let point : form.levels_back value lp last ≡ form.levels_back value lp (last_of d) = ap (λ l. form.levels_back value lp l) e in
+      let proof = unbounded_proved value lp formed none d is unlimited.0 at.0 q unlimited in
+      subst (λ x. ProvesUnbounded value lp x (map value row_levels) (map value ray)) (sym (h.0 ∙ point))
+      (subst (λ x. ProvesUnbounded value lp (form.levels_back value lp (last_of d)) x (map value ray)) (sym (h.1 ∙ ap (row_sums value lp) point))
+      (subst (λ x. ProvesUnbounded value lp (form.levels_back value lp (last_of d)) (row_sums value lp (form.levels_back value lp (last_of d))) x) (sym (h.2 ∙ ap (form.ray_back value lp) e)) proof))
+  proved_at kind.Interrupted last at (Interrupted phase levels row_levels) h =
+      subst (λ x. Feasible value lp x) (sym (h.1 ∙ ap (form.levels_back value lp) at.3)) (point_feasible value lp formed none d is at.1 at.0)
+  proved_at k last at end h = absurd (h)

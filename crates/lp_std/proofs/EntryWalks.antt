@@ -49,23 +49,23 @@ module _ {F : Type 0} (value : F → Number) (limit i : ℕ) (entries : List (�
 -- ---- duals, row by row
 
 module _ {F : Type 0} (value : F → Number) (limit : ℕ) (p : ℕ → Number) (b : Bool) (rows : List (Row F)) (i : ℕ) (row : Row F) (here : i < length rows) (is : row ≡ get_or rows i row) where
-  pub dual_goes : (r : ℕ) → first_stop (dual_step limit p i r row.sense) ≡ None → first_stop (dual_steps limit p i r (drop i rows)) ≡ first_stop (dual_steps limit p (i + 1) (r + form.count_by_sense row.sense) (drop (i + 1) rows))
+  pub dual_goes : (r : ℕ) → first_stop (dual_step limit p i r row.sense) ≡ None → first_stop (dual_steps limit p i r (drop i rows)) ≡ first_stop (dual_steps limit p (i + 1) (r + form.rows_of_sense row.sense) (drop (i + 1) rows))
   dual_goes r h =
       ap (λ xs. first_stop (dual_steps limit p i r xs)) (drop_item rows i row here is)
-      ∙ stop_behind (dual_step limit p i r row.sense) (dual_steps limit p (i + 1) (r + form.count_by_sense row.sense) (drop (i + 1) rows)) h
+      ∙ stop_behind (dual_step limit p i r row.sense) (dual_steps limit p (i + 1) (r + form.rows_of_sense row.sense) (drop (i + 1) rows)) h
 
   pub dual_stops : (r : ℕ) (step : StepName) → first_stop (dual_step limit p i r row.sense) ≡ Some step → first_stop (dual_steps limit p i r (drop i rows)) ≡ Some step
   dual_stops r step h =
       ap (λ xs. first_stop (dual_steps limit p i r xs)) (drop_item rows i row here is)
-      ∙ stop_before (dual_step limit p i r row.sense) (dual_steps limit p (i + 1) (r + form.count_by_sense row.sense) (drop (i + 1) rows)) step h
+      ∙ stop_before (dual_step limit p i r row.sense) (dual_steps limit p (i + 1) (r + form.rows_of_sense row.sense) (drop (i + 1) rows)) step h
 
-  pub dual_made : (made : List F) (y : F) (r : ℕ) → value y ≡ form.directed b (form.dual_by_sense row.sense p r) → map value (made ++ y ∷ []) ++ map (form.directed b) (form.duals_from p (r + form.count_by_sense row.sense) (drop (i + 1) rows)) ≡ map value made ++ map (form.directed b) (form.duals_from p r (drop i rows))
+  pub dual_made : (made : List F) (y : F) (r : ℕ) → value y ≡ form.directed b (form.dual_by_sense row.sense p r) → map value (made ++ y ∷ []) ++ map (form.directed b) (form.duals_from p (r + form.rows_of_sense row.sense) (drop (i + 1) rows)) ≡ map value made ++ map (form.directed b) (form.duals_from p r (drop i rows))
   dual_made made y r h =
-      ap (λ ys. ys ++ map (form.directed b) (form.duals_from p (r + form.count_by_sense row.sense) (drop (i + 1) rows))) (map-append value made (y ∷ []) ∙ ap (λ a. map value made ++ a ∷ []) h)
-      ∙ append_assoc (map value made) (form.directed b (form.dual_by_sense row.sense p r) ∷ []) (map (form.directed b) (form.duals_from p (r + form.count_by_sense row.sense) (drop (i + 1) rows)))
+      ap (λ ys. ys ++ map (form.directed b) (form.duals_from p (r + form.rows_of_sense row.sense) (drop (i + 1) rows))) (map-append value made (y ∷ []) ∙ ap (λ a. map value made ++ a ∷ []) h)
+      ∙ append_assoc (map value made) (form.directed b (form.dual_by_sense row.sense p r) ∷ []) (map (form.directed b) (form.duals_from p (r + form.rows_of_sense row.sense) (drop (i + 1) rows)))
       ∙ sym (ap (λ xs. map value made ++ map (form.directed b) (form.duals_from p r xs)) (drop_item rows i row here is))
 
-  pub count_here : count_of_rows (drop i rows) ≡ form.count_by_sense row.sense + count_of_rows (drop (i + 1) rows)
+  pub count_here : count_of_rows (drop i rows) ≡ form.rows_of_sense row.sense + count_of_rows (drop (i + 1) rows)
   count_here = ap count_of_rows (drop_item rows i row here is)
 
 pub duals_end : {F : Type 0} (value : F → Number) (p : ℕ → Number) (b : Bool) (rows : List (Row F)) (i r : ℕ) (made : List F) → length rows ≤ i → map value made ≡ map value made ++ map (form.directed b) (form.duals_from p r (drop i rows))
@@ -80,24 +80,24 @@ module _ {F : Type 0} (value : F → Number) (limit : ℕ) (costs : List Number)
   placed_drop : placed_value value (drop j columns) ≡ (place.0, shift_value value place.1) ∷ placed_value value (drop (j + 1) columns)
   placed_drop = ap (placed_value value) (drop_item columns j place there place_is)
 
-  pub reduced_goes : (r : ℕ) → first_stop (reduced_step limit costs p j place.0 r column.lower column.upper) ≡ None → first_stop (reduced_steps limit costs p j r (placed_value value (drop j columns)) (drop j bounded)) ≡ first_stop (reduced_steps limit costs p (j + 1) (r + form.count_by_bounds column.lower column.upper) (placed_value value (drop (j + 1) columns)) (drop (j + 1) bounded))
+  pub reduced_goes : (r : ℕ) → first_stop (reduced_step limit costs p j place.0 r column.lower column.upper) ≡ None → first_stop (reduced_steps limit costs p j r (placed_value value (drop j columns)) (drop j bounded)) ≡ first_stop (reduced_steps limit costs p (j + 1) (r + form.rows_of_bounds column.lower column.upper) (placed_value value (drop (j + 1) columns)) (drop (j + 1) bounded))
   reduced_goes r h =
       ap₂ (λ cs xs. first_stop (reduced_steps limit costs p j r cs xs)) placed_drop (drop_item bounded j column here is)
-      ∙ stop_behind (reduced_step limit costs p j place.0 r column.lower column.upper) (reduced_steps limit costs p (j + 1) (r + form.count_by_bounds column.lower column.upper) (placed_value value (drop (j + 1) columns)) (drop (j + 1) bounded)) h
+      ∙ stop_behind (reduced_step limit costs p j place.0 r column.lower column.upper) (reduced_steps limit costs p (j + 1) (r + form.rows_of_bounds column.lower column.upper) (placed_value value (drop (j + 1) columns)) (drop (j + 1) bounded)) h
 
   pub reduced_stops : (r : ℕ) (step : StepName) → first_stop (reduced_step limit costs p j place.0 r column.lower column.upper) ≡ Some step → first_stop (reduced_steps limit costs p j r (placed_value value (drop j columns)) (drop j bounded)) ≡ Some step
   reduced_stops r step h =
       ap₂ (λ cs xs. first_stop (reduced_steps limit costs p j r cs xs)) placed_drop (drop_item bounded j column here is)
-      ∙ stop_before (reduced_step limit costs p j place.0 r column.lower column.upper) (reduced_steps limit costs p (j + 1) (r + form.count_by_bounds column.lower column.upper) (placed_value value (drop (j + 1) columns)) (drop (j + 1) bounded)) step h
+      ∙ stop_before (reduced_step limit costs p j place.0 r column.lower column.upper) (reduced_steps limit costs p (j + 1) (r + form.rows_of_bounds column.lower column.upper) (placed_value value (drop (j + 1) columns)) (drop (j + 1) bounded)) step h
 
-  pub reduced_made : (made : List F) (y : F) (r : ℕ) → value y ≡ form.directed b (form.reduced_by_bounds costs p place.0 r column.lower column.upper) → map value (made ++ y ∷ []) ++ map (form.directed b) (form.reduced_from costs p (r + form.count_by_bounds column.lower column.upper) (placed_value value (drop (j + 1) columns)) (drop (j + 1) bounded)) ≡ map value made ++ map (form.directed b) (form.reduced_from costs p r (placed_value value (drop j columns)) (drop j bounded))
+  pub reduced_made : (made : List F) (y : F) (r : ℕ) → value y ≡ form.directed b (form.reduced_by_bounds costs p place.0 r column.lower column.upper) → map value (made ++ y ∷ []) ++ map (form.directed b) (form.reduced_from costs p (r + form.rows_of_bounds column.lower column.upper) (placed_value value (drop (j + 1) columns)) (drop (j + 1) bounded)) ≡ map value made ++ map (form.directed b) (form.reduced_from costs p r (placed_value value (drop j columns)) (drop j bounded))
   reduced_made made y r h =
-      ap (λ ys. ys ++ map (form.directed b) (form.reduced_from costs p (r + form.count_by_bounds column.lower column.upper) (placed_value value (drop (j + 1) columns)) (drop (j + 1) bounded))) (map-append value made (y ∷ []) ∙ ap (λ a. map value made ++ a ∷ []) h)
-      ∙ append_assoc (map value made) (form.directed b (form.reduced_by_bounds costs p place.0 r column.lower column.upper) ∷ []) (map (form.directed b) (form.reduced_from costs p (r + form.count_by_bounds column.lower column.upper) (placed_value value (drop (j + 1) columns)) (drop (j + 1) bounded)))
+      ap (λ ys. ys ++ map (form.directed b) (form.reduced_from costs p (r + form.rows_of_bounds column.lower column.upper) (placed_value value (drop (j + 1) columns)) (drop (j + 1) bounded))) (map-append value made (y ∷ []) ∙ ap (λ a. map value made ++ a ∷ []) h)
+      ∙ append_assoc (map value made) (form.directed b (form.reduced_by_bounds costs p place.0 r column.lower column.upper) ∷ []) (map (form.directed b) (form.reduced_from costs p (r + form.rows_of_bounds column.lower column.upper) (placed_value value (drop (j + 1) columns)) (drop (j + 1) bounded)))
       ∙ sym (ap₂ (λ cs xs. map value made ++ map (form.directed b) (form.reduced_from costs p r cs xs)) placed_drop (drop_item bounded j column here is))
 
-  pub own_count : sum_by (λ (c : Column F). form.count_by_bounds c.lower c.upper) (drop j bounded) ≡ form.count_by_bounds column.lower column.upper + sum_by (λ (c : Column F). form.count_by_bounds c.lower c.upper) (drop (j + 1) bounded)
-  own_count = ap (sum_by (λ (c : Column F). form.count_by_bounds c.lower c.upper)) (drop_item bounded j column here is) ∙ sum_by-cons (λ (c : Column F). form.count_by_bounds c.lower c.upper) column (drop (j + 1) bounded)
+  pub own_count : sum_by (λ (c : Column F). form.rows_of_bounds c.lower c.upper) (drop j bounded) ≡ form.rows_of_bounds column.lower column.upper + sum_by (λ (c : Column F). form.rows_of_bounds c.lower c.upper) (drop (j + 1) bounded)
+  own_count = ap (sum_by (λ (c : Column F). form.rows_of_bounds c.lower c.upper)) (drop_item bounded j column here is) ∙ sum_by-cons (λ (c : Column F). form.rows_of_bounds c.lower c.upper) column (drop (j + 1) bounded)
 
 module _ {F : Type 0} (value : F → Number) (limit : ℕ) (costs : List Number) (p : ℕ → Number) (b : Bool) (columns : List (ℕ × Shift F)) (bounded : List (Column F)) (j r : ℕ) (end : length bounded ≤ j) (past : length columns ≤ j) where
   pub reduced_steps_end : first_stop (reduced_steps limit costs p j r (placed_value value (drop j columns)) (drop j bounded)) ≡ None

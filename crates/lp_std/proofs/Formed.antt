@@ -4,6 +4,7 @@ use Rattle.std.specs.Prelude.{sum_by, Result, Ok, Err}
 use Rattle.std.specs.Result.{IfOk, IfErr}
 use Rattle.gq_number.specs.Number.{Number, whole}
 use Rattle.lp_core.specs.declared.program.Column.{Column}
+use Rattle.lp_core.specs.Proofs.{FirstCrossed}
 use Rattle.lp_core.specs.declared.program.Row.{Row}
 use Rattle.lp_core.specs.declared.program.Lp.{Lp}
 use Rattle.lp_core.specs.StandardForm as form
@@ -12,7 +13,7 @@ use Rattle.lp_core.specs.WellFormed.{IsWellFormed}
 use Rattle.lp_std.specs.declared.types.Shift.{Shift}
 use Rattle.lp_std.specs.declared.types.StdRow.{StdRow}
 use Rattle.lp_std.specs.declared.stop.Stop.{Stop}
-use Rattle.lp_std.specs.Meaning.{shift_value, row_value, standard_value, FirstCrossed, HasNoForm}
+use Rattle.lp_std.specs.Meaning.{shift_value, row_value, standard_value, HasNoForm}
 use Rattle.lp_std.specs.Pieces.{first_stop, StopsAt, placed_value, rows_over, bounds_over}
 use Rattle.lp_std.specs.declared.stop.Stop.TheVariants as stop
 use Rattle.lp_std.proofs.Stops.{stop_behind, all_fit, stops_first}
@@ -38,8 +39,8 @@ module _ {F : Type 0} (value : F → Number) (limit : ℕ) (lp : Lp F) (columns 
         stop_behind (rows_steps value limit (form.columns_of value lp) 1 lp.rows) (bounds_steps value limit (1 + count_of_rows lp.rows) 0 lp.columns) rows_fit
         ∙ ap₂ (λ n cs. first_stop (bounds_steps value limit n 0 cs)) (sym same_count) (sym bounded_are)
 
-    pub room_left : IsWellFormed value lp → length made + sum_by (λ (column : Column F). form.count_by_bounds column.lower column.upper) bounded ≤ 1500
-    room_left formed = omega (arith, counted, ap count_of_rows rows_are, ap (sum_by (λ (column : Column F). form.count_by_bounds column.lower column.upper)) bounded_are, rows_few value lp formed)
+    pub room_left : IsWellFormed value lp → length made + sum_by (λ (column : Column F). form.rows_of_bounds column.lower column.upper) bounded ≤ 1500
+    room_left formed = omega (arith, counted, ap count_of_rows rows_are, ap (sum_by (λ (column : Column F). form.rows_of_bounds column.lower column.upper)) bounded_are, rows_few value lp formed)
 
     pub bounds_stopped : (s : Stop) → StopsAt (bounds_steps value limit (length made + 1) 0 bounded) s → StopsAt (standard_steps value limit lp) s
     bounds_stopped s h = stops_on (standard_steps value limit lp) (bounds_steps value limit (length made + 1) 0 bounded) s same_stop h

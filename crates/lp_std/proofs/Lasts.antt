@@ -16,10 +16,11 @@ use Rattle.gq_number.proofs.Linear.{≤ℚ_from}
 use Rattle.gq_number.proofs.Signs.{neg-zero-≤ℚ, zero-≤ℚ-one}
 use Rattle.gq_number.proofs.Sums.{sum_by_ℚ-nil, sum_by_ℚ-cons, sum_by_ℚ-append, sum_by_ℚ-+ℚ}
 use Rattle.lp_core.specs.declared.answer.Rule.TheVariants.{Legal}
+use Rattle.lp_core.specs.Ends.{IsUnlimited}
 use Rattle.lp_core.specs.Sums.{number_of}
 use Rattle.lp_core.specs.StandardForm as form
 use Rattle.lp_core.specs.Dictionary.{Dictionary, basic_at, constant_at, entry_at, row_at, Meets, InPhaseOne, OpeningIsDue, IsPriced, no_row, first_dictionary}
-use Rattle.lp_core.specs.Answers.{row_of_basic, value_by_row, change_by_row, cost_by_row, priced_row, all_variables, NothingImproves, IsUnlimited}
+use Rattle.lp_core.specs.Pivots.{row_of_basic, value_by_row, change_by_row, cost_by_row, priced_row, all_variables, NothingImproves}
 use Rattle.lp_core.proofs.RowSums.{sum_by_same}
 use Rattle.lp_std.specs.Last.{IsDictionaryOf}
 use Rattle.lp_std.specs.Points.{AreAtLeastZero, sum_at, KeepsRows, objective_at}

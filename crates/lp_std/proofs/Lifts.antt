@@ -66,7 +66,7 @@ module _ {F : Type 0} (value : F → Number) (costs : List Number) (n : ℕ) whe
   -- the numbers of columns, the first with first variable v and own row at place r
   abbrev pub by_columns : (ℕ → ℕ → Option F → Option F → Number) → ℕ → ℕ → List (Column F) → List Number
   by_columns f v r [] = []
-  by_columns f v r (column ∷ columns) = f v r column.lower column.upper ∷ by_columns f (v + form.width (shift_for value column)) (r + form.count_by_bounds column.lower column.upper) columns
+  by_columns f v r (column ∷ columns) = f v r column.lower column.upper ∷ by_columns f (v + form.width (shift_for value column)) (r + form.rows_of_bounds column.lower column.upper) columns
 
 -- the sum of a list's numbers times those of a function from place j on
 abbrev pub weighted : (ℕ → Number) → ℕ → List Number → Number
@@ -147,17 +147,17 @@ module _ (x t : ℕ → Number) where
         let W = sum_by form.width shifts in
         let here : form.column_at all j ≡ (v, s) = ap (form.column_at all) (let c : j ≡ j + 0 = omega arith in c) ∙ at 0 in
         let first = form.bound_rows j v (bound_value value column.lower) (bound_value value column.upper) in
-        let count = form.count_by_bounds column.lower column.upper in
-        let rest = columns_sum all columns (front ++ piece s (x j) (t j)) y (v + form.width s) (r + form.count_by_bounds column.lower column.upper) (j + 1) (behind s shifts front y j e) (longer s front v j m) (λ k. ap (form.column_at all) (let c : j + 1 + k ≡ j + suc k = omega arith in c) ∙ at (suc k)) in
+        let count = form.rows_of_bounds column.lower column.upper in
+        let rest = columns_sum all columns (front ++ piece s (x j) (t j)) y (v + form.width s) (r + form.rows_of_bounds column.lower column.upper) (j + 1) (behind s shifts front y j e) (longer s front v j m) (λ k. ap (form.column_at all) (let c : j + 1 + k ≡ j + suc k = omega arith in c) ∙ at (suc k)) in
         ap₂ (λ a b. a +ℚ b)
         (ap (λ k. sum_by_ℚ g (range_with_len v k)) (sum_by-cons form.width s shifts) ∙ ap (sum_by_ℚ g) (range-append v (form.width s) W) ∙ sum_by_ℚ-append g (range_with_len v (form.width s)) (range_with_len (v + form.width s) W))
         (ap (λ (c : ℕ × form.Shift). slack_sum costs y (n + 1 + r) (form.bound_rows j c.0 (bound_value value column.lower) (bound_value value column.upper) ++ bounds_over value all (j + 1) columns)) here
         ∙ slack_sum-append costs y (n + 1 + r) first (bounds_over value all (j + 1) columns)
-        ∙ ap (λ k. slack_sum costs y (n + 1 + r) first +ℚ slack_sum costs y k (bounds_over value all (j + 1) columns)) (ap (λ k. n + 1 + r + k) (counted_by_bounds value j v column.lower column.upper) ∙ (let c : n + 1 + r + form.count_by_bounds column.lower column.upper ≡ n + 1 + (r + form.count_by_bounds column.lower column.upper) = omega arith in c)))
+        ∙ ap (λ k. slack_sum costs y (n + 1 + r) first +ℚ slack_sum costs y k (bounds_over value all (j + 1) columns)) (ap (λ k. n + 1 + r + k) (counted_by_bounds value j v column.lower column.upper) ∙ (let c : n + 1 + r + form.rows_of_bounds column.lower column.upper ≡ n + 1 + (r + form.rows_of_bounds column.lower column.upper) = omega arith in c)))
         ∙ paired _ _ _ _
         ∙ ap₂ (λ a b. a +ℚ b) (column_sum column.lower column.upper front (x j) (t j) (lift shifts (j + 1)) y v r j e m) rest
         ∙ sorted _ _ _ _ _ _
-        ∙ sym (ap₂ (λ a b. a +ℚ b) (ap₂ (λ a b. a +ℚ b) (sum_by_ℚ-cons _ (j, slope value costs n v r column.lower column.upper) (enumerate_from (j + 1) (by_columns value costs n (slope value costs n) (v + form.width s) (r + form.count_by_bounds column.lower column.upper) columns))) (sum_by_ℚ-cons _ (j, second value costs n v r column.lower column.upper) (enumerate_from (j + 1) (by_columns value costs n (second value costs n) (v + form.width s) (r + form.count_by_bounds column.lower column.upper) columns)))) (sum_by_ℚ-cons _ (constant value costs n v r column.lower column.upper) (by_columns value costs n (constant value costs n) (v + form.width s) (r + form.count_by_bounds column.lower column.upper) columns)))
+        ∙ sym (ap₂ (λ a b. a +ℚ b) (ap₂ (λ a b. a +ℚ b) (sum_by_ℚ-cons _ (j, slope value costs n v r column.lower column.upper) (enumerate_from (j + 1) (by_columns value costs n (slope value costs n) (v + form.width s) (r + form.rows_of_bounds column.lower column.upper) columns))) (sum_by_ℚ-cons _ (j, second value costs n v r column.lower column.upper) (enumerate_from (j + 1) (by_columns value costs n (second value costs n) (v + form.width s) (r + form.rows_of_bounds column.lower column.upper) columns)))) (sum_by_ℚ-cons _ (constant value costs n v r column.lower column.upper) (by_columns value costs n (constant value costs n) (v + form.width s) (r + form.rows_of_bounds column.lower column.upper) columns)))
       where
         paired : (a b c d : Number) → (a +ℚ b) +ℚ (c +ℚ d) ≡ (a +ℚ c) +ℚ (b +ℚ d)
         paired a b c d = simp ring_ℚ

@@ -73,11 +73,11 @@ module _ (costs y : List Number) (n : ℕ) where
         let made : form.StandardRow = record { right = value row.right -ℚ sum_by_ℚ (λ (e : ℕ × F). value e.1 *ℚ form.base (form.column_at columns e.0).1) row.entries; entries = spread_entries value columns row.entries; origin = form.of_row i } in
         let left = value row.right -ℚ row_sum value row.entries (map (λ c. form.shifted_back c y) columns) in
         let dual = form.dual_by_sense row.sense (form.multiplier n costs) r in
-        let count = form.count_by_sense row.sense in
+        let count = form.rows_of_sense row.sense in
         slack_sum-append costs y (n + 1 + r) (form.rows_by_sense row.sense i made) (rows_over value columns (i + 1) rows)
-        ∙ ap₂ (λ u w. u +ℚ w) (sense_sum row.sense i r made left (left_at value columns y i row entries)) (ap (λ k. slack_sum costs y k (rows_over value columns (i + 1) rows)) (ap (λ c. n + 1 + r + c) (counted_by_sense row.sense i made) ∙ (let c : n + 1 + r + form.count_by_sense row.sense ≡ n + 1 + (r + form.count_by_sense row.sense) = omega arith in c)) ∙ rows_sum (i + 1) (r + form.count_by_sense row.sense) rows (All-tail (λ (row : Row F). All (λ (e : ℕ × F). e.0 < length columns) row.entries) row rows there))
+        ∙ ap₂ (λ u w. u +ℚ w) (sense_sum row.sense i r made left (left_at value columns y i row entries)) (ap (λ k. slack_sum costs y k (rows_over value columns (i + 1) rows)) (ap (λ c. n + 1 + r + c) (counted_by_sense row.sense i made) ∙ (let c : n + 1 + r + form.rows_of_sense row.sense ≡ n + 1 + (r + form.rows_of_sense row.sense) = omega arith in c)) ∙ rows_sum (i + 1) (r + form.rows_of_sense row.sense) rows (All-tail (λ (row : Row F). All (λ (e : ℕ × F). e.0 < length columns) row.entries) row rows there))
         ∙ joined (dual *ℚ left) _
-        ∙ ap neg_ℚ (sym (sum_by_ℚ-cons _ (row, dual) (zip rows (form.duals_from (form.multiplier n costs) (r + form.count_by_sense row.sense) rows))))
+        ∙ ap neg_ℚ (sym (sum_by_ℚ-cons _ (row, dual) (zip rows (form.duals_from (form.multiplier n costs) (r + form.rows_of_sense row.sense) rows))))
       where
         joined : (a b : Number) → neg_ℚ a +ℚ neg_ℚ b ≡ neg_ℚ (a +ℚ b)
         joined a b = simp ring_ℚ

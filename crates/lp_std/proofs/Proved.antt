@@ -87,7 +87,7 @@ weighted_unit j (suc k) (a ∷ xs) h =
 
 length-by_columns : {F : Type 0} (value : F → Number) (costs : List Number) (n : ℕ) (f : ℕ → ℕ → Option F → Option F → Number) (v r : ℕ) (columns : List (Column F)) → length (by_columns value costs n f v r columns) ≡ length columns
 length-by_columns value costs n f v r [] = refl
-length-by_columns value costs n f v r (column ∷ columns) = ap (λ k. suc k) (length-by_columns value costs n f (v + form.width (shift_for value column)) (r + form.count_by_bounds column.lower column.upper) columns)
+length-by_columns value costs n f v r (column ∷ columns) = ap (λ k. suc k) (length-by_columns value costs n f (v + form.width (shift_for value column)) (r + form.rows_of_bounds column.lower column.upper) columns)
 
 -- ---- duals in the direction of the objective
 
@@ -103,12 +103,12 @@ directed_zip b h (x ∷ xs) (y ∷ duals) =
     times true y a = refl
     times false y a = simp ring_ℚ
 
-pub rows_over_counted : {F : Type 0} (value : F → Number) (columns : List (ℕ × form.Shift)) (i : ℕ) (rows : List (Row F)) → length (rows_over value columns i rows) ≡ sum_by (λ (row : Row F). form.count_by_sense row.sense) rows
+pub rows_over_counted : {F : Type 0} (value : F → Number) (columns : List (ℕ × form.Shift)) (i : ℕ) (rows : List (Row F)) → length (rows_over value columns i rows) ≡ sum_by (λ (row : Row F). form.rows_of_sense row.sense) rows
 rows_over_counted value columns i [] = refl
 rows_over_counted {F} value columns i (row ∷ rows) =
     length-append (form.rows_by_sense row.sense i _) (rows_over value columns (i + 1) rows)
     ∙ ap₂ (λ a b. a + b) (counted_by_sense row.sense i _) (rows_over_counted value columns (i + 1) rows)
-    ∙ sym (sum_by-cons (λ (row : Row F). form.count_by_sense row.sense) row rows)
+    ∙ sym (sum_by-cons (λ (row : Row F). form.rows_of_sense row.sense) row rows)
 
 -- what rows, each times its factor, and the reduced costs come to at a point
 costs_apart : {F : Type 0} (value : F → Number) (lp : Lp F) (factors x : List Number) (prices : ℕ → Number) → All (λ (row : Row F). All (λ (e : ℕ × F). e.0 < length lp.columns) row.entries) lp.rows → sum_by_ℚ (λ (p : Row F × Number). p.1 *ℚ row_sum value p.0.entries x) (zip lp.rows factors) +ℚ sum_by_ℚ (λ (q : ℕ × Column F). reduced_cost value lp prices factors q.0 *ℚ number_of x q.0) (enumerate_from 0 lp.columns) ≡ sum_by_ℚ (λ (q : ℕ × Column F). prices q.0 *ℚ number_of x q.0) (enumerate_from 0 lp.columns)
@@ -138,7 +138,7 @@ module _ {F : Type 0} (value : F → Number) (lp : Lp F) (costs : List Number) w
   duals = form.duals_from (form.multiplier (form.variables_of value lp) costs) 0 lp.rows
 
   abbrev pub own_place : ℕ
-  own_place = sum_by (λ (row : Row F). form.count_by_sense row.sense) lp.rows
+  own_place = sum_by (λ (row : Row F). form.rows_of_sense row.sense) lp.rows
 
   abbrev pub of_columns : (ℕ → ℕ → Option F → Option F → Number) → List Number
   of_columns f = by_columns value costs (form.variables_of value lp) f 1 own_place lp.columns

@@ -51,7 +51,7 @@ stops_in_front a b (stop.Limit step) h = stop_before a b step h
 stops_in_front a b (stop.Crossed j) h = absurd h
 stops_in_front a b stop.Memory h = h
 
-pub counted_by_sense : (s : Sense) (i : ℕ) (r : form.StandardRow) → length (form.rows_by_sense s i r) ≡ form.count_by_sense s
+pub counted_by_sense : (s : Sense) (i : ℕ) (r : form.StandardRow) → length (form.rows_by_sense s i r) ≡ form.rows_of_sense s
 counted_by_sense sense.E i r = refl
 counted_by_sense sense.L i r = refl
 counted_by_sense sense.G i r = refl
@@ -60,18 +60,18 @@ counted_by_sense sense.N i r = refl
 module _ {F : Type 0} (value : F → Number) (limit : ℕ) (columns : List (ℕ × form.Shift)) (rows : List (Row F)) (i : ℕ) (row : Row F) (here : i < length rows) (is : row ≡ get_or rows i row) where
   pub rows_stop : (r : ℕ) (s : Stop) → StopsAt (sense_steps value limit columns r row) s → StopsAt (rows_steps value limit columns r (drop i rows)) s
   rows_stop r s h =
-      subst (λ xs. StopsAt (rows_steps value limit columns r xs) s) (sym (drop_item rows i row here is)) (stops_in_front (sense_steps value limit columns r row) (rows_steps value limit columns (r + form.count_by_sense row.sense) (drop (i + 1) rows)) s h)
+      subst (λ xs. StopsAt (rows_steps value limit columns r xs) s) (sym (drop_item rows i row here is)) (stops_in_front (sense_steps value limit columns r row) (rows_steps value limit columns (r + form.rows_of_sense row.sense) (drop (i + 1) rows)) s h)
 
-  pub rows_go : (r : ℕ) → first_stop (sense_steps value limit columns r row) ≡ None → first_stop (rows_steps value limit columns r (drop i rows)) ≡ first_stop (rows_steps value limit columns (r + form.count_by_sense row.sense) (drop (i + 1) rows))
+  pub rows_go : (r : ℕ) → first_stop (sense_steps value limit columns r row) ≡ None → first_stop (rows_steps value limit columns r (drop i rows)) ≡ first_stop (rows_steps value limit columns (r + form.rows_of_sense row.sense) (drop (i + 1) rows))
   rows_go r h =
       ap (λ xs. first_stop (rows_steps value limit columns r xs)) (drop_item rows i row here is)
-      ∙ stop_behind (sense_steps value limit columns r row) (rows_steps value limit columns (r + form.count_by_sense row.sense) (drop (i + 1) rows)) h
+      ∙ stop_behind (sense_steps value limit columns r row) (rows_steps value limit columns (r + form.rows_of_sense row.sense) (drop (i + 1) rows)) h
 
-  pub count_here : count_of_rows (drop i rows) ≡ form.count_by_sense row.sense + count_of_rows (drop (i + 1) rows)
+  pub count_here : count_of_rows (drop i rows) ≡ form.rows_of_sense row.sense + count_of_rows (drop (i + 1) rows)
   count_here = ap count_of_rows (drop_item rows i row here is)
 
   module _ (old new : List (StdRow F)) (h : map (row_value value) new ≡ map (row_value value) old ++ form.rows_by_sense row.sense i (shifted_over value columns i row)) where
-    pub new_length : length new ≡ length old + form.count_by_sense row.sense
+    pub new_length : length new ≡ length old + form.rows_of_sense row.sense
     new_length =
         sym (length-map new (row_value value)) ∙ ap length h ∙ length-append (map (row_value value) old) (form.rows_by_sense row.sense i (shifted_over value columns i row))
         ∙ ap₂ (λ a b. a + b) (length-map old (row_value value)) (counted_by_sense row.sense i (shifted_over value columns i row))

@@ -83,13 +83,13 @@ columns_counted value (column ∷ columns) =
 
 -- ---- rows
 
-same_rows_of_bounds : {F : Type 0} (lower upper : Option F) → form.count_by_bounds lower upper ≡ rows_of_bounds lower upper
+same_rows_of_bounds : {F : Type 0} (lower upper : Option F) → form.rows_of_bounds lower upper ≡ rows_of_bounds lower upper
 same_rows_of_bounds (Some l) (Some u) = refl
 same_rows_of_bounds (Some l) None = refl
 same_rows_of_bounds None (Some u) = refl
 same_rows_of_bounds None None = refl
 
-same_rows_of_sense : (s : Sense) → form.count_by_sense s ≡ rows_of_sense s
+same_rows_of_sense : (s : Sense) → form.rows_of_sense s ≡ rows_of_sense s
 same_rows_of_sense sense.E = refl
 same_rows_of_sense sense.L = refl
 same_rows_of_sense sense.G = refl
@@ -100,10 +100,10 @@ rows_counted [] = refl
 rows_counted {F} (row ∷ rows) =
     ap₂ (λ a b. a + b) (same_rows_of_sense row.sense) (rows_counted rows) ∙ sym (sum_by-cons (λ (row : Row F). rows_of_sense row.sense) row rows)
 
-bounds_counted : {F : Type 0} (columns : List (Column F)) → sum_by (λ (column : Column F). form.count_by_bounds column.lower column.upper) columns ≡ sum_by (λ (column : Column F). rows_of_bounds column.lower column.upper) columns
+bounds_counted : {F : Type 0} (columns : List (Column F)) → sum_by (λ (column : Column F). form.rows_of_bounds column.lower column.upper) columns ≡ sum_by (λ (column : Column F). rows_of_bounds column.lower column.upper) columns
 bounds_counted [] = refl
 bounds_counted {F} (column ∷ columns) =
-    sum_by-cons (λ (column : Column F). form.count_by_bounds column.lower column.upper) column columns
+    sum_by-cons (λ (column : Column F). form.rows_of_bounds column.lower column.upper) column columns
     ∙ ap₂ (λ a b. a + b) (same_rows_of_bounds column.lower column.upper) (bounds_counted columns)
     ∙ sym (sum_by-cons (λ (column : Column F). rows_of_bounds column.lower column.upper) column columns)
 
@@ -112,7 +112,7 @@ bounds_counted {F} (column ∷ columns) =
 module _ {F : Type 0} (value : F → Number) (lp : Lp F) where
   -- how many rows of the standard form the columns have
   abbrev pub own_rows : ℕ
-  own_rows = sum_by (λ (column : Column F). form.count_by_bounds column.lower column.upper) lp.columns
+  own_rows = sum_by (λ (column : Column F). form.rows_of_bounds column.lower column.upper) lp.columns
 
   pub columns_few : IsWellFormed value lp → length lp.columns ≤ 3000
   columns_few formed = omega (arith, columns_counted value lp.columns, widths_by_bounds value lp.columns, formed.columns_few)

@@ -13,10 +13,10 @@ use Rattle.lp_form.specs.declared.key.Key.{Key}
 use Rattle.lp_core.specs.declared.program.Lp.{Lp}
 use Rattle.lp_core.specs.StandardForm as form
 use Rattle.lp_core.specs.Dictionary.{InPhaseOne, entry_at, first_dictionary}
-use Rattle.lp_core.specs.Answers.{NothingImproves, last_of}
+use Rattle.lp_core.specs.Pivots.{NothingImproves, last_of}
 use Rattle.lp_std.specs.declared.types.Standard.{Standard}
 use Rattle.lp_std.specs.declared.types.Final.{Final}
-use Rattle.lp_std.specs.declared.types.FinalKind.TheVariants as kind
+use Rattle.lp_core.specs.declared.answer.EndKind.TheVariants as kind
 use Rattle.lp_std.specs.Meaning.{standard_value}
 use Rattle.lp_std.specs.Last.{IsDictionaryOf, IsLast, last_value}
 

@@ -66,8 +66,8 @@ module _ {F : Type 0} (value : F → Number) (b : Bool) where
   rows_total p above r [] = ap Some (sym (sum_by_ℚ-nil _))
   rows_total p above r (row ∷ rows) =
       let dual = form.directed b (form.dual_by_sense row.sense p r) in
-      let rest = zip rows (map (form.directed b) (form.duals_from p (r + form.count_by_sense row.sense) rows)) in
-      total_cons (used dual (cond b (row_upper row.sense (value row.right)) (row_lower row.sense (value row.right))) (cond b (row_lower row.sense (value row.right)) (row_upper row.sense (value row.right)))) (map (λ (q : Row F × Number). used q.1 (cond b (row_upper q.0.sense (value q.0.right)) (row_lower q.0.sense (value q.0.right))) (cond b (row_lower q.0.sense (value q.0.right)) (row_upper q.0.sense (value q.0.right)))) rest) (dual *ℚ value row.right) (sum_by_ℚ (λ (q : Row F × Number). q.1 *ℚ value q.0.right) rest) (row_used b row.sense p r (value row.right) above) (rows_total p above (r + form.count_by_sense row.sense) rows)
+      let rest = zip rows (map (form.directed b) (form.duals_from p (r + form.rows_of_sense row.sense) rows)) in
+      total_cons (used dual (cond b (row_upper row.sense (value row.right)) (row_lower row.sense (value row.right))) (cond b (row_lower row.sense (value row.right)) (row_upper row.sense (value row.right)))) (map (λ (q : Row F × Number). used q.1 (cond b (row_upper q.0.sense (value q.0.right)) (row_lower q.0.sense (value q.0.right))) (cond b (row_lower q.0.sense (value q.0.right)) (row_upper q.0.sense (value q.0.right)))) rest) (dual *ℚ value row.right) (sum_by_ℚ (λ (q : Row F × Number). q.1 *ℚ value q.0.right) rest) (row_used b row.sense p r (value row.right) above) (rows_total p above (r + form.rows_of_sense row.sense) rows)
       ∙ ap Some (sym (sum_by_ℚ-cons _ (row, dual) rest))
 
 -- ---- columns
@@ -144,16 +144,16 @@ module _ {F : Type 0} (value : F → Number) (b : Bool) (costs : List Number) (n
   columns_total below reduced (column ∷ columns) v r j past ordered slopes seconds =
       let here = column_used column.lower column.upper v r (below v past) (below (v + 1) (omega arith)) (neg-zero-≤ℚ (number_of costs (n + 1 + r)) (below (n + 1 + r) (omega arith))) (All-head (λ (column : Column F). ¬ (Crosses value column.lower column.upper)) column columns ordered) (seconds 0 (omega arith)) in
       let w = form.width (shift_for value column) in
-      let count = form.count_by_bounds column.lower column.upper in
-      let rest = columns_total below reduced columns (v + form.width (shift_for value column)) (r + form.count_by_bounds column.lower column.upper) (j + 1) (omega arith) (All-tail (λ (column : Column F). ¬ (Crosses value column.lower column.upper)) column columns ordered) (λ k h. ap reduced (let c : j + 1 + k ≡ j + suc k = omega arith in c) ∙ slopes (suc k) (omega arith)) (λ k h. seconds (suc k) (omega arith)) in
+      let count = form.rows_of_bounds column.lower column.upper in
+      let rest = columns_total below reduced columns (v + form.width (shift_for value column)) (r + form.rows_of_bounds column.lower column.upper) (j + 1) (omega arith) (All-tail (λ (column : Column F). ¬ (Crosses value column.lower column.upper)) column columns ordered) (λ k h. ap reduced (let c : j + 1 + k ≡ j + suc k = omega arith in c) ∙ slopes (suc k) (omega arith)) (λ k h. seconds (suc k) (omega arith)) in
       let term : ℕ × Column F → Option Number = λ (q : ℕ × Column F). used (reduced q.0) (cond b (bound_value value q.1.upper) (bound_value value q.1.lower)) (cond b (bound_value value q.1.lower) (bound_value value q.1.upper)) in
       let factor : reduced j ≡ form.directed b (slope value costs n v r column.lower column.upper) = ap reduced (let c : j ≡ j + 0 = omega arith in c) ∙ slopes 0 (omega arith) in
       let first : term (j, column) ≡ Some here.0 = ap (λ m. used m (cond b (bound_value value column.upper) (bound_value value column.lower)) (cond b (bound_value value column.lower) (bound_value value column.upper))) factor ∙ here.1 in (
         here.0 +ℚ rest.0,
         total_cons (term (j, column)) (map term (enumerate_from (j + 1) columns)) here.0 rest.0 first rest.1,
         subst (λ u. u ≤ℚ neg_ℚ (plain (by_columns value costs n (constant value costs n) v r (column ∷ columns)))) (sym (directed-+ℚ b here.0 rest.0))
-            (≤ℚ_from (Order.+ℚ-≤ℚ (form.directed b here.0) (neg_ℚ (constant value costs n v r column.lower column.upper)) (form.directed b rest.0) (neg_ℚ (plain (by_columns value costs n (constant value costs n) (v + form.width (shift_for value column)) (r + form.count_by_bounds column.lower column.upper) columns))) here.2 rest.2)
-            (ap (λ s. form.directed b here.0 +ℚ form.directed b rest.0 +ℚ s) (joined _ _) ∙ reversed _ _ ∙ ap (λ s. neg_ℚ s +ℚ (form.directed b here.0 +ℚ form.directed b rest.0)) (sym (sum_by_ℚ-cons _ (constant value costs n v r column.lower column.upper) (by_columns value costs n (constant value costs n) (v + form.width (shift_for value column)) (r + form.count_by_bounds column.lower column.upper) columns))))),
+            (≤ℚ_from (Order.+ℚ-≤ℚ (form.directed b here.0) (neg_ℚ (constant value costs n v r column.lower column.upper)) (form.directed b rest.0) (neg_ℚ (plain (by_columns value costs n (constant value costs n) (v + form.width (shift_for value column)) (r + form.rows_of_bounds column.lower column.upper) columns))) here.2 rest.2)
+            (ap (λ s. form.directed b here.0 +ℚ form.directed b rest.0 +ℚ s) (joined _ _) ∙ reversed _ _ ∙ ap (λ s. neg_ℚ s +ℚ (form.directed b here.0 +ℚ form.directed b rest.0)) (sym (sum_by_ℚ-cons _ (constant value costs n v r column.lower column.upper) (by_columns value costs n (constant value costs n) (v + form.width (shift_for value column)) (r + form.rows_of_bounds column.lower column.upper) columns))))),
       )
     where
       joined : (a c : Number) → neg_ℚ a +ℚ neg_ℚ c ≡ neg_ℚ (a +ℚ c)

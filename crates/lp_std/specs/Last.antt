@@ -3,15 +3,13 @@ use Rattle.std.specs.Prelude.{◌≡◌, ◌≢◌, ◌↔◌, ◌⊎◌, ℕ, �
 use Rattle.std.specs.List.{All}
 use Rattle.gq_number.specs.Number.{Number, whole}
 use Rattle.gq_number.specs.Order.{◌<ℚ◌}
-use Rattle.lp_core.specs.declared.answer.Rule.TheVariants.{Legal}
+use Rattle.lp_core.specs.Ends.{EndsAt}
 use Rattle.lp_core.specs.Sums.{number_of}
 use Rattle.lp_core.specs.StandardForm as form
 use Rattle.lp_core.specs.Dictionary.{Dictionary, basic_at, constant_at, entry_at, Meets, InPhaseOne, OpeningIsDue, Improves, first_dictionary}
-use Rattle.lp_core.specs.Answers.{NothingImproves, IsUnlimited, last_of, last_along}
 use Rattle.lp_std.specs.declared.types.Standard.{Standard}
 use Rattle.lp_std.specs.declared.types.Final.{Final}
-use Rattle.lp_std.specs.declared.types.FinalKind.{FinalKind}
-use Rattle.lp_std.specs.declared.types.FinalKind.TheVariants as kind
+use Rattle.lp_core.specs.declared.answer.EndKind.{EndKind}
 use Rattle.lp_std.specs.Meaning.{standard_value}
 
 -- variable 0 has a part in a dictionary: it is basic, or is still to enter
@@ -34,19 +32,15 @@ pub record IsDictionaryOf (s : form.Standard) (d : Dictionary) : Type 0 where
 abbrev pub last_value : {F : Type 0} → (F → Number) → Final F → form.Last
 last_value value final = record { values = map value final.values; costs = map value final.costs; changes = map value final.ray }
 
--- A dictionary at which the walk ends so, and what is read from it. Nothing improves: an optimum, or in phase 1 a program
--- without feasible points. A variable improves that no row limits: that is the ray. Or the walk is broken off in phase 2 though
--- a variable improves.
-abbrev pub EndsAt : Dictionary → FinalKind → form.Last → Type 0
-EndsAt d kind.Optimal last = ¬ (InPhaseOne d) × NothingImproves d × (last ≡ last_of d)
-EndsAt d kind.Infeasible last = InPhaseOne d × NothingImproves d × (last ≡ last_of d)
-EndsAt d kind.Unbounded last = ¬ (InPhaseOne d) × ((q : ℕ) × IsUnlimited Legal d q × (last ≡ last_along d q))
-EndsAt d kind.Interrupted last = ¬ (InPhaseOne d) × ¬ (OpeningIsDue d) × ((q : ℕ) × Improves d q) × (last ≡ last_of d)
+-- A dictionary at which a walk may end by this kind, and what is read from it: any variable that improves may enter, and the walk
+-- may be broken off where one does.
+abbrev pub IsReadAt : Dictionary → EndKind → form.Last → Type 0
+IsReadAt d kind last = EndsAt (Improves d) ((q : ℕ) × Improves d q) d kind last
 
 module _ {F : Type 0} (value : F → Number) where
   -- what is read from this dictionary at its end
   abbrev pub IsReadFrom : Dictionary → Final F → Type 0
-  IsReadFrom d final = EndsAt d final.kind (last_value value final)
+  IsReadFrom d final = IsReadAt d final.kind (last_value value final)
 
   -- what is read from a last dictionary of this standard form
   abbrev pub IsLast : Standard F → Final F → Type 0

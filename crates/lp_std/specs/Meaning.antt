@@ -1,10 +1,8 @@
 -- What the types of the code mean: the standard form of Chvatal, Linear Programming, chapter 1.
-use Rattle.std.specs.Prelude.{◌≡◌, ℕ, List, map, slice_get, Option, Some, None}
-use Rattle.std.specs.List.{All, AllWithin}
+use Rattle.std.specs.Prelude.{ℕ, List, map, Some, None}
 use Rattle.gq_number.specs.Number.{Number}
-use Rattle.lp_core.specs.declared.program.Column.{Column}
 use Rattle.lp_core.specs.declared.program.Lp.{Lp}
-use Rattle.lp_core.specs.Proofs.{Crosses}
+use Rattle.lp_core.specs.Proofs.{FirstCrossed}
 use Rattle.lp_core.specs.StandardForm as form
 use Rattle.lp_core.specs.Steps.{FirstStop, standard_steps}
 use Rattle.lp_std.specs.declared.types.Shift.{Shift}
@@ -46,16 +44,8 @@ standard_value value s =
       constant = value s.constant;
     }
 
-module _ {F : Type 0} (value : F → Number) where
-  -- the first of these columns whose lower bound passes its upper one, if there is one
-  abbrev pub FirstCrossed : List (Column F) → Option ℕ → Type 0
-  FirstCrossed columns (Some j) =
-      ((column : Column F) × (slice_get columns j ≡ Some column) × Crosses value column.lower column.upper)
-      × AllWithin (λ (column : Column F). ¬ (Crosses value column.lower column.upper)) columns 0 j
-  FirstCrossed columns None = All (λ (column : Column F). ¬ (Crosses value column.lower column.upper)) columns
-
-  -- Why a program has no standard form: a column's bounds cross, or else a step does not fit. Want of memory has no cause.
-  abbrev pub HasNoForm : ℕ → Lp F → Stop → Type 0
-  HasNoForm limit lp (stop.Limit step) = FirstCrossed lp.columns None × FirstStop (standard_steps value limit lp) step
-  HasNoForm limit lp (stop.Crossed j) = FirstCrossed lp.columns (Some j)
-  HasNoForm limit lp stop.Memory = Unit {0}
+-- Why a program has no standard form: a column's bounds cross, or else a step does not fit. Want of memory has no cause.
+abbrev pub HasNoForm : {F : Type 0} → (F → Number) → ℕ → Lp F → Stop → Type 0
+HasNoForm value limit lp (stop.Limit step) = FirstCrossed value lp.columns None × FirstStop (standard_steps value limit lp) step
+HasNoForm value limit lp (stop.Crossed j) = FirstCrossed value lp.columns (Some j)
+HasNoForm value limit lp stop.Memory = Unit {0}

@@ -20,8 +20,8 @@ use Rattle.lp_std.specs.declared.types.Shift.{Shift}
 use Rattle.lp_std.specs.declared.types.Shift.TheVariants as shift
 use Rattle.lp_std.specs.declared.types.StdRow.{StdRow}
 use Rattle.lp_std.specs.declared.types.Final.{Final}
-use Rattle.lp_std.specs.declared.types.FinalKind.{FinalKind}
-use Rattle.lp_std.specs.declared.types.FinalKind.TheVariants as kind
+use Rattle.lp_core.specs.declared.answer.EndKind.{EndKind}
+use Rattle.lp_core.specs.declared.answer.EndKind.TheVariants as kind
 use Rattle.lp_std.specs.declared.stop.Stop.{Stop}
 use Rattle.lp_std.specs.declared.stop.Stop.TheVariants as stop
 use Rattle.lp_std.specs.Meaning.{shift_value, row_value}
@@ -81,7 +81,7 @@ bound_of_shift shift.Free = None
 -- the steps on a row, whose first standard row has number r
 abbrev pub sense_steps : {F : Type 0} → (F → Number) → ℕ → List (ℕ × form.Shift) → ℕ → Row F → List Due
 sense_steps value limit columns r row =
-    if form.count_by_sense row.sense == 0 then [] else row_steps value limit columns r (value row.right) row.entries
+    if form.rows_of_sense row.sense == 0 then [] else row_steps value limit columns r (value row.right) row.entries
 
 -- the row of a column with two bounds, by its right side
 abbrev pub bound_row_of : ℕ → ℕ → Number → form.StandardRow
@@ -113,11 +113,11 @@ slack_multiplier value slacks r = neg_ℚ (number_of (map value slacks) r)
 
 -- the step on the dual of row i of this sense, whose first standard row has place r
 abbrev pub dual_step : ℕ → (ℕ → Number) → ℕ → ℕ → Sense → List Due
-dual_step limit p i r sense = if form.count_by_sense sense == 2 then (Recover 2 i 0 1, difference_fits limit (p r) (p (r + 1))) ∷ [] else []
+dual_step limit p i r sense = if form.rows_of_sense sense == 2 then (Recover 2 i 0 1, difference_fits limit (p r) (p (r + 1))) ∷ [] else []
 
 -- the step on the reduced cost of column j, whose first variable is v and whose own standard row has place r
 abbrev pub reduced_step : {F : Type 0} → ℕ → List Number → (ℕ → Number) → ℕ → ℕ → ℕ → Option F → Option F → List Due
-reduced_step limit costs p j v r lower upper = if form.count_by_bounds lower upper == 1 then (Recover 3 j 0 1, sum_fits limit (number_of costs v) (p r)) ∷ [] else []
+reduced_step limit costs p j v r lower upper = if form.rows_of_bounds lower upper == 1 then (Recover 3 j 0 1, sum_fits limit (number_of costs v) (p r)) ∷ [] else []
 
 -- the same of an end of which this is to hold
 abbrev pub ComputesEnd : {F : Type 0} → List Due → (End F → Type 0) → Result (End F) Stop → Type 0
@@ -126,10 +126,10 @@ ComputesEnd steps P (Err stop) = StopsAt steps stop
 
 -- as many as there are variables of the program's standard form with its slacks and variable 0
 abbrev pub IsSized : {F : Type 0} → (F → Number) → Lp F → ℕ → Type 0
-IsSized {F} value lp n = n ≡ form.variables_of value lp + (count_of_rows lp.rows + sum_by (λ (column : Column F). form.count_by_bounds column.lower column.upper) lp.columns) + 1
+IsSized {F} value lp n = n ≡ form.variables_of value lp + (count_of_rows lp.rows + sum_by (λ (column : Column F). form.rows_of_bounds column.lower column.upper) lp.columns) + 1
 
 -- there is a ray where the walk ended so
-abbrev pub HasRay : FinalKind → Type 0 → Type 0
+abbrev pub HasRay : EndKind → Type 0 → Type 0
 HasRay kind.Unbounded P = P
 HasRay other P = Unit {0}
 

@@ -1,22 +1,23 @@
 //! The way back from what is read off a last dictionary to an answer of the program.
 ghost use Rattle.std.specs.Prelude.{◌≡◌, ◌≤◌, ◌+◌, ◌++◌, length, map, None, IfOk, IfErr};
 ghost use Rattle.std.specs.List.{All};
-ghost use Rattle.lp_core.specs.Proofs.{row_sums};
+ghost use Rattle.lp_core.specs.Proofs.{row_sums, IsProved};
+ghost use Rattle.lp_core.specs.Ends.{LeadsTo};
 ghost use Rattle.lp_core.specs.StandardForm as form;
-ghost use Rattle.lp_core.specs.Steps.{AllFit, levels_steps, row_levels_steps, duals_steps, reduced_costs_steps, optimal_steps, infeasible_steps, unbounded_steps, interrupted_steps};
+ghost use Rattle.lp_core.specs.Steps.{AllFit, levels_steps, row_levels_steps, duals_steps, reduced_costs_steps, optimal_steps, infeasible_steps, unbounded_steps, interrupted_steps, steps_back};
 ghost use Rattle.lp_core.specs.WellFormed.{IsWellFormed};
-ghost use Rattle.lp_std.specs.Back.{IsFormOf, LeadsTo, IsProved, steps_back, HasNoWayBack};
+ghost use Rattle.lp_std.specs.Back.{IsFormOf, HasNoWayBack};
 ghost use Rattle.lp_std.specs.Last.{last_value, IsLast};
-ghost use Rattle.lp_std.specs.declared.types.FinalKind.TheVariants as kind;
+ghost use Rattle.lp_core.specs.declared.answer.EndKind.TheVariants as kind;
 ghost use Rattle.lp_std.specs.Pieces.{first_stop, StopsAt, placed_value, ComputesAll, ComputesEnd, IsSized, AreSized};
 
 use crate::bounds::{placed, variables_of};
 use crate::duals::{count_rows, duals_of, reduced_costs_of};
 use crate::levels::{levels_of, ray_of, row_levels_of};
 use crate::stop::Stop;
-use crate::types::{Final, FinalKind, Shift, Standard};
+use crate::types::{Final, Shift, Standard};
 use gq_field::ExactField;
-use lp_core::{End, Lp, Sequence};
+use lp_core::{End, EndKind, Lp, Sequence};
 use std::alloc::Global;
 
 /// A point: the value of each column, and the sum of each row.
@@ -209,10 +210,10 @@ pub(crate) fn led_back<F: ExactField>(
     let columns = columns.as_slice();
     let variables = variables_of(s.shifts.as_slice());
     match dict.kind {
-        FinalKind::Optimal => optimum(alloc, lp, variables, columns, dict),
-        FinalKind::Infeasible => infeasible(alloc, lp, variables, dict),
-        FinalKind::Unbounded => unbounded(alloc, lp, columns, dict),
-        FinalKind::Interrupted => interrupted(alloc, lp, columns, dict),
+        EndKind::Optimal => optimum(alloc, lp, variables, columns, dict),
+        EndKind::Infeasible => infeasible(alloc, lp, variables, dict),
+        EndKind::Unbounded => unbounded(alloc, lp, columns, dict),
+        EndKind::Interrupted => interrupted(alloc, lp, columns, dict),
     }
 }
 

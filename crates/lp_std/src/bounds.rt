@@ -1,9 +1,9 @@
 //! Columns: whether bounds cross, the shift of a column, and the numbers of variables.
 ghost use Rattle.std.specs.Prelude.{◌≡◌, ◌≤◌, ◌<◌, ◌+◌, ◌^◌, ◌↔◌, length, map, sum_by, IfOk, IsTrue};
 ghost use Rattle.lp_core.specs.Feasible.{bound_value};
-ghost use Rattle.lp_core.specs.Proofs.{Crosses};
+ghost use Rattle.lp_core.specs.Proofs.{Crosses, FirstCrossed};
 ghost use Rattle.lp_core.specs.StandardForm as form;
-ghost use Rattle.lp_std.specs.Meaning.{shift_value, FirstCrossed};
+ghost use Rattle.lp_std.specs.Meaning.{shift_value};
 ghost use Rattle.lp_std.specs.Pieces.{placed_value};
 
 use crate::types::Shift;

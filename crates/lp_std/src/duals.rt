@@ -17,7 +17,7 @@ use std::alloc::Global;
 
 /// How many rows of the standard form a row of this sense has.
 fn rows_by_sense(sense: Sense) -> u32
-    ensures { result ≡ form.count_by_sense sense }
+    ensures { result ≡ form.rows_of_sense sense }
 {
     match sense {
         Sense::E => 2,
@@ -41,7 +41,7 @@ pub(crate) fn count_rows<F: ExactField>(rows: &[Row<F>]) -> u32
 
 /// The dual of a row of this sense, of which the first standard row has this place, or the step that does not fit.
 fn dual_of<F: ExactField>(i: u64, sense: Sense, slacks: &[F], place: u32) -> Result<F, StepName>
-    requires { place + form.count_by_sense sense ≤ length slacks.now }
+    requires { place + form.rows_of_sense sense ≤ length slacks.now }
     ensures { Computes F.value (dual_step F.limit (slack_multiplier F.value slacks.now) i place sense)
         (form.dual_by_sense sense (slack_multiplier F.value slacks.now) place) result }
 {
@@ -86,7 +86,7 @@ pub(crate) fn duals_of<F: ExactField>(
 
 /// How many rows of the standard form a column has of its own.
 fn rows_by_bounds<F: ExactField>(column: &Column<F>) -> u32
-    ensures { result ≡ form.count_by_bounds column.now.lower column.now.upper }
+    ensures { result ≡ form.rows_of_bounds column.now.lower column.now.upper }
 {
     match (column.lower, column.upper) {
         (Some(_), Some(_)) => 1,
@@ -105,7 +105,7 @@ fn reduced_of<F: ExactField>(
     place: u32,
 ) -> Result<F, StepName>
     requires there { variable < length costs.now }
-    requires room { place + form.count_by_bounds column.now.lower column.now.upper ≤ length slacks.now }
+    requires room { place + form.rows_of_bounds column.now.lower column.now.upper ≤ length slacks.now }
     ensures { Computes F.value
         (reduced_step F.limit (map F.value costs.now) (slack_multiplier F.value slacks.now) j variable place column.now.lower column.now.upper)
         (form.reduced_by_bounds (map F.value costs.now) (slack_multiplier F.value slacks.now) variable place column.now.lower column.now.upper)
@@ -142,8 +142,8 @@ pub(crate) fn reduced_costs_of<F: ExactField>(
 ) -> Result<Vec<F>, Stop>
     requires sized { length bounded.now ≡ length columns.now }
     requires there { All (λ p. p.0 < length costs.now) columns.now }
-    requires few { first + sum_by (λ column. form.count_by_bounds column.lower column.upper) bounded.now ≤ 1500 }
-    requires room { first + sum_by (λ column. form.count_by_bounds column.lower column.upper) bounded.now ≤ length slacks.now }
+    requires few { first + sum_by (λ column. form.rows_of_bounds column.lower column.upper) bounded.now ≤ 1500 }
+    requires room { first + sum_by (λ column. form.rows_of_bounds column.lower column.upper) bounded.now ≤ length slacks.now }
     ensures { ComputesAll F.value
         (reduced_steps F.limit (map F.value costs.now) (slack_multiplier F.value slacks.now) 0 first (placed_value F.value columns.now) bounded.now)
         (map (form.directed maximize)

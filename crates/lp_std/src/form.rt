@@ -3,9 +3,10 @@ ghost use Rattle.std.specs.Prelude.{◌≡◌, ◌≤◌, ◌<◌, ◌+◌, ◌^
 ghost use Rattle.gq_number.specs.Number.{whole};
 ghost use Rattle.gq_number.specs.Sums.{sum_by_ℚ};
 ghost use Rattle.lp_core.specs.WellFormed.{IsWellFormed};
+ghost use Rattle.lp_core.specs.Proofs.{FirstCrossed};
 ghost use Rattle.lp_core.specs.StandardForm as form;
 ghost use Rattle.lp_core.specs.Steps.{AllFit, standard_steps};
-ghost use Rattle.lp_std.specs.Meaning.{shift_value, row_value, standard_value, FirstCrossed, HasNoForm};
+ghost use Rattle.lp_std.specs.Meaning.{shift_value, row_value, standard_value, HasNoForm};
 ghost use Rattle.lp_std.specs.Pieces.{first_stop, StopsAt, placed_value};
 
 use crate::bounds::{first_crossed, placed, shifts_of, variables_of};

@@ -15,4 +15,4 @@ pub use back::recover;
 pub use form::standard;
 pub use laws::same_points;
 pub use stop::Stop;
-pub use types::{Final, FinalKind, Origin, Shift, Standard, StdRow};
+pub use types::{Final, Origin, Shift, Standard, StdRow};

@@ -307,7 +307,7 @@ pub(crate) fn with_bound_rows<F: ExactField>(
     columns: &[(u32, Shift<F>)],
     bounded: &[Column<F>],
 ) -> Result<Vec<StdRow<F>>, Stop>
-    requires room { length rows.items + sum_by (λ column. form.count_by_bounds column.lower column.upper) bounded.now ≤ 1500 }
+    requires room { length rows.items + sum_by (λ column. form.rows_of_bounds column.lower column.upper) bounded.now ≤ 1500 }
     requires few { length columns.now ≤ 3000 }
     requires sized { length bounded.now ≡ length columns.now }
     ensures ok { IfOk result (λ all.

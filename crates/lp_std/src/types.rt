@@ -1,5 +1,5 @@
 //! A program in standard form.
-use lp_core::Sequence;
+use lp_core::{EndKind, Sequence};
 
 /// How a column of a program is told by variables that are at least 0.
 #[derive(Clone, Copy, Debug)]
@@ -24,7 +24,6 @@ pub enum Origin {
 }
 
 /// A row of a standard form: the sum of its entries is at most the right side.
-#[derive(Drop)]
 pub struct StdRow<F> {
     /// The right side.
     pub right: F,
@@ -34,11 +33,21 @@ pub struct StdRow<F> {
     pub origin: Origin,
 }
 
+// Written out, so that it is proved here alone, and not in each crate that lets one go.
+impl<F: Drop> Drop for StdRow<F> {
+    fn drop(self) {
+        let Self {
+            right: _,
+            entries: _,
+            origin: _,
+        } = self;
+    }
+}
+
 /// A program in standard form: variables that are at least 0, rows at most their right sides, an objective to be greatest.
 ///
 /// The variables of the columns have the numbers from 1 in the order of the columns, a free column having two; then come
 /// the slacks in the order of the rows. Chvatal, Linear Programming, chapter 1.
-#[derive(Drop)]
 pub struct Standard<F> {
     /// The shift of each column of the program.
     pub shifts: Sequence<Shift<F>>,
@@ -50,28 +59,38 @@ pub struct Standard<F> {
     pub constant: F,
 }
 
-/// How the walk over dictionaries came to its end.
-#[derive(Clone, Copy, Debug, PartialEq, Eq)]
-pub enum FinalKind {
-    /// No variable improves the objective, and 0 is the value of variable 0.
-    Optimal,
-    /// The first phase is over, and variable 0 is above 0.
-    Infeasible,
-    /// A variable improves the objective, and no row limits it.
-    Unbounded,
-    /// The walk was ended before any of these.
-    Interrupted,
+// Written out, so that it is proved here alone, and not in each crate that lets one go.
+impl<F: Drop> Drop for Standard<F> {
+    fn drop(self) {
+        let Self {
+            shifts: _,
+            rows: _,
+            objective: _,
+            constant: _,
+        } = self;
+    }
 }
 
 /// What is read off a last dictionary; the lists have one entry for each variable, from number 0.
-#[derive(Drop)]
 pub struct Final<F> {
     /// How the walk came to its end.
-    pub kind: FinalKind,
+    pub kind: EndKind,
     /// The value of each variable at the dictionary's point.
     pub values: Sequence<F>,
     /// The coefficient of each variable: in the row of variable 0 where infeasible, else in the objective.
     pub costs: Sequence<F>,
     /// The direction without end where unbounded, else an empty list.
     pub ray: Sequence<F>,
+}
+
+// Written out, so that it is proved here alone, and not in each crate that lets one go.
+impl<F: Drop> Drop for Final<F> {
+    fn drop(self) {
+        let Self {
+            kind: _,
+            values: _,
+            costs: _,
+            ray: _,
+        } = self;
+    }
 }

@@ -1,9 +1,11 @@
 -- From the halt of a walk to the answer.
-use Rattle.std.proofs.Common.{◌≡◌, ◌≢◌, ℕ, ◌≤◌, inl, inr, List, length, Option, None, Result, Ok, Err, refl, sym, ap, ◌∙◌, subst}
+use Rattle.std.proofs.Common.{◌≡◌, ◌≢◌, ℕ, ◌≤◌, inl, inr, List, [], length, Option, None, Result, Ok, Err, refl, sym, ap, ◌∙◌, subst}
 use Rattle.std.specs.Prelude.{IfOk}
 use Rattle.std.specs.declared.alloc.AllocError.{AllocError}
 use Rattle.gq_number.specs.Number.{Number}
 use Rattle.lp_core.specs.declared.answer.Pivot.{Pivot}
+use Rattle.lp_core.specs.Pivots.{ByChoice, LeadsWithin}
+use Rattle.lp_core.specs.Ends.{IsPhase, EndsSoBy}
 use Rattle.lp_core.specs.declared.answer.Rule.TheVariants.{Legal}
 use Rattle.lp_core.specs.declared.answer.StepName.{StepName}
 use Rattle.lp_core.specs.declared.answer.End.{End}
@@ -14,12 +16,12 @@ use Rattle.lp_core.specs.StandardForm.{Standard, Last, standard_form}
 use Rattle.lp_core.specs.Dictionary.{Dictionary, Improves, first_dictionary}
 use Rattle.lp_core.specs.Steps.{AllFit, standard_steps}
 use Rattle.lp_core.specs.WellFormed.{IsWellFormed}
-use Rattle.lp_core.specs.Answers.{NoneCrosses, IsPhase, Leads, EndsSoBy, IsAnswer}
-use Rattle.lp_core.specs.Choices.{IsAllowedBy, AreTaken, IsAnswerBy}
-use Rattle.lp_std.specs.declared.types.FinalKind.{FinalKind}
+use Rattle.lp_core.specs.Proofs.{FirstCrossed}
+use Rattle.lp_core.specs.Answers.{IsAnswer, IsAnswerByChoice}
+use Rattle.lp_core.specs.declared.answer.EndKind.{EndKind}
 use Rattle.lp_std.specs.declared.stop.Stop.{Stop}
 use Rattle.lp_std.specs.declared.stop.Stop.TheVariants as stops
-use Rattle.lp_std.specs.Last.{EndsAt}
+use Rattle.lp_std.specs.Last.{IsReadAt}
 use Rattle.lp_std.specs.Back.{HasNoWayBack}
 use Rattle.lp_exact.specs.Reading.{EndsBy, RayIs}
 use Rattle.lp_walk.specs.declared.walk.Walk.{Walk}
@@ -32,10 +34,10 @@ use Rattle.lp_walk.proofs.Standing.{first_stands}
 
 -- ---- the way back
 
-pub never_crossed : {F : Type 0} (value : F → Number) (limit : ℕ) (lp : Lp F) (k : FinalKind) (last : Last) (s : Stop) → HasNoWayBack value limit lp k last s → (j : ℕ) → s ≢ stops.Crossed j
+pub never_crossed : {F : Type 0} (value : F → Number) (limit : ℕ) (lp : Lp F) (k : EndKind) (last : Last) (s : Stop) → HasNoWayBack value limit lp k last s → (j : ℕ) → s ≢ stops.Crossed j
 never_crossed value limit lp k last s h j e = subst (HasNoWayBack value limit lp k last) e h
 
-pub led_back_stopped : {F : Type 0} (value : F → Number) (limit : ℕ) (lp : Lp F) (d : Dictionary) (enter : Option ℕ) (k : FinalKind) (last : Last) (s : Stop) → EndsBy d enter k → EndsAt d k last → RayIs d enter last.changes → HasNoWayBack value limit lp k last s
+pub led_back_stopped : {F : Type 0} (value : F → Number) (limit : ℕ) (lp : Lp F) (d : Dictionary) (enter : Option ℕ) (k : EndKind) (last : Last) (s : Stop) → EndsBy d enter k → IsReadAt d k last → RayIs d enter last.changes → HasNoWayBack value limit lp k last s
     → (r : Result (End F) AllocError) → IfOk r (λ end. (step : StepName) × (s ≡ stops.Limit step) × (end ≡ Refused step)) → IfOk r (IsLedBack value limit lp d enter)
 led_back_stopped value limit lp d enter k last s by read ray none (Ok end) h =
     record { kind = k; last = last; ends_by = by; read = read; ray = ray; gives = inr (h.0, h.2, subst (HasNoWayBack value limit lp k last) h.1 none) }
@@ -55,28 +57,28 @@ broken_off_two value limit lp d two (Err e) h = tt
 
 -- ---- the whole
 
-pub answers_so : {F : Type 0} (value : F → Number) (limit : ℕ) (lp : Lp F) (iterlim : ℕ) (choice : Dictionary → List Pivot → Dictionary → ℕ → Type 0) (s : Standard) (first : Dictionary) (walk : Walk F) (answer : Answer F) → ((start : Dictionary) (pivots : List Pivot) (d : Dictionary) (q : ℕ) → choice start pivots d q → Improves d q) → NoneCrosses value limit lp iterlim Legal → AllFit (standard_steps value limit lp) → s ≡ standard_form value lp → first ≡ first_dictionary s → IsWalk limit value choice first iterlim walk → answer.pivots ≡ walk.pivots.items → EndsHalted value limit lp walk.halt answer.end → IsAnswerBy choice value limit lp iterlim answer
+-- pivots by a choice from a dictionary, and an end there
+abbrev Walked : {F : Type 0} → (F → Number) → ℕ → Lp F → ℕ → (Dictionary → List Pivot → Dictionary → ℕ → Type 0) → Dictionary → List Pivot → End F → Type 0
+Walked value limit lp iterlim choice d p end =
+    (last : Dictionary) × LeadsWithin (ByChoice choice d) limit 1 [] d p last
+    × EndsSoBy value limit lp iterlim (ByChoice choice d p last) (choice d p last) (length p) last end
+
+pub answers_so : {F : Type 0} (value : F → Number) (limit : ℕ) (lp : Lp F) (iterlim : ℕ) (choice : Dictionary → List Pivot → Dictionary → ℕ → Type 0) (s : Standard) (first : Dictionary) (walk : Walk F) (answer : Answer F) → ((start : Dictionary) (pivots : List Pivot) (d : Dictionary) (q : ℕ) → choice start pivots d q → Improves d q) → FirstCrossed value lp.columns None → AllFit (standard_steps value limit lp) → s ≡ standard_form value lp → first ≡ first_dictionary s → IsWalk limit value choice first iterlim walk → answer.pivots ≡ walk.pivots.items → EndsHalted value limit lp walk.halt answer.end → IsAnswerByChoice value limit lp iterlim choice answer
 answers_so value limit lp iterlim choice s first walk answer improves none fit form begins is pivots ends =
     let start : Dictionary = first_dictionary (standard_form value lp) in
     let from : first ≡ start = begins ∙ ap first_dictionary form in
+    let ended = halted_so value limit lp iterlim (choice first walk.pivots.items is.last) (length walk.pivots.items) is.last walk.halt answer.end (improves first walk.pivots.items is.last) is.halts ends in
     inr (inr (
       none,
       fit,
       subst (λ (p : List Pivot). length p ≤ iterlim) (sym pivots) is.few,
-      subst (AreTaken choice start) (sym pivots) (subst (λ d. AreTaken choice d walk.pivots.items) from is.taken),
-      (
-        is.last,
-        subst (λ (p : List Pivot). Leads Legal limit 1 start p is.last) (sym pivots) (subst (λ d. Leads Legal limit 1 d walk.pivots.items is.last) from is.leads),
-        subst (λ (p : List Pivot). EndsSoBy value limit lp iterlim (IsAllowedBy (choice start p is.last) is.last) (choice start p is.last) (length p) is.last answer.end) (sym pivots)
-            (subst (λ d. EndsSoBy value limit lp iterlim (IsAllowedBy (choice d walk.pivots.items is.last) is.last) (choice d walk.pivots.items is.last) (length walk.pivots.items) is.last answer.end) from
-            (halted_so value limit lp iterlim (choice first walk.pivots.items is.last) (length walk.pivots.items) is.last walk.halt answer.end (improves first walk.pivots.items is.last) is.halts ends)),
-      ),
+      subst (λ (p : List Pivot). Walked value limit lp iterlim choice start p answer.end) (sym pivots) (subst (λ d. Walked value limit lp iterlim choice d walk.pivots.items answer.end) from (is.last, is.leads, ended)),
     ))
 
 pub first_is_proper : {F : Type 0} (value : F → Number) (lp : Lp F) (s : Standard) (first : Dictionary) → IsWellFormed value lp → s ≡ standard_form value lp → first ≡ first_dictionary s → IsProper first
 first_is_proper value lp s first formed form begins =
     subst IsProper (sym (begins ∙ ap first_dictionary form)) (first_stands value lp formed).proper
 
-pub legal_if_ok : {F E : Type 0} (value : F → Number) (limit : ℕ) (lp : Lp F) (iterlim : ℕ) (choice : Dictionary → List Pivot → Dictionary → ℕ → Type 0) → ((start : Dictionary) (pivots : List Pivot) (d : Dictionary) (q : ℕ) → choice start pivots d q → Improves d q) → (r : Result (Answer F) E) → IfOk r (IsAnswerBy choice value limit lp iterlim) → IfOk r (IsAnswer value limit lp iterlim Legal)
+pub legal_if_ok : {F E : Type 0} (value : F → Number) (limit : ℕ) (lp : Lp F) (iterlim : ℕ) (choice : Dictionary → List Pivot → Dictionary → ℕ → Type 0) → ((start : Dictionary) (pivots : List Pivot) (d : Dictionary) (q : ℕ) → choice start pivots d q → Improves d q) → (r : Result (Answer F) E) → IfOk r (IsAnswerByChoice value limit lp iterlim choice) → IfOk r (IsAnswer value limit lp iterlim Legal)
 legal_if_ok value limit lp iterlim choice improves (Ok answer) h = legal_answer value limit lp iterlim choice answer improves h
 legal_if_ok value limit lp iterlim choice improves (Err e) h = h

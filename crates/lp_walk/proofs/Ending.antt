@@ -1,22 +1,21 @@
 -- An end that is led back from a last dictionary is the end of the search.
-use Rattle.std.proofs.Common.{◌≡◌, ℕ, inl, inr, List, Option, Some, None, refl, sym, ap, ◌∙◌, subst}
+use Rattle.std.proofs.Common.{◌≡◌, ℕ, inl, inr, List, Option, Some, None, sym, ap, ◌∙◌, subst}
 use Rattle.gq_number.specs.Number.{Number}
 use Rattle.lp_core.specs.declared.answer.Rule.TheVariants.{Legal}
 use Rattle.lp_core.specs.declared.answer.End.{End}
-use Rattle.lp_core.specs.declared.answer.End.TheVariants.{Optimal, Infeasible, Unbounded, Interrupted, Refused}
 use Rattle.lp_core.specs.declared.program.Lp.{Lp}
 use Rattle.lp_core.specs.StandardForm.{Standard, Last}
-use Rattle.lp_core.specs.Dictionary.{Dictionary, InPhaseOne, OpeningIsDue, Improves}
-use Rattle.lp_core.specs.Answers.{NothingImproves, IsUnlimited, IsUnlimitedBy, IsGoingOnBy, IsPhase, EndsSoBy, last_of, last_along}
-use Rattle.lp_core.specs.Choices.{IsAllowedBy}
-use Rattle.lp_std.specs.declared.types.FinalKind.{FinalKind}
-use Rattle.lp_std.specs.declared.types.FinalKind.TheVariants as kind
-use Rattle.lp_std.specs.Last.{IsDictionaryOf, EndsAt}
+use Rattle.lp_core.specs.Dictionary.{Dictionary, Improves}
+use Rattle.lp_core.specs.Pivots.{NothingImproves, last_of, last_along, IsAllowedBy}
+use Rattle.lp_core.specs.Ends.{IsUnlimited, IsUnlimitedBy, IsGoingOnBy, IsPhase, EndsSoBy, EndsWith}
+use Rattle.lp_core.specs.declared.answer.EndKind.{EndKind}
+use Rattle.lp_core.specs.declared.answer.EndKind.TheVariants as kind
+use Rattle.lp_std.specs.Last.{IsDictionaryOf, IsReadAt}
 use Rattle.lp_exact.specs.Reading.{IsDone, EndsBy, RayIs}
 use Rattle.lp_walk.specs.declared.walk.Halt.{Halt}
 use Rattle.lp_walk.specs.declared.walk.Halt.TheVariants as halt
 use Rattle.lp_walk.specs.Walks.{NoneIsDue, HaltsAt}
-use Rattle.lp_walk.specs.Ends.{MayGoOn, CanEnd, EndsWith, IsLedBack, IsBrokenOff, EndsHalted}
+use Rattle.lp_walk.specs.Ends.{MayGoOn, CanEnd, IsLedBack, IsBrokenOff, EndsHalted}
 
 -- ---- what is asked of the walk
 
@@ -46,86 +45,45 @@ broken_off_done d goes phase =
       | inr two ↦ elim goes [ inl due ↦ absurd (two.1 due) | inr more ↦ inr (two.2, two.1, more) ]
     ]
 
-phase_two : (d : Dictionary) → ¬ (OpeningIsDue d) → ¬ (InPhaseOne d) → IsPhase d 2
-phase_two d none free = inr (refl, none, free)
-
 -- ---- what the end says
 
 module _ {F : Type 0} (value : F → Number) (limit : ℕ) (lp : Lp F) (iterlim : ℕ) (Chosen : ℕ → Type 0) (pivots : ℕ) (d : Dictionary) (improves : (q : ℕ) → Chosen q → Improves d q) where
-  optimal_so : (end : End F) → ¬ (InPhaseOne d) → NothingImproves d → EndsWith value limit lp kind.Optimal (last_of d) end → EndsSoBy value limit lp iterlim (IsAllowedBy Chosen d) Chosen pivots d end
-  optimal_so end free none (inr stop) = subst (EndsSoBy value limit lp iterlim (IsAllowedBy Chosen d) Chosen pivots d) (sym stop.1) (inr (inl (free, none, stop.2)))
-  optimal_so (Optimal levels row_levels duals reduced) free none (inl h) = (free, none, h.1, h.0.0, h.0.1, h.0.2, h.0.3, h.2)
-  optimal_so (Infeasible duals crossed) free none (inl h) = absurd h.0
-  optimal_so (Unbounded levels row_levels ray) free none (inl h) = absurd h.0
-  optimal_so (Interrupted phase levels row_levels) free none (inl h) = absurd h.0
-  optimal_so (Refused step) free none (inl h) = absurd h.0
-
-  infeasible_so : (end : End F) → InPhaseOne d → NothingImproves d → EndsWith value limit lp kind.Infeasible (last_of d) end → EndsSoBy value limit lp iterlim (IsAllowedBy Chosen d) Chosen pivots d end
-  infeasible_so end one none (inr stop) = subst (EndsSoBy value limit lp iterlim (IsAllowedBy Chosen d) Chosen pivots d) (sym stop.1) (inr (inr (inl (one, none, stop.2))))
-  infeasible_so (Infeasible duals None) one none (inl h) = (one, none, h.1, h.0.0, h.2)
-  infeasible_so (Infeasible duals (Some j)) one none (inl h) = absurd (let e = h.0.1 in cc)
-  infeasible_so (Optimal levels row_levels duals reduced) one none (inl h) = absurd h.0
-  infeasible_so (Unbounded levels row_levels ray) one none (inl h) = absurd h.0
-  infeasible_so (Interrupted phase levels row_levels) one none (inl h) = absurd h.0
-  infeasible_so (Refused step) one none (inl h) = absurd h.0
-
-  unbounded_so : (q : ℕ) (end : End F) → ¬ (InPhaseOne d) → IsUnlimitedBy Chosen d q → EndsWith value limit lp kind.Unbounded (last_along d q) end → EndsSoBy value limit lp iterlim (IsAllowedBy Chosen d) Chosen pivots d end
-  unbounded_so q end free along (inr stop) = subst (EndsSoBy value limit lp iterlim (IsAllowedBy Chosen d) Chosen pivots d) (sym stop.1) (inr (inr (inr (inl (free, (q, along, stop.2))))))
-  unbounded_so q (Unbounded levels row_levels ray) free along (inl h) = (free, (q, along, h.1, h.0.0, h.0.1, h.0.2, h.2))
-  unbounded_so q (Optimal levels row_levels duals reduced) free along (inl h) = absurd h.0
-  unbounded_so q (Infeasible duals crossed) free along (inl h) = absurd h.0
-  unbounded_so q (Interrupted phase levels row_levels) free along (inl h) = absurd h.0
-  unbounded_so q (Refused step) free along (inl h) = absurd h.0
-
-  interrupted_so : (end : End F) → pivots ≡ iterlim → IsPhase d 2 → IsGoingOnBy Chosen d → EndsWith value limit lp kind.Interrupted (last_of d) end → EndsSoBy value limit lp iterlim (IsAllowedBy Chosen d) Chosen pivots d end
-  interrupted_so end most two goes (inr stop) = subst (EndsSoBy value limit lp iterlim (IsAllowedBy Chosen d) Chosen pivots d) (sym stop.1) (inr (inr (inr (inr (most, two, goes, stop.2)))))
-  interrupted_so (Interrupted phase levels row_levels) most two goes (inl h) =
-      (most, subst (IsPhase d) (sym h.0.0) two, goes, inr (h.0.0, h.1, h.0.1, h.0.2, h.2))
-  interrupted_so (Optimal levels row_levels duals reduced) most two goes (inl h) = absurd h.0
-  interrupted_so (Infeasible duals crossed) most two goes (inl h) = absurd h.0
-  interrupted_so (Unbounded levels row_levels ray) most two goes (inl h) = absurd h.0
-  interrupted_so (Refused step) most two goes (inl h) = absurd h.0
-
   -- what is read along a ray is told by the variable
   along_is : (q r : ℕ) (last : Last) → last ≡ last_along d r → last.changes ≡ (last_along d q).changes → last ≡ last_along d q
   along_is q r last is changes =
       let same : (last_along d r).changes ≡ (last_along d q).changes = sym (ap (λ (l : Last). l.changes) is) ∙ changes in
       is ∙ ap (λ (c : List Number). record (last_of d) { changes = c }) same
 
-  some_same : (q r : ℕ) → Some q ≡ Some r → q ≡ r
-  some_same q r e = cc
-
   -- the end where no pivot is due
   pub ended_so : (enter : Option ℕ) (end : End F) → NoneIsDue Chosen d enter → IsLedBack value limit lp d enter end → EndsSoBy value limit lp iterlim (IsAllowedBy Chosen d) Chosen pivots d end
   ended_so None end none led = by_kind led.kind led.last led.ends_by led.read led.gives
     where
-      by_kind : (k : FinalKind) (last : Last) → EndsBy d None k → EndsAt d k last → EndsWith value limit lp k last end → EndsSoBy value limit lp iterlim (IsAllowedBy Chosen d) Chosen pivots d end
-      by_kind kind.Optimal last by read gives = optimal_so end read.0 read.1 (subst (λ l. EndsWith value limit lp kind.Optimal l end) read.2 gives)
-      by_kind kind.Infeasible last by read gives = infeasible_so end read.0 read.1 (subst (λ l. EndsWith value limit lp kind.Infeasible l end) read.2 gives)
+      by_kind : (k : EndKind) (last : Last) → EndsBy d None k → IsReadAt d k last → EndsWith value limit lp k last end → EndsSoBy value limit lp iterlim (IsAllowedBy Chosen d) Chosen pivots d end
+      by_kind kind.Optimal last by read gives = inl (kind.Optimal, last, read, gives)
+      by_kind kind.Infeasible last by read gives = inl (kind.Infeasible, last, read, gives)
       by_kind kind.Unbounded last by read gives = absurd (let e = by.1.2 in cc)
       by_kind kind.Interrupted last by read gives = absurd (none.1 by.2.0 by.2.1)
   ended_so (Some q) end due led = by_kind led.kind led.last led.ends_by led.read led.ray led.gives
     where
-      by_kind : (k : FinalKind) (last : Last) → EndsBy d (Some q) k → EndsAt d k last → RayIs d (Some q) last.changes → EndsWith value limit lp k last end → EndsSoBy value limit lp iterlim (IsAllowedBy Chosen d) Chosen pivots d end
+      by_kind : (k : EndKind) (last : Last) → EndsBy d (Some q) k → IsReadAt d k last → RayIs d (Some q) last.changes → EndsWith value limit lp k last end → EndsSoBy value limit lp iterlim (IsAllowedBy Chosen d) Chosen pivots d end
       by_kind kind.Optimal last by read ray gives = absurd (let e = by.2 in cc)
       by_kind kind.Infeasible last by read ray gives = absurd (let e = by.2 in cc)
-      by_kind kind.Unbounded last by read ray gives =
-          unbounded_so q end due.0 due.1 (subst (λ l. EndsWith value limit lp kind.Unbounded l end) (along_is q read.1.0 last read.1.2 ray) gives)
+      by_kind kind.Unbounded last by read ray gives = inl (kind.Unbounded, last, (due.0, (q, due.1, along_is q read.1.0 last read.1.2 ray)), gives)
       by_kind kind.Interrupted last by read ray gives = absurd (let e = by.3 in cc)
 
   -- the end where the limit of pivots is met
   pub broken_off_so : (end : End F) → pivots ≡ iterlim → IsGoingOnBy Chosen d → IsBrokenOff value limit lp d end → EndsSoBy value limit lp iterlim (IsAllowedBy Chosen d) Chosen pivots d end
-  broken_off_so end most goes (inl one) = subst (EndsSoBy value limit lp iterlim (IsAllowedBy Chosen d) Chosen pivots d) (sym one.1) (most, one.0, goes, inl (refl, refl, refl))
+  broken_off_so end most goes (inl one) = inr (inl (most, one.0, goes, one.1))
   broken_off_so end most goes (inr two) = by_kind two.1.kind two.1.last two.1.ends_by two.1.read two.1.gives
     where
       goes_or_not : NothingImproves d → ⊥
       goes_or_not none = elim goes [ inl due ↦ none.0 due | inr more ↦ none.1 more.1.0 (improves more.1.0 more.1.2) ]
 
-      by_kind : (k : FinalKind) (last : Last) → EndsBy d None k → EndsAt d k last → EndsWith value limit lp k last end → EndsSoBy value limit lp iterlim (IsAllowedBy Chosen d) Chosen pivots d end
+      by_kind : (k : EndKind) (last : Last) → EndsBy d None k → IsReadAt d k last → EndsWith value limit lp k last end → EndsSoBy value limit lp iterlim (IsAllowedBy Chosen d) Chosen pivots d end
       by_kind kind.Optimal last by read gives = absurd (goes_or_not read.1)
       by_kind kind.Infeasible last by read gives = absurd (goes_or_not read.1)
       by_kind kind.Unbounded last by read gives = absurd (let e = by.1.2 in cc)
-      by_kind kind.Interrupted last by read gives = interrupted_so end most two.0 goes (subst (λ l. EndsWith value limit lp kind.Interrupted l end) read.3 gives)
+      by_kind kind.Interrupted last by read gives = inl (kind.Interrupted, last, (read.0, read.1, (most, goes), read.3), gives)
 
 -- the end of a walk that halted so
 pub halted_so : {F : Type 0} (value : F → Number) (limit : ℕ) (lp : Lp F) (iterlim : ℕ) (Chosen : ℕ → Type 0) (pivots : ℕ) (last : Dictionary) (h : Halt F) (end : End F) → ((q : ℕ) → Chosen q → Improves last q) → HaltsAt limit value Chosen iterlim pivots last h → EndsHalted value limit lp h end → EndsSoBy value limit lp iterlim (IsAllowedBy Chosen last) Chosen pivots last end
@@ -133,5 +91,4 @@ halted_so value limit lp iterlim Chosen pivots last (halt.Ended d enter) end imp
     ended_so value limit lp iterlim Chosen pivots last improves enter end halts.1 (subst (λ e. IsLedBack value limit lp e enter end) halts.0 ends)
 halted_so value limit lp iterlim Chosen pivots last (halt.Interrupted d) end improves halts ends =
     broken_off_so value limit lp iterlim Chosen pivots last improves end halts.1 halts.2 (subst (λ e. IsBrokenOff value limit lp e end) halts.0 ends)
-halted_so value limit lp iterlim Chosen pivots last (halt.Refused step) end improves halts ends =
-    subst (EndsSoBy value limit lp iterlim (IsAllowedBy Chosen last) Chosen pivots last) (sym ends) (inl halts)
+halted_so value limit lp iterlim Chosen pivots last (halt.Refused step) end improves halts ends = inr (inr (halts.0, (step, ends, halts.1)))

@@ -1,15 +1,14 @@
 -- Where pivots lead each dictionary is one of the program.
-use Rattle.std.proofs.Common.{◌≡◌, ℕ, ◌+◌, pos, List, [], ◌∷◌, sym, ◌∙◌, subst}
+use Rattle.std.proofs.Common.{◌≡◌, ℕ, pos, List, [], ◌∷◌, ◌++◌, sym, ◌∙◌, subst}
 use Rattle.std.specs.Prelude.{◌↔◌}
 use Rattle.gq_number.specs.Number.{Number, whole}
 use Rattle.lp_core.specs.declared.answer.Pivot.{Pivot}
-use Rattle.lp_core.specs.declared.answer.Rule.{Rule}
 use Rattle.lp_core.specs.declared.program.Lp.{Lp}
 use Rattle.lp_core.specs.Sums.{number_of}
 use Rattle.lp_core.specs.WellFormed.{IsWellFormed}
 use Rattle.lp_core.specs.StandardForm.{Standard, standard_form}
 use Rattle.lp_core.specs.Dictionary.{Dictionary, Meets, basic_at, IsLegal, first_dictionary, exchanged}
-use Rattle.lp_core.specs.Answers.{Leads}
+use Rattle.lp_core.specs.Pivots.{Leads}
 use Rattle.lp_std.specs.Last.{IsDictionaryOf}
 use Rattle.lp_exact.specs.Pivots.{IsProper}
 use Rattle.lp_exact.proofs.Equations.{meets_after, meets_before}
@@ -17,7 +16,6 @@ use Rattle.lp_exact.proofs.Proper.{place_within, pivot_some, leaves_is, proper_a
 use Rattle.lp_exact.proofs.OfForm.{of_form_after}
 use Rattle.lp_exact.proofs.InForm.{form_in_order}
 use Rattle.lp_exact.proofs.Begins.{first_proper, first_of_form}
-use Rattle.lp_walk.proofs.Rules.{legal_of}
 
 -- A dictionary of a standard form in which each basic variable stands in its own row alone.
 pub record Stands (s : Standard) (d : Dictionary) : Type 0 where
@@ -44,7 +42,7 @@ stands_after s d p k h legal =
       of_form = of_form_after s d p k h.proper legal (same_points d p k h.proper legal) h.of_form;
     }
 
-pub stands_last : (s : Standard) (rule : Rule) (limit n : ℕ) (d : Dictionary) (pivots : List Pivot) (last : Dictionary) → Stands s d → Leads rule limit n d pivots last → Stands s last
-stands_last s rule limit n d [] last h leads = subst (Stands s) (sym leads) h
-stands_last s rule limit n d (p ∷ pivots) last h leads =
-    stands_last s rule limit (n + 1) (exchanged d p.enter leads.0) pivots last (stands_after s d p leads.0 h (legal_of rule d p leads.0 leads.1)) leads.4
+pub stands_last : (s : Standard) (Allowed : List Pivot → Dictionary → Pivot → ℕ → Type 0) → ((done : List Pivot) (d : Dictionary) (p : Pivot) (k : ℕ) → Allowed done d p k → IsLegal d p k) → (done : List Pivot) (d : Dictionary) (pivots : List Pivot) (last : Dictionary) → Stands s d → Leads Allowed done d pivots last → Stands s last
+stands_last s Allowed legal done d [] last h way = subst (Stands s) (sym way) h
+stands_last s Allowed legal done d (p ∷ pivots) last h way =
+    stands_last s Allowed legal (done ++ p ∷ []) (exchanged d p.enter way.0) pivots last (stands_after s d p way.0 h (legal done d p way.0 way.1)) way.2

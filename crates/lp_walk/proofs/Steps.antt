@@ -1,16 +1,14 @@
 -- What the pieces of a walk answer is what their definitions say.
-use Rattle.std.proofs.Common.{◌≡◌, ℕ, ◌+◌, ◌-◌, ◌^◌, ◌<◌, ◌≤◌, inl, inr, List, [], ◌∷◌, ◌++◌, length, Option, Some, None, refl, sym, ap, ◌∙◌, subst, arith, min}
+use Rattle.std.proofs.Common.{◌≡◌, ℕ, ◌+◌, ◌-◌, ◌^◌, ◌<◌, ◌≤◌, inr, List, [], ◌∷◌, ◌++◌, length, Option, Some, None, sym, ap, ◌∙◌, subst, arith, min}
 use Rattle.std.specs.Prelude.{slice_get}
 use Rattle.std.proofs.lemmas.List.{length-append}
 use Rattle.gq_number.specs.Number.{Number}
 use Rattle.lp_core.specs.declared.answer.Pivot.{Pivot}
-use Rattle.lp_core.specs.declared.answer.Rule.TheVariants.{Legal}
 use Rattle.lp_core.specs.declared.answer.StepName.{StepName}
 use Rattle.lp_core.specs.StandardForm.{Standard}
 use Rattle.lp_core.specs.Dictionary.{Dictionary, OpeningIsDue, Improves, IsLegal, exchanged}
 use Rattle.lp_core.specs.Steps.{AllFit, FirstStop, ratio_steps, exchange_steps}
-use Rattle.lp_core.specs.Answers.{TestFits}
-use Rattle.lp_core.specs.Choices.{reached, after_pivot, IsTaken, AreTaken}
+use Rattle.lp_core.specs.Pivots.{TestFits, IsTaken, ByChoice}
 use Rattle.lp_std.specs.Last.{IsDictionaryOf}
 use Rattle.lp_exact.specs.Pivots.{IsProper, IsLeaving}
 use Rattle.lp_dict.specs.Tableau.{Tableau, dictionary}
@@ -21,8 +19,7 @@ use Rattle.lp_walk.specs.declared.walk.Halt.TheVariants as halt
 use Rattle.lp_walk.specs.declared.walk.Step.TheVariants as step
 use Rattle.lp_walk.specs.declared.walk.Walk.{Walk}
 use Rattle.lp_walk.specs.Walks.{due_with, IsDue, IsAfter, IsSoFar, StopsBy, StepsTo, HaltsAtLimit, HaltsAt, IsWalk}
-use Rattle.lp_walk.proofs.Lists.{split_more}
-use Rattle.lp_walk.proofs.Walking.{step_is_due, none_is_due, leaves_row, leads_more, after_is, reached_append}
+use Rattle.lp_walk.proofs.Walking.{step_is_due, none_is_due, leaves_row, way_more}
 
 -- what is due where this variable leaves, if any does
 pub due_by : (limit : ℕ) (Chosen : ℕ → Type 0) (n : ℕ) (d : Dictionary) (q : ℕ) (leave : Option ℕ) (r : Due) → ¬ (OpeningIsDue d) → Improves d q → Chosen q → IsLeaving d q leave → AllFit (ratio_steps limit n d q) → r ≡ due_with q leave → IsDue limit Chosen n d r
@@ -53,46 +50,13 @@ module _ {F : Type 0} (value : F → Number) (limit : ℕ) (before : Tableau F) 
   pub pivot_stops : (Chosen : ℕ → Type 0) (name : StepName) → IsTaken Chosen (dictionary value before) p → ((k : ℕ) → slice_get before.basic k ≡ Some p.leave → FirstStop (exchange_steps limit before.upcoming (dictionary value before) p.enter k) name) → StopsBy Chosen limit before.upcoming (dictionary value before) name
   pivot_stops Chosen name taken stop = inr (p, legal.0, (legal.1, taken), legal.2, stop legal.0 row_leaves)
 
--- ---- pivots by a choice
-
-module _ (choice : Dictionary → List Pivot → Dictionary → ℕ → Type 0) (first : Dictionary) where
-  nothing_split : (before behind : List Pivot) (p : Pivot) → [] ≡ before ++ p ∷ behind → ⊥
-  nothing_split [] behind p e = cc
-  nothing_split (q ∷ before) behind p e = cc
-
-  pub none_taken : AreTaken choice first []
-  none_taken before behind p e = absurd (nothing_split before behind p e)
-
-  -- one pivot more that is by the choice
-  pub taken_more : (pivots : List Pivot) (p : Pivot) → AreTaken choice first pivots → IsTaken (choice first pivots (reached first pivots)) (reached first pivots) p → AreTaken choice first (pivots ++ p ∷ [])
-  taken_more pivots p taken here before behind q e =
-      elim (split_more pivots before (q ∷ behind) p e) [
-        | inl none ↦ absurd (cc)
-        | inr found ↦ by_front found.0 found.1 found.2
-      ]
-    where
-      by_front : (front : List Pivot) → q ∷ behind ≡ front ++ p ∷ [] → pivots ≡ before ++ front → IsTaken (choice first before (reached first before)) (reached first before) q
-      by_front [] rest same =
-          let q_is : p ≡ q = cc in
-          let before_is : pivots ≡ before = same ∙ nil_behind before in
-          subst (λ b. IsTaken (choice first b (reached first b)) (reached first b) q) before_is (subst (IsTaken (choice first pivots (reached first pivots)) (reached first pivots)) q_is here)
-        where
-          nil_behind : (l : List Pivot) → l ++ [] ≡ l
-          nil_behind [] = refl
-          nil_behind (x ∷ l) = ap (λ m. x ∷ m) (nil_behind l)
-      by_front (r ∷ front) rest same =
-          let r_is : r ≡ q = cc in
-          taken before front q (same ∙ ap (λ x. before ++ x ∷ front) r_is)
-
 -- ---- the walk so far
 
 module _ {F : Type 0} (value : F → Number) (limit : ℕ) (choice : Dictionary → List Pivot → Dictionary → ℕ → Type 0) (Known : List Pivot → Dictionary → Type 0) (first : Dictionary) where
   pub begins : (at : Tableau F) → dictionary value at ≡ first → at.upcoming ≡ 1 → IsProper first → Known [] first → IsSoFar limit value choice Known first [] at
   begins at is upcoming proper known =
       record {
-        leads = is;
-        taken = none_taken choice first;
-        is_reached = is;
+        leads = (is, tt);
         proper = subst IsProper (sym is) proper;
         of_form = λ s h. subst (IsDictionaryOf s) (sym is) h;
         upcoming = next at.upcoming upcoming;
@@ -106,15 +70,9 @@ module _ {F : Type 0} (value : F → Number) (limit : ℕ) (choice : Dictionary 
   goes_on Before pivots more before after p few more_is so_far step_is =
       let count = so_far.upcoming in
       let next : before.upcoming ≡ 1 + length pivots = omega arith in
-      let leaves = leaves_row (dictionary value before) p step_is.row step_is.allowed.0 in
+      let way = way_more (ByChoice choice first) limit before.upcoming 1 [] first pivots (dictionary value before) (dictionary value after) p step_is.row next so_far.leads step_is.allowed step_is.tested step_is.fit step_is.is_exchanged in
       subst (λ (l : List Pivot). IsSoFar limit value choice Known first l after) (sym more_is) (record {
-        leads = leads_more Legal limit before.upcoming 1 first pivots (dictionary value before) (dictionary value after) p step_is.row next so_far.leads step_is.allowed.0 step_is.tested step_is.fit step_is.is_exchanged;
-        taken = taken_more choice first pivots p so_far.taken (subst (λ d. IsTaken (choice first pivots d) d p) so_far.is_reached step_is.allowed.1);
-        is_reached =
-            step_is.is_exchanged
-            ∙ after_is_pivot (dictionary value before) step_is.row so_far.proper leaves
-            ∙ ap (λ d. after_pivot d p) so_far.is_reached
-            ∙ sym (reached_append first pivots (p ∷ []));
+        leads = way;
         proper = subst IsProper (sym step_is.is_exchanged) (proper_after (dictionary value before) p step_is.row so_far.proper step_is.allowed.0);
         of_form = λ s h. step_is.of_form s (so_far.of_form s h);
         upcoming = counted (length pivots) (length (pivots ++ p ∷ [])) before.upcoming after.upcoming few (length-append pivots (p ∷ [])) next step_is.upcoming;
@@ -123,9 +81,6 @@ module _ {F : Type 0} (value : F → Number) (limit : ℕ) (choice : Dictionary 
     where
       counted : (n m u v : ℕ) → n + 1 < 2 ^ 64 → m ≡ n + 1 → u ≡ 1 + n → v ≡ min (u + 1) (2 ^ 64 - 1) → v ≡ min (m + 1) (2 ^ 64 - 1)
       counted n m u v few m_is u_is v_is = omega arith
-
-      after_is_pivot : (d : Dictionary) (k : ℕ) → IsProper d → slice_get d.basic k ≡ Some p.leave → exchanged d p.enter k ≡ after_pivot d p
-      after_is_pivot d k proper leaves = after_is d p k proper leaves
 
 pub count_more : (pivots more : List Pivot) (p : Pivot) (n : ℕ) → more ≡ pivots ++ p ∷ [] → length pivots ≡ n → length more ≡ n + 1
 count_more pivots more p n more_is count = ap length more_is ∙ length-append pivots (p ∷ []) ∙ ap (λ m. m + 1) count
@@ -146,4 +101,4 @@ module _ {F : Type 0} (value : F → Number) (limit : ℕ) (Chosen : ℕ → Typ
 -- a walk that halted
 pub walk_is : {F : Type 0} (value : F → Number) (limit : ℕ) (choice : Dictionary → List Pivot → Dictionary → ℕ → Type 0) (Known : List Pivot → Dictionary → Type 0) (first : Dictionary) (iterlim : ℕ) (walk : Walk F) (at : Tableau F) → length walk.pivots.items ≤ iterlim → IsSoFar limit value choice Known first walk.pivots.items at → HaltsAt limit value (choice first walk.pivots.items (dictionary value at)) iterlim (length walk.pivots.items) (dictionary value at) walk.halt → IsWalk limit value choice first iterlim walk
 walk_is value limit choice Known first iterlim walk at few so_far halts =
-    record { last = dictionary value at; few = few; leads = so_far.leads; taken = so_far.taken; of_form = so_far.of_form; halts = halts }
+    record { last = dictionary value at; few = few; leads = so_far.leads; of_form = so_far.of_form; halts = halts }

@@ -1,17 +1,17 @@
 -- What is due at a dictionary, and where pivots lead.
-use Rattle.std.proofs.Common.{◌≡◌, ℕ, zero, suc, ◌+◌, ◌<◌, ◌⊎◌, inl, inr, pos, List, [], ◌∷◌, ◌++◌, length, Some, None, refl, sym, ap, ◌∙◌, subst, subst₂, arith}
+use Rattle.std.proofs.Common.{◌≡◌, ℕ, zero, suc, ◌+◌, ◌<◌, ◌⊎◌, inl, inr, pos, List, [], ◌∷◌, ◌++◌, append_assoc, append-nil, length, Some, None, refl, sym, ap, ◌∙◌, subst, subst₂, arith}
 use Rattle.std.specs.Prelude.{slice_get, unwrap_or}
 use Rattle.std.proofs.lemmas.Bool.{cases_lt}
 use Rattle.gq_number.specs.Number.{Number, whole}
 use Rattle.gq_number.specs.Order.{◌<ℚ◌}
 use Rattle.gq_number.proofs.Order.{≤ℚ_or_above, not_above}
 use Rattle.lp_core.specs.declared.answer.Pivot.{Pivot}
-use Rattle.lp_core.specs.declared.answer.Rule.{Rule}
+use Rattle.lp_core.specs.Ends.{IsGoingOnBy}
 use Rattle.lp_core.specs.declared.answer.StepName.{StepName}
 use Rattle.lp_core.specs.Dictionary.{Dictionary, entry_at, InPhaseOne, OpeningIsDue, Improves, Limits, IsOpening, IsStep, IsLegal, IsBland, exchanged}
 use Rattle.lp_core.specs.Steps.{AllFit, FirstStop, ratio_steps, exchange_steps}
-use Rattle.lp_core.specs.Answers.{IsAllowed, IsGoingOnBy, TestFits, Leads}
-use Rattle.lp_core.specs.Choices.{leaving_row, after_pivot, reached, IsTaken, IsAllowedBy}
+use Rattle.lp_core.specs.Pivots.{TestFits, IsTaken, IsAllowedBy, LeadsWithin}
+use Rattle.lp_core.specs.Choices.{leaving_row, after_pivot, reached}
 use Rattle.lp_exact.specs.Pivots.{IsProper, IsLeaving}
 use Rattle.lp_exact.proofs.Kept.{get_within, get_index}
 use Rattle.lp_exact.proofs.Improving.{found_or_not}
@@ -114,12 +114,18 @@ goes_on_by_stop Chosen limit n d name stops =
 
 -- ---- pivots in turn
 
-pub leads_more : (rule : Rule) (limit m n : ℕ) (d : Dictionary) (pivots : List Pivot) (last new : Dictionary) (p : Pivot) (k : ℕ) → m ≡ n + length pivots → Leads rule limit n d pivots last → IsAllowed rule last p k → TestFits limit m last p → AllFit (exchange_steps limit m last p.enter k) → new ≡ exchanged last p.enter k → Leads rule limit n d (pivots ++ p ∷ []) new
-leads_more rule limit m n d [] last new p k at leads allowed tested fit is =
-    let same : m ≡ n = omega arith in
-    (k, subst (λ e. IsAllowed rule e p k) leads allowed, subst₂ (λ j e. TestFits limit j e p) same leads tested, subst₂ (λ j e. AllFit (exchange_steps limit j e p.enter k)) same leads fit, is ∙ ap (λ e. exchanged e p.enter k) leads)
-leads_more rule limit m n d (q ∷ pivots) last new p k at leads allowed tested fit is =
-    (leads.0, leads.1, leads.2, leads.3, leads_more rule limit m (n + 1) (exchanged d q.enter leads.0) pivots last new p k (omega arith) leads.4 allowed tested fit is)
+module _ (Allowed : List Pivot → Dictionary → Pivot → ℕ → Type 0) where
+  -- one pivot more
+  pub way_more : (limit m n : ℕ) (done : List Pivot) (d : Dictionary) (pivots : List Pivot) (last new : Dictionary) (p : Pivot) (k : ℕ) → m ≡ n + length pivots → LeadsWithin Allowed limit n done d pivots last → Allowed (done ++ pivots) last p k → TestFits limit m last p → AllFit (exchange_steps limit m last p.enter k) → new ≡ exchanged last p.enter k → LeadsWithin Allowed limit n done d (pivots ++ p ∷ []) new
+  way_more limit m n done d [] last new p k at way allowed tested fit is =
+      let same : m ≡ n = omega arith in
+      let here : last ≡ d = way.0 in
+      let begun : Allowed done d p k = subst₂ (λ l e. Allowed l e p k) (append-nil done) here allowed in
+      ((k, begun, is ∙ ap (λ e. exchanged e p.enter k) here), (subst₂ (λ j e. TestFits limit j e p) same here tested, subst₂ (λ j e. AllFit (exchange_steps limit j e p.enter k)) same here fit, tt))
+  way_more limit m n done d (q ∷ pivots) last new p k at way allowed tested fit is =
+      let later : Allowed ((done ++ q ∷ []) ++ pivots) last p k = subst (λ l. Allowed l last p k) (sym (append_assoc done (q ∷ []) pivots)) allowed in
+      let rest = way_more limit m (n + 1) (done ++ q ∷ []) (exchanged d q.enter way.0.0) pivots last new p k (omega arith) (way.0.2, way.1.2) later tested fit is in
+      ((way.0.0, way.0.1, rest.0), (way.1.0, way.1.1, rest.1))
 
 -- ---- where pivots lead
 

@@ -3,16 +3,13 @@ use Rattle.std.specs.Prelude.{◌≡◌, ◌⊎◌, ℕ, [], Option, None}
 use Rattle.gq_number.specs.Number.{Number}
 use Rattle.lp_core.specs.declared.answer.End.{End}
 use Rattle.lp_core.specs.declared.answer.End.TheVariants.{Interrupted, Refused}
-use Rattle.lp_core.specs.declared.answer.StepName.{StepName}
-use Rattle.lp_core.specs.declared.answer.Rule.{Rule}
 use Rattle.lp_core.specs.declared.program.Lp.{Lp}
 use Rattle.lp_core.specs.StandardForm.{Standard, Last}
 use Rattle.lp_core.specs.Dictionary.{Dictionary, OpeningIsDue, Improves}
-use Rattle.lp_core.specs.Steps.{AllFit, FirstStop}
-use Rattle.lp_core.specs.Answers.{IsPhase, NoneCrosses, AnswersCrossed, AnswersStopped}
-use Rattle.lp_std.specs.declared.types.FinalKind.{FinalKind}
-use Rattle.lp_std.specs.Last.{IsDictionaryOf, EndsAt}
-use Rattle.lp_std.specs.Back.{LeadsTo, IsProved, steps_back}
+use Rattle.lp_core.specs.Answers.{EndsCrossed, EndsUnformed}
+use Rattle.lp_core.specs.declared.answer.EndKind.{EndKind}
+use Rattle.lp_std.specs.Last.{IsDictionaryOf, IsReadAt}
+use Rattle.lp_core.specs.Ends.{IsPhase, EndsWith}
 use Rattle.lp_dict.specs.Tableau.{dictionary}
 use Rattle.lp_exact.specs.Reading.{IsDone, EndsBy, RayIs}
 use Rattle.lp_walk.specs.declared.walk.Halt.{Halt}
@@ -30,20 +27,14 @@ module _ {F : Type 0} (value : F → Number) where
   CanEnd s (halt.Refused step) = Unit {0}
 
 module _ {F : Type 0} (value : F → Number) (limit : ℕ) (lp : Lp F) where
-  -- an end to which what was read from a last dictionary leads back, or the first step on that way that does not fit
-  abbrev pub EndsWith : FinalKind → Last → End F → Type 0
-  EndsWith kind last end =
-      (LeadsTo value lp kind last end × AllFit (steps_back value limit lp kind last) × IsProved value lp end)
-      ⊎ ((step : StepName) × (end ≡ Refused step) × FirstStop (steps_back value limit lp kind last) step)
-
   -- An end is led back from a dictionary, along the ray of this variable, if there is one.
   pub record IsLedBack (d : Dictionary) (enter : Option ℕ) (end : End F) : Type 0 where
-    pub kind : FinalKind
+    pub kind : EndKind
     pub last : Last
     pub ends_by : EndsBy d enter kind
-    pub read : EndsAt d kind last
+    pub read : IsReadAt d kind last
     pub ray : RayIs d enter last.changes
-    pub gives : EndsWith kind last end
+    pub gives : EndsWith value limit lp kind last end
 
   -- the end of a walk that is broken off: in phase 1 nothing is told, in phase 2 the point
   abbrev pub IsBrokenOff : Dictionary → End F → Type 0
@@ -55,11 +46,6 @@ module _ {F : Type 0} (value : F → Number) (limit : ℕ) (lp : Lp F) where
   EndsHalted (halt.Interrupted d) end = IsBrokenOff (dictionary value d) end
   EndsHalted (halt.Refused step) end = end ≡ Refused step
 
-  -- the end of a program where the bounds of a column cross
-  abbrev pub EndsCrossed : End F → Type 0
-  EndsCrossed end = (iterlim : ℕ) (rule : Rule) → AnswersCrossed value limit lp iterlim rule end
-
   -- the end of a program that has no standard form
   abbrev pub EndsFormless : End F → Type 0
-  EndsFormless end =
-      (iterlim : ℕ) (rule : Rule) → AnswersCrossed value limit lp iterlim rule end ⊎ (NoneCrosses value limit lp iterlim rule × AnswersStopped value limit lp iterlim rule end)
+  EndsFormless end = EndsCrossed value lp end ⊎ EndsUnformed value limit lp end

@@ -2,13 +2,12 @@
 use Rattle.std.specs.Prelude.{◌≡◌, ℕ, ◌+◌, ◌-◌, ◌^◌, ◌<◌, ◌≤◌, min, List, [], ◌∷◌, ◌++◌, length, Option, Some, None}
 use Rattle.gq_number.specs.Number.{Number}
 use Rattle.lp_core.specs.declared.answer.Pivot.{Pivot}
-use Rattle.lp_core.specs.declared.answer.Rule.TheVariants.{Legal}
+use Rattle.lp_core.specs.Ends.{IsUnlimitedBy, IsGoingOnBy, PivotStopsBy}
 use Rattle.lp_core.specs.declared.answer.StepName.{StepName}
 use Rattle.lp_core.specs.StandardForm.{Standard}
 use Rattle.lp_core.specs.Dictionary.{Dictionary, InPhaseOne, exchanged}
 use Rattle.lp_core.specs.Steps.{AllFit, exchange_steps}
-use Rattle.lp_core.specs.Answers.{NothingImproves, IsUnlimitedBy, IsGoingOnBy, TestFits, PivotStopsBy, Leads}
-use Rattle.lp_core.specs.Choices.{reached, IsAllowedBy, AreTaken}
+use Rattle.lp_core.specs.Pivots.{NothingImproves, TestFits, IsAllowedBy, ByChoice, LeadsWithin}
 use Rattle.lp_std.specs.Last.{IsDictionaryOf}
 use Rattle.lp_exact.specs.Pivots.{IsProper}
 use Rattle.lp_dict.specs.Tableau.{Tableau, dictionary}
@@ -54,11 +53,9 @@ module _ (limit : ℕ) where
       pub upcoming : after.upcoming ≡ min (before.upcoming + 1) (2 ^ 64 - 1)
       pub known : Known (dictionary value after)
 
-    -- A walk so far: pivots by the choice, whose steps fit, lead from a first dictionary to the one that it stands at.
+    -- A walk so far: pivots by the choice lead from a first dictionary to the one that it stands at, and all their steps fit.
     pub record IsSoFar (choice : Dictionary → List Pivot → Dictionary → ℕ → Type 0) (Known : List Pivot → Dictionary → Type 0) (first : Dictionary) (pivots : List Pivot) (at : Tableau F) : Type 0 where
-      pub leads : Leads Legal limit 1 first pivots (dictionary value at)
-      pub taken : AreTaken choice first pivots
-      pub is_reached : dictionary value at ≡ reached first pivots
+      pub leads : LeadsWithin (ByChoice choice first) limit 1 [] first pivots (dictionary value at)
       pub proper : IsProper (dictionary value at)
       pub of_form : (s : Standard) → IsDictionaryOf s first → IsDictionaryOf s (dictionary value at)
       pub upcoming : at.upcoming ≡ min (length pivots + 1) (2 ^ 64 - 1)
@@ -83,11 +80,10 @@ module _ (limit : ℕ) where
     HaltsAt Chosen iterlim pivots last (halt.Interrupted d) = (dictionary value d ≡ last) × (pivots ≡ iterlim) × IsGoingOnBy Chosen last
     HaltsAt Chosen iterlim pivots last (halt.Refused name) = (pivots < iterlim) × StopsBy Chosen limit (pivots + 1) last name
 
-    -- A walk from a first dictionary: pivots by the choice, whose steps fit, lead to the dictionary at which it halts.
+    -- A walk from a first dictionary: pivots by the choice lead to the dictionary at which it halts, and all their steps fit.
     pub record IsWalk (choice : Dictionary → List Pivot → Dictionary → ℕ → Type 0) (first : Dictionary) (iterlim : ℕ) (walk : Walk F) : Type 0 where
       pub last : Dictionary
       pub few : length walk.pivots.items ≤ iterlim
-      pub leads : Leads Legal limit 1 first walk.pivots.items last
-      pub taken : AreTaken choice first walk.pivots.items
+      pub leads : LeadsWithin (ByChoice choice first) limit 1 [] first walk.pivots.items last
       pub of_form : (s : Standard) → IsDictionaryOf s first → IsDictionaryOf s last
       pub halts : HaltsAt (choice first walk.pivots.items last) iterlim (length walk.pivots.items) last walk.halt

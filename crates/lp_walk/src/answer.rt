@@ -2,20 +2,20 @@
 ghost use Rattle.std.specs.Prelude.{◌≡◌, ◌≢◌, ℕ, pos, [], map, replicate, Some, IfOk};
 ghost use Rattle.gq_number.specs.Number.{whole};
 ghost use Rattle.lp_core.specs.declared.answer.Rule.TheVariants.{Legal};
+ghost use Rattle.lp_core.specs.Proofs.{FirstCrossed};
 ghost use Rattle.lp_core.specs.declared.answer.StepName.{StepName};
 ghost use Rattle.lp_core.specs.declared.answer.End.TheVariants.{Refused};
 ghost use Rattle.lp_core.specs.Dictionary.{Dictionary};
-ghost use Rattle.lp_core.specs.Answers.{IsAnswer};
-ghost use Rattle.lp_core.specs.Choices.{IsAnswerBy};
+ghost use Rattle.lp_core.specs.Answers.{EndsCrossed, IsAnswer, IsAnswerByChoice};
 ghost use Rattle.lp_core.specs.Steps.{AllFit, standard_steps};
 ghost use Rattle.lp_core.specs.WellFormed.{IsWellFormed};
 ghost use Rattle.lp_std.specs.declared.stop.Stop.TheVariants as stops;
-ghost use Rattle.lp_std.specs.Meaning.{standard_value, FirstCrossed, HasNoForm};
+ghost use Rattle.lp_std.specs.Meaning.{standard_value, HasNoForm};
 ghost use Rattle.lp_std.specs.Back.{IsFormOf};
 ghost use Rattle.lp_std.specs.Last.{IsDictionaryOf};
 ghost use Rattle.lp_dict.specs.Tableau.{dictionary};
 ghost use Rattle.lp_exact.specs.Reading.{IsDone};
-ghost use Rattle.lp_walk.specs.Ends.{MayGoOn, CanEnd, IsLedBack, IsBrokenOff, EndsHalted, EndsCrossed, EndsFormless};
+ghost use Rattle.lp_walk.specs.Ends.{MayGoOn, CanEnd, IsLedBack, IsBrokenOff, EndsHalted, EndsFormless};
 
 use crate::choosing::Choosing;
 use crate::walk::{Halt, walked};
@@ -112,7 +112,7 @@ fn searched<C: Choosing<F>, F: ExactField>(
     requires form { IsFormOf F.value lp.now s.now }
     requires all_fit { AllFit (standard_steps F.value F.limit lp.now) }
     requires fresh { (d : Dictionary) → C.remembers choice.old d [] d }
-    ensures { IfOk result (IsAnswerBy C.chooses F.value F.limit lp.now iterlim) }
+    ensures { IfOk result (IsAnswerByChoice F.value F.limit lp.now iterlim C.chooses) }
 {
     let first = Dict::of(alloc, s)?;
     let walk = walked(alloc, first, iterlim, choice)?;
@@ -137,7 +137,7 @@ fn zeros<F: ExactField>(alloc: Global, count: usize) -> Result<Vec<F>, AllocErro
 /// The end of a program in which the bounds of this column cross, and those of no earlier one: all factors of rows are 0.
 fn crossed<F: ExactField>(alloc: Global, lp: &Lp<F>, column: u32) -> Result<End<F>, AllocError>
     requires { FirstCrossed F.value lp.now.columns (Some column) }
-    ensures { IfOk result (EndsCrossed F.value F.limit lp.now) }
+    ensures { IfOk result (EndsCrossed F.value lp.now) }
 {
     let duals = zeros(alloc, lp.rows.len())?;
     Ok(End::Infeasible {
@@ -172,7 +172,7 @@ pub fn solve_by<C: Choosing<F>, F: ExactField>(
 ) -> Result<Answer<F>, AllocError>
     requires well_formed { IsWellFormed F.value lp.now }
     requires fresh { (d : Dictionary) → C.remembers choice.old d [] d }
-    ensures chosen { IfOk result (IsAnswerBy C.chooses F.value F.limit lp.now iterlim) }
+    ensures chosen { IfOk result (IsAnswerByChoice F.value F.limit lp.now iterlim C.chooses) }
     ensures legal { IfOk result (IsAnswer F.value F.limit lp.now iterlim Legal) }
 {
     match standard(alloc, lp) {

@@ -2,8 +2,7 @@
 ghost use Rattle.std.specs.Prelude.{◌≡◌, ℕ, List, [], IfOk};
 ghost use Rattle.lp_core.specs.declared.answer.Pivot.{Pivot};
 ghost use Rattle.lp_core.specs.Dictionary.{Dictionary, Improves, IsLegal};
-ghost use Rattle.lp_core.specs.Answers.{TestFits};
-ghost use Rattle.lp_core.specs.Choices.{IsTaken};
+ghost use Rattle.lp_core.specs.Pivots.{TestFits, IsTaken};
 ghost use Rattle.lp_exact.specs.Pivots.{IsProper};
 ghost use Rattle.lp_dict.specs.Tableau.{dictionary};
 ghost use Rattle.lp_walk.specs.Walks as walks;

@@ -41,7 +41,7 @@ returns-clause-shows g c =
       answers = c.in_ok-push.ensures.items;
       events =
           c.in_ok-push-2.ensures.items
-          ∙ ap (λ (ns : List ℕ). old ++ event.Solve s.at.line s.model ns c.args.lp c.len.result c.new-4.result c.args.settings level ∷ []) (c.new-3.ensures ∙ c.in_ok-equations.ensures)
-          ∙ ap (λ (n : ℕ). old ++ event.Solve s.at.line s.model equations c.args.lp n c.new-4.result c.args.settings level ∷ []) (counted c.len.result c.args.answers.now c.len.ensures)
-          ∙ ap (λ (name : List ℕ). old ++ event.Solve s.at.line s.model equations c.args.lp (length c.args.answers.now.items) name c.args.settings level ∷ []) c.new-4.ensures;
+          ∙ ap (λ (ns : List ℕ). old ++ event.Solve s.at.line s.model ns c.args.lp c.len.result c.new-3.result c.args.settings level ∷ []) (c.new-2.ensures ∙ c.in_ok-equations.ensures)
+          ∙ ap (λ (n : ℕ). old ++ event.Solve s.at.line s.model equations c.args.lp n c.new-3.result c.args.settings level ∷ []) (counted c.len.result c.args.answers.now c.len.ensures)
+          ∙ ap (λ (name : List ℕ). old ++ event.Solve s.at.line s.model equations c.args.lp (length c.args.answers.now.items) name c.args.settings level ∷ []) c.new-3.ensures;
     }

@@ -67,7 +67,7 @@ loop-statement-init g t c =
     within-start _ _ _ _ _ c.args.program.now _ _ _ _ _ _ _ c.loop-element.element-index c.element-item.result c.loop-element.inner _ c.control.new.self _ _ between c.loop-element-test.true c.element-item.is
     (inner-controlled c.args.b.now c.loop-element.inner c.control.new.self c.as_slice.result.now c.element-item.result c.as_slice-in-loop-element.result.now c.len.result between.outer c.len.ensures c.as_slice-in-loop-element.ensures.value c.in_ok-control.ensures
     ∙ ap (λ sets. controlled c.args.b.now sets c.element-item.result) (c.as_slice.ensures ∙ sym (tree-sets c.in-Loop.control)))
-    (sym c.inner.view_is)
+    refl
 
 pub returns-in_err-step : goal.returns-in_err-step
 returns-in_err-step g t c =
@@ -78,7 +78,7 @@ returns-in_err-step g t c =
     let is = rw c.deref-statement-items.ensures.value at c.statement-item.is in
     let left = within-leaves _ _ _ _ _ c.args.program.now _ _ _ _ _ _ _ (Unit {0}) c.in_err-step.field-0.0 _ _ _ _ _ _ _ _ _ within call.runs call.solvers call.standing call.settings call.plain in
     rw (p.1, p.2) (record {
-      runs = within-failed _ _ _ _ _ c.args.program.now _ _ _ _ _ _ _ c.in_err-step.field-0.0 _ _ _ _ _ _ _ _ _ within in_it is (sym c.inner.view_is) call.runs;
+      runs = within-failed _ _ _ _ _ c.args.program.now _ _ _ _ _ _ _ c.in_err-step.field-0.0 _ _ _ _ _ _ _ _ _ within in_it is refl call.runs;
       solvers = left.solvers;
       standing = left.standing;
       settings = left.settings;
@@ -90,14 +90,11 @@ loop-statement-preserved g t c =
     let call = c.in_ok-step.ensures in
     let in_it = rw c.deref-statement-items.ensures.value at c.loop-statement-test.true in
     let is = rw c.deref-statement-items.ensures.value at c.statement-item.is in
-    within-more _ _ _ _ _ c.args.program.now _ _ _ _ _ _ _ tt _ _ _ _ _ _ _ _ _ _ c.loop-statement.invariant in_it is (sym c.inner.view_is) call.runs (record { answered = call.solvers; standing = call.standing; kept = record { settings = call.settings; plain = call.plain } })
-
-pub same-inner : goal.same-inner
-same-inner g t c = refl
+    within-more _ _ _ _ _ c.args.program.now _ _ _ _ _ _ _ tt _ _ _ _ _ _ _ _ _ _ c.loop-statement.invariant in_it is refl call.runs (record { answered = call.solvers; standing = call.standing; kept = record { settings = call.settings; plain = call.plain } })
 
 pub loop-element-preserved : goal.loop-element-preserved
 loop-element-preserved g t c =
-    within-end _ _ _ _ _ c.args.program.now _ _ _ _ _ _ _ _ _ _ _ _ _ _ c.loop-statement.invariant (rw c.deref-statement-items.ensures.value at c.loop-statement-test.false) (sym c.inner.view_is)
+    within-end _ _ _ _ _ c.args.program.now _ _ _ _ _ _ _ _ _ _ _ _ _ _ c.loop-statement.invariant (rw c.deref-statement-items.ensures.value at c.loop-statement-test.false) refl
 
 pub returns : goal.returns
 returns g t c =

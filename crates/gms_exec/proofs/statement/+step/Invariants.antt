@@ -20,7 +20,7 @@ invariant-loop-statement g l =
     Within frac_value (2 ^ 127 - 1) (λ b. (dyn.members g.dyn-1 (b.vtable, b.value)).name b.value) (λ b. (dyn.members g.dyn-1 (b.vtable, b.value)).rule b.value) (λ b. (dyn.members g.dyn-1 (b.vtable, b.value)).paths b.value) l.program
     (step_of frac_value (2 ^ 127 - 1) l.program (map (λ b. (dyn.members g.dyn-1 (b.vtable, b.value)).name b.value) l.fn.solvers.items) l.s l.b)
     (sets_of (control_tree l.control)) l.b l.body.items l.element-items l.fn.solvers.items (record { state = l.fn.store; events = l.fn.events.items; answers = l.fn.answers.items })
-    l.element-index (get_or l.element-items l.element-index []) l.statement-index l.inner-inside.pairs.items l.solvers.items (record { state = l.store; events = l.events.items; answers = l.answers.items })
+    l.element-index (get_or l.element-items l.element-index []) l.statement-index l.inner l.solvers.items (record { state = l.store; events = l.events.items; answers = l.answers.items })
 
 abbrev pub decreases-step : goal.decreases-step
 decreases-step g l = goal.size-step g l

@@ -6,4 +6,4 @@ use Rattle.gms_rows.proofs.equations.equations_of.Given as goal
 abbrev pub invariant-loop-statement : goal.invariant-loop-statement
 invariant-loop-statement g l =
     (equations_of l.statement-items l.model ≡ equations_from (declared_in l.model (take l.statement-index l.statement-items)) l.model (drop l.statement-index l.statement-items))
-    × (l.declared.items ≡ each_once (declared_in l.model (take l.statement-index l.statement-items)))
+    × (l.declared ≡ each_once (declared_in l.model (take l.statement-index l.statement-items)))

@@ -4,4 +4,4 @@ use Rattle.gms_rows.proofs.equations.listed.Given as goal
 
 abbrev pub invariant-loop-equation : goal.invariant-loop-equation
 invariant-loop-equation l =
-    l.names.items ≡ each_once ([] ++ map (λ equation. equation.name) (take l.equation-index l.equation-items))
+    l.names ≡ each_once ([] ++ map (λ equation. equation.name) (take l.equation-index l.equation-items))

@@ -4,4 +4,4 @@ use Rattle.gms_rows.proofs.equations.push_names.Given as goal
 
 abbrev pub invariant-loop-item : goal.invariant-loop-item
 invariant-loop-item g l =
-    (before : List ℕ) → l.initial.names.items ≡ each_once before → l.names.items ≡ each_once (before ++ map (λ item. item.named.name) (take l.item-index l.items))
+    (before : List ℕ) → l.initial.names ≡ each_once before → l.names ≡ each_once (before ++ map (λ item. item.named.name) (take l.item-index l.items))

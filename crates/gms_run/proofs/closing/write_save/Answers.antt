@@ -1,4 +1,4 @@
-use Rattle.std.proofs.Common.{◌≡◌, List, Option, Some, None, ℕ, ap, sym, ◌∙◌, option_map}
+use Rattle.std.proofs.Common.{◌≡◌, Some, None, ap, sym, ◌∙◌, option_map}
 use Rattle.gms_host.proofs.Counting.{writing_none}
 use Rattle.gms_words.specs.CommandLine.{asked_by}
 use Rattle.gms_run.specs.Listings.{save_file}

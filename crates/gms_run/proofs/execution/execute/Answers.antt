@@ -1,8 +1,7 @@
 -- The echo, the statements behind it, and what is to be done behind the listing.
-use Rattle.std.proofs.Common.{◌∙◌, ap, length, map, refl, sym}
+use Rattle.std.proofs.Common.{◌∙◌, ap, length, map}
 use Rattle.std.specs.Prelude.{string_bytes}
 use Rattle.std.proofs.lemmas.Result.{err_from_is_err_and}
-use Rattle.gq_frac.specs.Frac.{frac_value}
 use Rattle.gms_host.specs.Meaning.{Outside}
 use Rattle.gms_host.proofs.Counting.{writing_more}
 use Rattle.gms_words.specs.CommandLine.{asked_by}
@@ -21,11 +20,11 @@ to_end-requires-clause-open g c = ap (λ (o : Outside). o.writing) c.in_ok-pass_
 
 pub to_end-requires-clause-settings : goal.to_end-requires-clause-settings
 to_end-requires-clause-settings g c =
-    first_settings (length c.args.solvers.now.items) (script_in c.args.script).saved c.args.program.now c.args.store c.requires.first c.requires.sound
+    first_settings (length c.args.solvers.now.items) (script_in c.args.script).saved c.args.program.now c.args.run.now.store c.requires.first c.requires.sound
 
 pub to_end-requires-clause-plain : goal.to_end-requires-clause-plain
 to_end-requires-clause-plain g c =
-    first_plain (map (λ b. (goal.LpSolver-dyn g (b.vtable, b.value)).name b.value) c.args.solvers.now.items) (length c.args.solvers.now.items) (script_in c.args.script) c.args.program.now c.args.store c.requires.first c.requires.accepted c.requires.sound
+    first_plain (map (λ b. (goal.LpSolver-dyn g (b.vtable, b.value)).name b.value) c.args.solvers.now.items) (length c.args.solvers.now.items) (script_in c.args.script) c.args.program.now c.args.run.now.store c.requires.first c.requires.accepted c.requires.sound
 
 pub to_end-requires-clause-room : goal.to_end-requires-clause-room
 to_end-requires-clause-room g c = room_behind c.pass_echo.new.outlet.spool c.pass_echo.new.outlet.listing c.in_ok-pass_echo.ensures.room c.in_ok-pass_echo.ensures.none
@@ -49,9 +48,9 @@ returns-clause-outside g c =
     let is_job = job_of_script (map (λ b. (goal.LpSolver-dyn g (b.vtable, b.value)).name b.value) c.args.solvers.now.items) (script_in c.args.script) c.args.program.now c.requires.accepted in
     comes_as c.to_end.result _ _
     (λ status ends. prepares_job status (solving (λ b. (goal.LpSolver-dyn g (b.vtable, b.value)).name b.value) (λ b. (goal.LpSolver-dyn g (b.vtable, b.value)).rule b.value) (λ b. (goal.LpSolver-dyn g (b.vtable, b.value)).paths b.value) c.args.solvers.now.items c.to_end.new.solvers.items c.to_end.new.answers.items) (g.H.Host.meaning c.args.host.now).outside (g.H.Host.meaning c.to_end.new.host).outside (scripted (script_in c.args.script)) _ job c.to_end.new.self.store c.to_end.new.self.solved.items is_job
-    (ends_echoed job (g.H.Host.meaning c.args.host.now).outside (g.H.Host.meaning c.pass_echo.new.host).outside c.pass_echo.new.outlet.spool c.pass_echo.new.outlet.listing c.in_ok-pass_echo.ensures.outside c.in_ok-pass_echo.ensures.none status (solving (λ b. (goal.LpSolver-dyn g (b.vtable, b.value)).name b.value) (λ b. (goal.LpSolver-dyn g (b.vtable, b.value)).rule b.value) (λ b. (goal.LpSolver-dyn g (b.vtable, b.value)).paths b.value) c.args.solvers.now.items c.to_end.new.solvers.items c.to_end.new.answers.items) c.args.store c.to_end.new.self.store c.to_end.new.self.solved.items (g.H.Host.meaning c.to_end.new.host).outside _ c.requires.first ends))
+    (ends_echoed job (g.H.Host.meaning c.args.host.now).outside (g.H.Host.meaning c.pass_echo.new.host).outside c.pass_echo.new.outlet.spool c.pass_echo.new.outlet.listing c.in_ok-pass_echo.ensures.outside c.in_ok-pass_echo.ensures.none status (solving (λ b. (goal.LpSolver-dyn g (b.vtable, b.value)).name b.value) (λ b. (goal.LpSolver-dyn g (b.vtable, b.value)).rule b.value) (λ b. (goal.LpSolver-dyn g (b.vtable, b.value)).paths b.value) c.args.solvers.now.items c.to_end.new.solvers.items c.to_end.new.answers.items) c.args.run.now.store c.to_end.new.self.store c.to_end.new.self.solved.items (g.H.Host.meaning c.to_end.new.host).outside _ c.requires.first ends))
     (λ broken. unwritten_job (solving (λ b. (goal.LpSolver-dyn g (b.vtable, b.value)).name b.value) (λ b. (goal.LpSolver-dyn g (b.vtable, b.value)).rule b.value) (λ b. (goal.LpSolver-dyn g (b.vtable, b.value)).paths b.value) c.args.solvers.now.items c.to_end.new.solvers.items c.to_end.new.answers.items) (g.H.Host.meaning c.args.host.now).outside (g.H.Host.meaning c.to_end.new.host).outside (scripted (script_in c.args.script)) job is_job
-    (breaks_echoed job (g.H.Host.meaning c.args.host.now).outside (g.H.Host.meaning c.pass_echo.new.host).outside c.pass_echo.new.outlet.spool c.pass_echo.new.outlet.listing c.in_ok-pass_echo.ensures.outside c.in_ok-pass_echo.ensures.none (solving (λ b. (goal.LpSolver-dyn g (b.vtable, b.value)).name b.value) (λ b. (goal.LpSolver-dyn g (b.vtable, b.value)).rule b.value) (λ b. (goal.LpSolver-dyn g (b.vtable, b.value)).paths b.value) c.args.solvers.now.items c.to_end.new.solvers.items c.to_end.new.answers.items) c.args.store (g.H.Host.meaning c.to_end.new.host).outside c.requires.first broken)) c.to_end.ensures.outside
+    (breaks_echoed job (g.H.Host.meaning c.args.host.now).outside (g.H.Host.meaning c.pass_echo.new.host).outside c.pass_echo.new.outlet.spool c.pass_echo.new.outlet.listing c.in_ok-pass_echo.ensures.outside c.in_ok-pass_echo.ensures.none (solving (λ b. (goal.LpSolver-dyn g (b.vtable, b.value)).name b.value) (λ b. (goal.LpSolver-dyn g (b.vtable, b.value)).rule b.value) (λ b. (goal.LpSolver-dyn g (b.vtable, b.value)).paths b.value) c.args.solvers.now.items c.to_end.new.solvers.items c.to_end.new.answers.items) c.args.run.now.store (g.H.Host.meaning c.to_end.new.host).outside c.requires.first broken)) c.to_end.ensures.outside
 
 pub returns-clause-follows : goal.returns-clause-follows
 returns-clause-follows g c =
@@ -59,7 +58,7 @@ returns-clause-follows g c =
     let is_job = job_of_script (map (λ b. (goal.LpSolver-dyn g (b.vtable, b.value)).name b.value) c.args.solvers.now.items) (script_in c.args.script) c.args.program.now c.requires.accepted in
     told_as c.to_end.result _ _ _ _
     (λ status ends both. follows_job status (solving (λ b. (goal.LpSolver-dyn g (b.vtable, b.value)).name b.value) (λ b. (goal.LpSolver-dyn g (b.vtable, b.value)).rule b.value) (λ b. (goal.LpSolver-dyn g (b.vtable, b.value)).paths b.value) c.args.solvers.now.items c.to_end.new.solvers.items c.to_end.new.answers.items) (asked_by c.args.request) (scripted (script_in c.args.script)) (string_bytes c.to_end.new.sequel.remarks) c.to_end.new.sequel.save.items job c.to_end.new.self.store c.to_end.new.self.solved.items (map (λ b. (goal.LpSolver-dyn g (b.vtable, b.value)).name b.value) c.to_end.new.solvers.items) is_job
-    (ends_echoed job (g.H.Host.meaning c.args.host.now).outside (g.H.Host.meaning c.pass_echo.new.host).outside c.pass_echo.new.outlet.spool c.pass_echo.new.outlet.listing c.in_ok-pass_echo.ensures.outside c.in_ok-pass_echo.ensures.none status (solving (λ b. (goal.LpSolver-dyn g (b.vtable, b.value)).name b.value) (λ b. (goal.LpSolver-dyn g (b.vtable, b.value)).rule b.value) (λ b. (goal.LpSolver-dyn g (b.vtable, b.value)).paths b.value) c.args.solvers.now.items c.to_end.new.solvers.items c.to_end.new.answers.items) c.args.store c.to_end.new.self.store c.to_end.new.self.solved.items (g.H.Host.meaning c.to_end.new.host).outside _ c.requires.first ends).ends both.0 both.1 ends.ends.solved.grown.names) c.to_end.ensures.outside (both_of c.to_end.result _ _ c.to_end.ensures.told c.to_end.ensures.saved)
+    (ends_echoed job (g.H.Host.meaning c.args.host.now).outside (g.H.Host.meaning c.pass_echo.new.host).outside c.pass_echo.new.outlet.spool c.pass_echo.new.outlet.listing c.in_ok-pass_echo.ensures.outside c.in_ok-pass_echo.ensures.none status (solving (λ b. (goal.LpSolver-dyn g (b.vtable, b.value)).name b.value) (λ b. (goal.LpSolver-dyn g (b.vtable, b.value)).rule b.value) (λ b. (goal.LpSolver-dyn g (b.vtable, b.value)).paths b.value) c.args.solvers.now.items c.to_end.new.solvers.items c.to_end.new.answers.items) c.args.run.now.store c.to_end.new.self.store c.to_end.new.self.solved.items (g.H.Host.meaning c.to_end.new.host).outside _ c.requires.first ends).ends both.0 both.1 ends.ends.solved.grown.names) c.to_end.ensures.outside (both_of c.to_end.result _ _ c.to_end.ensures.told c.to_end.ensures.saved)
 
 pub returns-clause-counts : goal.returns-clause-counts
 returns-clause-counts g c = writing_more _ c.in_ok-pass_echo.ensures.counts c.to_end.ensures.counts

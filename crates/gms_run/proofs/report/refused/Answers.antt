@@ -4,14 +4,14 @@ use Rattle.gms_run.specs.Listings.{echo_with}
 use Rattle.gms_run.specs.declared.outlet.Outlet.{Outlet}
 use Rattle.gms_run.proofs.Reports.{echo_there, echo_nowhere, two_behind}
 use Rattle.gms_run.proofs.report.refused.Goals as goal
-use Rattle.gms_run.proofs.report.refused.Goals.{then-ne+in_ok-echo_from, else-ne}
+use Rattle.gms_run.proofs.report.refused.Goals.{then-has_echo+in_ok-echo_from, else-has_echo}
 
 pub returns-clause-text : goal.returns-clause-text
 returns-clause-text c =
     let old = c.args.outlet.now.listing in
-    let echoed : c.if-ne.outlet.listing ≡ old ++ echo_with c.args.fault.error (script_in c.args.script) =
-    elim c.if-ne.branch [
-      | then-ne+in_ok-echo_from w ↦ ap (λ (o : Outlet). o.listing) w.outlet-is ∙ w.in_ok-echo_from.ensures ∙ ap (λ t. old ++ t) (sym (echo_there c.args.fault.error (script_in c.args.script) (sym c.ne.ensures ∙ w.if-ne.true)))
-      | else-ne w ↦ ap (λ (o : Outlet). o.listing) w.outlet-is ∙ sym (append-nil old) ∙ ap (λ t. old ++ t) (sym (echo_nowhere c.args.fault.error (script_in c.args.script) (sym c.ne.ensures ∙ w.if-ne.false)))
+    let echoed : c.if-has_echo.outlet.listing ≡ old ++ echo_with c.args.fault.error (script_in c.args.script) =
+    elim c.if-has_echo.branch [
+      | then-has_echo+in_ok-echo_from w ↦ ap (λ (o : Outlet). o.listing) w.outlet-is ∙ w.in_ok-echo_from.ensures ∙ ap (λ t. old ++ t) (sym (echo_there c.args.fault.error (script_in c.args.script) (sym w.if-has_echo.ensures)))
+      | else-has_echo w ↦ ap (λ (o : Outlet). o.listing) w.outlet-is ∙ sym (append-nil old) ∙ ap (λ t. old ++ t) (sym (echo_nowhere c.args.fault.error (script_in c.args.script) (sym w.if-has_echo.ensures)))
     ] in
     two_behind old _ _ _ _ echoed c.in_ok-source_fault.ensures

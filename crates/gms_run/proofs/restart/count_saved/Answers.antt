@@ -1,5 +1,4 @@
-use Rattle.std.proofs.Common.{◌≤◌, not, length, subst, sym, refl, arith}
-use Rattle.std.specs.Prelude.{filter}
+use Rattle.std.proofs.Common.{not, refl, arith}
 use Rattle.std.proofs.lemmas.List.Filters.{length-filter_both}
 use Rattle.gms_save.specs.JointErrors.{is_saved}
 use Rattle.gms_run.proofs.restart.count_saved.Goals as goal

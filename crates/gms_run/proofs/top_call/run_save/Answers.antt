@@ -13,22 +13,22 @@ pub restored-requires : goal.restored-requires
 restored-requires g c = subst (λ n. n < 2 ^ 32) (ap length (sym c.as_slice.ensures.value)) c.requires.few
 
 pub run_joint-requires-clause-short : goal.run_joint-requires-clause-short
-run_joint-requires-clause-short g c = c.in-Ok.ensures.1.is_save.is_program.short
+run_joint-requires-clause-short g c = c.in-Ok.ensures.answer.1.is_save.is_program.short
 
 pub run_joint-requires-clause-sound : goal.run_joint-requires-clause-sound
 run_joint-requires-clause-sound g c =
     let names : map (λ b. (goal.LpSolver-dyn g (b.vtable, b.value)).name b.value) c.as_slice.result.now ≡ map (λ b. (goal.LpSolver-dyn g (b.vtable, b.value)).name b.value) c.args.solvers.now.items = ap (map (λ b. (goal.LpSolver-dyn g (b.vtable, b.value)).name b.value)) c.as_slice.ensures.value in
-    can_go_on (map (λ b. (goal.LpSolver-dyn g (b.vtable, b.value)).name b.value) c.args.solvers.now.items) (length c.args.solvers.now.items) c.args.save.now c.in-Ok.saved (sym (length-map c.args.solvers.now.items (λ b. (goal.LpSolver-dyn g (b.vtable, b.value)).name b.value))) (subst (λ (ns : List (List ℕ)). IsRestored ns c.args.save.now c.in-Ok.saved) names c.in-Ok.ensures.1)
+    can_go_on (map (λ b. (goal.LpSolver-dyn g (b.vtable, b.value)).name b.value) c.args.solvers.now.items) (length c.args.solvers.now.items) c.args.save.now c.in-Ok.saved (sym (length-map c.args.solvers.now.items (λ b. (goal.LpSolver-dyn g (b.vtable, b.value)).name b.value))) (subst (λ (ns : List (List ℕ)). IsRestored ns c.args.save.now c.in-Ok.saved) names c.in-Ok.ensures.answer.1)
 
 pub returns-in-Ok-clause-ran : goal.returns-in-Ok-clause-ran
 returns-in-Ok-clause-ran g c =
     let names : map (λ b. (goal.LpSolver-dyn g (b.vtable, b.value)).name b.value) c.as_slice.result.now ≡ map (λ b. (goal.LpSolver-dyn g (b.vtable, b.value)).name b.value) c.args.solvers.now.items = ap (map (λ b. (goal.LpSolver-dyn g (b.vtable, b.value)).name b.value)) c.as_slice.ensures.value in
-    of_joint c.run_joint.result (solving (λ b. (goal.LpSolver-dyn g (b.vtable, b.value)).name b.value) (λ b. (goal.LpSolver-dyn g (b.vtable, b.value)).rule b.value) (λ b. (goal.LpSolver-dyn g (b.vtable, b.value)).paths b.value) c.args.solvers.now.items c.run_joint.new.solvers.items c.run_joint.new.answers.items) (g.H.Host.meaning c.args.host.now).outside (g.H.Host.meaning c.run_joint.new.host).outside (asked_by c.args.request) c.args.save.now c.args.file.now c.in-Ok.saved c.in-Ok.ensures.0 (subst (λ (ns : List (List ℕ)). IsRestored ns c.args.save.now c.in-Ok.saved) names c.in-Ok.ensures.1) c.run_joint.ensures.ran
+    of_joint c.run_joint.result (solving (λ b. (goal.LpSolver-dyn g (b.vtable, b.value)).name b.value) (λ b. (goal.LpSolver-dyn g (b.vtable, b.value)).rule b.value) (λ b. (goal.LpSolver-dyn g (b.vtable, b.value)).paths b.value) c.args.solvers.now.items c.run_joint.new.solvers.items c.run_joint.new.answers.items) (g.H.Host.meaning c.args.host.now).outside (g.H.Host.meaning c.run_joint.new.host).outside (asked_by c.args.request) c.args.save.now c.args.file.now c.in-Ok.saved c.in-Ok.ensures.answer.0 (subst (λ (ns : List (List ℕ)). IsRestored ns c.args.save.now c.in-Ok.saved) names c.in-Ok.ensures.answer.1) c.run_joint.ensures.ran
 
 pub returns-in-Err-Fault-clause-ran : goal.returns-in-Err-Fault-clause-ran
 returns-in-Err-Fault-clause-ran g c =
     let names : map (λ b. (goal.LpSolver-dyn g (b.vtable, b.value)).name b.value) c.as_slice.result.now ≡ map (λ b. (goal.LpSolver-dyn g (b.vtable, b.value)).name b.value) c.args.solvers.now.items = ap (map (λ b. (goal.LpSolver-dyn g (b.vtable, b.value)).name b.value)) c.as_slice.ensures.value in
-    of_unrestored c.run_matter.result (solving (λ b. (goal.LpSolver-dyn g (b.vtable, b.value)).name b.value) (λ b. (goal.LpSolver-dyn g (b.vtable, b.value)).rule b.value) (λ b. (goal.LpSolver-dyn g (b.vtable, b.value)).paths b.value) c.args.solvers.now.items c.run_matter.new.solvers.items c.run_matter.new.answers.items) (g.H.Host.meaning c.args.host.now).outside (g.H.Host.meaning c.run_matter.new.host).outside (asked_by c.args.request) c.args.save.now c.args.file.now c.in-Err-Fault.fault (subst (λ (ns : List (List ℕ)). IsUnrestored ns c.args.save.now c.in-Err-Fault.fault) names (rw c.in-Err-Fault.field-0-is at c.in-Err-Fault.ensures)) c.run_matter.ensures.ran
+    of_unrestored c.run_matter.result (solving (λ b. (goal.LpSolver-dyn g (b.vtable, b.value)).name b.value) (λ b. (goal.LpSolver-dyn g (b.vtable, b.value)).rule b.value) (λ b. (goal.LpSolver-dyn g (b.vtable, b.value)).paths b.value) c.args.solvers.now.items c.run_matter.new.solvers.items c.run_matter.new.answers.items) (g.H.Host.meaning c.args.host.now).outside (g.H.Host.meaning c.run_matter.new.host).outside (asked_by c.args.request) c.args.save.now c.args.file.now c.in-Err-Fault.fault (subst (λ (ns : List (List ℕ)). IsUnrestored ns c.args.save.now c.in-Err-Fault.fault) names (record { answer = rw c.in-Err-Fault.field-0-is at c.in-Err-Fault.ensures.answer; back = rw c.in-Err-Fault.field-0-is at c.in-Err-Fault.ensures.back })) c.run_matter.ensures.ran
 
 pub returns-in-Err-Memory-clause-counts : goal.returns-in-Err-Memory-clause-counts
 returns-in-Err-Memory-clause-counts g c = counts_nothing _ _ _

@@ -1,4 +1,4 @@
-use Rattle.std.proofs.Common.{◌+◌, ◌<◌, ◌≤◌, length, length-take, arith, subst, sym}
+use Rattle.std.proofs.Common.{◌+◌, ◌≤◌, length, length-take, arith, subst, sym}
 use Rattle.gms_host.proofs.Counting.{reading_more, reading_none}
 use Rattle.gms_run.proofs.Transfers.{ReadSoFar, read_more, read_end, read_full, read_start, reads_on}
 use Rattle.gms_run.proofs.transfer.read_most.Goals as goal

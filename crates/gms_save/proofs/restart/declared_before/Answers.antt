@@ -23,7 +23,7 @@ loop-statement-preserved c =
     let is : statement ≡ get_or statements i statement = c.statement-item.is ∙ ap (λ (xs : List (Stmt Frac)). get_or xs i statement) c.deref-statement-items.ensures.value in
     let first = blank_state (length joint.names) in
     elim c.if-is_saved.branch [
-      | then-is_saved+in_ok-declare_act w ↦ kept-declares from statements i statement there is first c.loop-statement.saved c.if-is_saved.saved w.if-is_saved.ensures c.loop-statement.invariant (w.saved-is ∙ w.in_ok-declare_act.ensures)
+      | then-is_saved+in_ok-declare_act w ↦ kept-declares from statements i statement there is first c.loop-statement.saved c.if-is_saved.saved w.if-is_saved.ensures c.loop-statement.invariant (w.saved-is ∙ w.in_ok-declare_act.ensures.ok)
       | else-is_saved w ↦ kept-new from statements i statement there is (declared_by_all first) c.loop-statement.saved c.if-is_saved.saved w.if-is_saved.ensures c.loop-statement.invariant w.saved-is
     ]
 

@@ -1,5 +1,6 @@
 use Rattle.std.proofs.Common.{◌≡◌, ◌≤◌, length}
 use Rattle.std.specs.Prelude.{All, string_len}
+use Rattle.gms_lines.specs.LineFaults.{longest_line}
 use Rattle.gms_table.specs.TableEntries.{table_of}
 use Rattle.gms_table.specs.Progress.{lines_of}
 use Rattle.gms_table.proofs.tables.first_line.Given as goal
@@ -8,7 +9,7 @@ use Rattle.gms_table.proofs.tables.first_line.Given as goal
 abbrev pub invariant-loop-line : goal.invariant-loop-line
 invariant-loop-line l = record {
   parts : table_of (lines_of l.lines) ≡ table_of (lines_of l.rest);
-  short : All (λ line. string_len line.text ≤ 32768) l.rest;
+  short : All (λ line. string_len line.text ≤ longest_line) l.rest;
 }
 
 abbrev pub decreases-loop-line : goal.decreases-loop-line

@@ -1,5 +1,5 @@
 use Rattle.std.proofs.Common.{◌≡◌, ◌+◌, ◌-◌, ◌*◌, ◌≤◌, length, take, fold}
-use Rattle.gms_table.specs.Words.{column_after}
+use Rattle.gms_lexemes.specs.Columns.{column_after}
 use Rattle.gms_table.proofs.word.column_behind.Given as goal
 
 -- the column behind the bytes so far, which leaves room for the rest

@@ -1,8 +1,9 @@
-use Rattle.lp_bland.proofs.Answered.{legal_too, optimum_within, over_numbers}
+use Rattle.lp_walk.proofs.Rules.{bland_is_legal}
+use Rattle.lp_bland.proofs.Answered.{optimum_within, over_numbers}
 use Rattle.lp_bland.proofs.laws.answers_too.Goals as goal
 
 pub returns-clause-legal : goal.returns-clause-legal
-returns-clause-legal g c lp iterlim answer is = legal_too g.F.ExactField.value g.F.ExactField.limit lp iterlim answer is
+returns-clause-legal g c lp iterlim answer is = bland_is_legal g.F.ExactField.value g.F.ExactField.limit lp iterlim answer is
 
 pub returns-clause-within : goal.returns-clause-within
 returns-clause-within g c lp iterlim other rule answer levels row_levels duals reduced is few answers =

@@ -7,4 +7,4 @@ pub returns : goal.returns
 returns g c lp iterlim a b formed one two =
     let value = g.F.ExactField.value in
     let limit = g.F.ExactField.limit in
-    one_answer_by value g.met.F.ExactField.same_value limit lp iterlim bland_choice (λ first pivots d q chosen. chosen.0) (λ first pivots d q r. least_once d q r) a b formed (answer_bland value limit lp iterlim a formed one) (answer_bland value limit lp iterlim b formed two)
+    one_answer_by value g.met.F.ExactField.same_value limit lp iterlim bland_choice (λ first pivots d q chosen. chosen.0) (λ first pivots d q r. least_once d q r) a b formed (answer_bland value limit lp iterlim a one) (answer_bland value limit lp iterlim b two)

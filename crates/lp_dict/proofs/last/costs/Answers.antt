@@ -1,7 +1,7 @@
 use Rattle.std.proofs.Common.{◌≡◌, ◌+◌, ◌<◌, ◌≤◌, length, map, sym, ap, subst, subst₂}
 use Rattle.std.specs.Prelude.{Vec}
 use Rattle.std.specs.declared.alloc.Global.{Global}
-use Rattle.lp_core.specs.Answers.{last_of}
+use Rattle.lp_core.specs.Pivots.{last_of}
 use Rattle.lp_whole.specs.Whole.{dictionary as dictionary_of}
 use Rattle.lp_dict.specs.Reading.{AreOfRow}
 use Rattle.lp_dict.proofs.Finals.{costs_of_row, costs_of_objective}

@@ -1,7 +1,7 @@
 use Rattle.std.proofs.Common.{◌+◌, ◌-◌, ◌<◌, Bool, ℕ, List, ◌++◌, not, filter, Vec, Global, ap, ◌∙◌, arith}
 use Rattle.std.specs.Prelude.{is_some}
 use Rattle.std.specs.List.{range_with_len}
-use Rattle.lp_core.specs.Answers.{row_of_basic}
+use Rattle.lp_core.specs.Pivots.{row_of_basic}
 use Rattle.lp_dict.specs.Tableau.{dictionary}
 use Rattle.lp_range.proofs.Loops.{tests_basic, kept_goes, left_goes}
 use Rattle.lp_range.proofs.costs.others_of.Goals.{then-not-is_basic+in_ok-push, else-not-is_basic}

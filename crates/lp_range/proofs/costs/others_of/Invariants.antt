@@ -1,7 +1,7 @@
 use Rattle.std.proofs.Common.{◌≡◌, ◌+◌, ◌-◌, ◌++◌, not, filter}
 use Rattle.std.specs.Prelude.{is_some}
 use Rattle.std.specs.List.{range_with_len}
-use Rattle.lp_core.specs.Answers.{row_of_basic}
+use Rattle.lp_core.specs.Pivots.{row_of_basic}
 use Rattle.lp_dict.specs.Tableau.{dictionary}
 use Rattle.lp_range.specs.Ranges.{others}
 use Rattle.lp_range.proofs.costs.others_of.Given as goal

@@ -1,5 +1,5 @@
 use Rattle.lp_std.proofs.Answered.{are_sized, end_is, end_fits, end_stops, end_proved}
-use Rattle.lp_std.specs.Back.{steps_back}
+use Rattle.lp_core.specs.Steps.{steps_back}
 use Rattle.lp_std.specs.Last.{last_value}
 use Rattle.lp_std.proofs.back.recover.Goals as goal
 

@@ -1,5 +1,5 @@
 use Rattle.std.proofs.Common.{ap, length, subst, None, arith}
-use Rattle.lp_std.specs.Meaning.{FirstCrossed}
+use Rattle.lp_core.specs.Proofs.{FirstCrossed}
 use Rattle.lp_std.proofs.Shapes.{columns_few}
 use Rattle.lp_std.proofs.Formed.{no_form, form_fits}
 use Rattle.lp_std.proofs.form.standard.Goals as goal

@@ -21,7 +21,7 @@ returns-in_err-push_row-clause-err g c =
 pub loop-i-preserved : goal.loop-i-preserved
 loop-i-preserved g c =
     let len = new_length g.F.ExactField.value g.F.ExactField.limit (placed_value g.F.ExactField.value c.args.columns.now) c.args.program.now c.loop-i.i c.index-program-i.result (omega arith) c.index-program-i.is c.loop-i.rows.items c.push_row.new.rows.items c.in_ok-push_row.ensures.rows in
-    let numbers : length c.loop-i.rows.items + 1 + form.count_by_sense c.index-program-i.result.sense ≡ length c.push_row.new.rows.items + 1 = omega (arith, len) in
+    let numbers : length c.loop-i.rows.items + 1 + form.rows_of_sense c.index-program-i.result.sense ≡ length c.push_row.new.rows.items + 1 = omega (arith, len) in
     record {
       counted = omega (arith, len, count_here g.F.ExactField.value g.F.ExactField.limit (placed_value g.F.ExactField.value c.args.columns.now) c.args.program.now c.loop-i.i c.index-program-i.result (omega arith) c.index-program-i.is, c.loop-i.invariant.counted);
       steps = c.loop-i.invariant.steps ∙ rows_go g.F.ExactField.value g.F.ExactField.limit (placed_value g.F.ExactField.value c.args.columns.now) c.args.program.now c.loop-i.i c.index-program-i.result (omega arith) c.index-program-i.is (length c.loop-i.rows.items + 1) c.in_ok-push_row.ensures.steps ∙ ap (λ n. first_stop (rows_steps g.F.ExactField.value g.F.ExactField.limit (placed_value g.F.ExactField.value c.args.columns.now) n (drop (c.loop-i.i + 1) c.args.program.now))) numbers;

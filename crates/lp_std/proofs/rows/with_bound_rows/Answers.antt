@@ -18,7 +18,7 @@ returns-in_err-push_bound_row-clause-err g c =
 pub loop-j-preserved : goal.loop-j-preserved
 loop-j-preserved g c =
     let len = bounds_length g.F.ExactField.value g.F.ExactField.limit c.args.columns.now c.args.bounded.now c.loop-j.j c.index-bounded-j.result c.index-columns-j.result (omega arith) c.index-bounded-j.is (omega (arith, c.requires.sized)) c.index-columns-j.is c.loop-j.all.items c.push_bound_row.new.rows.items c.in_ok-push_bound_row.ensures.1 in
-    let numbers : length c.loop-j.all.items + 1 + form.count_by_bounds c.index-bounded-j.result.lower c.index-bounded-j.result.upper ≡ length c.push_bound_row.new.rows.items + 1 = omega (arith, len) in
+    let numbers : length c.loop-j.all.items + 1 + form.rows_of_bounds c.index-bounded-j.result.lower c.index-bounded-j.result.upper ≡ length c.push_bound_row.new.rows.items + 1 = omega (arith, len) in
     record {
       counted = omega (arith, len, bounds_count g.F.ExactField.value g.F.ExactField.limit c.args.columns.now c.args.bounded.now c.loop-j.j c.index-bounded-j.result c.index-columns-j.result (omega arith) c.index-bounded-j.is (omega (arith, c.requires.sized)) c.index-columns-j.is, c.loop-j.invariant.counted);
       steps = c.loop-j.invariant.steps ∙ bounds_go g.F.ExactField.value g.F.ExactField.limit c.args.columns.now c.args.bounded.now c.loop-j.j c.index-bounded-j.result c.index-columns-j.result (omega arith) c.index-bounded-j.is (omega (arith, c.requires.sized)) c.index-columns-j.is (length c.loop-j.all.items + 1) c.in_ok-push_bound_row.ensures.0 ∙ ap (λ n. first_stop (bounds_steps g.F.ExactField.value g.F.ExactField.limit n (c.loop-j.j + 1) (drop (c.loop-j.j + 1) c.args.bounded.now))) numbers;

@@ -9,7 +9,7 @@ use Rattle.lp_std.proofs.rows.with_bound_rows.Given as goal
 abbrev pub invariant-loop-j : goal.invariant-loop-j
 invariant-loop-j g l =
     record {
-      counted : length l.all.items + sum_by (λ column. form.count_by_bounds column.lower column.upper) (drop l.j l.bounded) ≡ length l.fn.rows.items + sum_by (λ column. form.count_by_bounds column.lower column.upper) l.bounded;
+      counted : length l.all.items + sum_by (λ column. form.rows_of_bounds column.lower column.upper) (drop l.j l.bounded) ≡ length l.fn.rows.items + sum_by (λ column. form.rows_of_bounds column.lower column.upper) l.bounded;
       steps : first_stop (bounds_steps g.F.ExactField.value g.F.ExactField.limit (length l.fn.rows.items + 1) 0 l.bounded) ≡ first_stop (bounds_steps g.F.ExactField.value g.F.ExactField.limit (length l.all.items + 1) l.j (drop l.j l.bounded));
       made : map (row_value g.F.ExactField.value) l.all.items ++ bounds_over g.F.ExactField.value (placed_value g.F.ExactField.value l.columns) l.j (drop l.j l.bounded) ≡ map (row_value g.F.ExactField.value) l.fn.rows.items ++ bounds_over g.F.ExactField.value (placed_value g.F.ExactField.value l.columns) 0 l.bounded;
     }

@@ -1,4 +1,4 @@
-use Rattle.std.proofs.Common.{inr, subst}
+use Rattle.std.proofs.Common.{inr, refl, subst}
 use Rattle.lp_std.specs.Meaning.{HasNoForm}
 use Rattle.lp_walk.proofs.Formless.{crossed_is_formless}
 use Rattle.lp_walk.proofs.answer.formless.Goals as goal
@@ -12,4 +12,4 @@ returns-in-Crossed g c = crossed_is_formless g.F.ExactField.value g.F.ExactField
 pub returns-in-Limit : goal.returns-in-Limit
 returns-in-Limit g c =
     let h = subst (HasNoForm g.F.ExactField.value g.F.ExactField.limit c.args.lp.now) c.in-Limit.is c.requires in
-    λ iterlim rule. inr (h.0, h.1)
+    inr (h.0, (_, refl, h.1))

@@ -2,7 +2,7 @@ use Rattle.std.proofs.Common.{List}
 use Rattle.std.proofs.lemmas.Result.{IfOk-weaker}
 use Rattle.lp_core.specs.declared.answer.Pivot.{Pivot}
 use Rattle.lp_core.specs.Dictionary.{Dictionary}
-use Rattle.lp_core.specs.Choices.{IsTaken}
+use Rattle.lp_core.specs.Pivots.{IsTaken}
 use Rattle.lp_dict.specs.Tableau.{dictionary}
 use Rattle.lp_walk.specs.Walks as walks
 use Rattle.lp_walk.proofs.walk.stepped.Goals as goal

@@ -387,14 +387,14 @@ expression-returns-in_ok-variable-in-Fold-clause-noted g t c =
     let variable : c.in_ok-variable-in-Fold.variable ≡ has_variable (known_of value s) body = c.in_ok-variable-in-Fold.ensures.variable ∙ ap (λ (k : Known _). has_variable k body) known in
     let all : under.controlled ≡ s.controlled ++ sets = ap (λ (u : Checking). u.controlled) ruled ∙ ap (λ (controlled : List ℕ). controlled ++ sets) own in
     let inside = seen c.expression-in-Fold.new.self in
-    let outside : Checking = record inside { controlled = c.truncate.new.self.items } in
+    let outside : Checking = record inside { controlled = c.truncate.new.self } in
     let faults : List (Bool × ErrorKind) = (not standing.numbers, WrongKind) ∷ [] in
     let curved = standing.variables && (not (is_sum c.in-Fold.op) && has_variable (known_of value s) body) in
     let late : List (Bool × ErrorKind) = (curved, Nonlinear) ∷ [] in
     let count : c.len-outer.result ≡ length s.controlled = controlled-counted c.len-outer.result c.require-in-Fold.new.self.controlled s c.len-outer.ensures own in
     noted-fold value s r under inside outside (seen c.fold_step.new.self) at (folding standing c.in-Fold.op body) faults late (control_uses at s.controlled control) (uses (as_inner standing) at (s.controlled ++ sets) body) sets c.len-outer.result refl count c.require-in-Fold.ensures ruled
     (c.in_ok-variable-in-Fold.ensures.noted ∙ ap (λ (st : Standing). noted value under (uses st at under.controlled body)) c.inner.ensures ∙ ap (λ (controlled : List ℕ). noted value under (uses (as_inner standing) at controlled body)) all)
-    (ap (λ (controlled : List ℕ). record inside { controlled = controlled }) c.truncate.ensures.items)
+    (ap (λ (controlled : List ℕ). record inside { controlled = controlled }) c.truncate.ensures)
     (c.fold_step.ensures ∙ ap (λ (b : Bool). faulted outside at ((standing.variables && (not (is_sum c.in-Fold.op) && b), Nonlinear) ∷ [])) variable)
     ∙ ap (λ (e : Expr _). noted value s (uses standing c.args.around s.controlled (fold_over at c.in-Fold.op control (tree_of e)))) c.deref-in-Fold.ensures
     ∙ ap (λ (tree : Tree _). noted value s (uses standing c.args.around s.controlled tree)) (sym (ap tree_of c.in-Fold.is ∙ tree_of-Fold at c.in-Fold.op c.in-Fold.control c.in-Fold.body))

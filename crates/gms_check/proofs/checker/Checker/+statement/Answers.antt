@@ -69,7 +69,7 @@ repetition-returns g t c =
     let parts : List (Stmt g.row.F.Denot) → Uses g.row.F.Denot = λ body. control_uses c.args.at s.controlled control ++ flat_map (λ (statement : Stmt _). statement_uses statement s.facts.state (s.controlled ++ sets_of control)) body in
     under-done value s u _ (parts c.args.body.now) (sets_of control)
     (c.loop-statement.invariant ∙ ap (λ body. with_controlled (noted value s (parts body)) (sets_of control)) (take_all c.loop-statement.statement-index c.args.body.now c.loop-statement-test.false))
-    (ap (with_sets u) (c.truncate.ensures.items ∙ ap (λ n. take n u.controlled) (controlled-counted c.len-outer.result c.args.self.now.controlled s c.len-outer.ensures refl)))
+    (ap (with_sets u) (c.truncate.ensures ∙ ap (λ n. take n u.controlled) (controlled-counted c.len-outer.result c.args.self.now.controlled s c.len-outer.ensures refl)))
 
 pub act-repetition-requires : goal.act-repetition-requires
 act-repetition-requires g t c κs within =

@@ -6,7 +6,7 @@ use Rattle.gms_check.proofs.checker.Checker.control_indices.Goals as goal
 
 pub loop-set-preserved : goal.loop-set-preserved
 loop-set-preserved g c =
-    controlled-more c.deref-set-items.result.now c.loop-set.set-index 0 (seen c.args.self.now) (seen c.loop-set.self) _ c.loop-set-test.true c.loop-set.invariant (ap (λ (names : List ℕ). record (seen c.loop-set.self) { controlled = names }) c.in_ok-push.ensures.items)
+    controlled-more c.deref-set-items.result.now c.loop-set.set-index 0 (seen c.args.self.now) (seen c.loop-set.self) _ c.loop-set-test.true c.loop-set.invariant (ap (λ (names : List ℕ). record (seen c.loop-set.self) { controlled = names }) c.in_ok-push.ensures)
 
 pub returns : goal.returns
 returns g c =

@@ -21,5 +21,5 @@ returns g c =
     (faulted-then at s _ _ ((unknown, UnknownName) ∷ (wrong, WrongKind) ∷ (free, Uncontrolled) ∷ []) ((unordered, NotOrdered) ∷ [])
     (faulted-then at s _ _ ((unknown, UnknownName) ∷ (wrong, WrongKind) ∷ []) ((free, Uncontrolled) ∷ [])
     (faulted-by g.F.ExactField.value s _ at (cardinal c.args.standing c.args.set) ((unknown, UnknownName) ∷ (wrong, WrongKind) ∷ []) (sym (alone at unknown UnknownName ((wrong, WrongKind) ∷ []))) c.cardinal.ensures)
-    (c.require.ensures ∙ ap (λ b. faulted (seen c.cardinal.new.self) at ((not b, Uncontrolled) ∷ [])) (c.is_controlled-controlled.ensures ∙ ap (λ (controlled : List ℕ). is_among controlled c.args.set) c.deref.ensures.value)))
+    (c.require.ensures ∙ ap (λ b. faulted (seen c.cardinal.new.self) at ((not b, Uncontrolled) ∷ [])) c.has-controlled.ensures))
     (c.require-2.ensures ∙ ap (λ b. faulted (seen c.require.new.self) at ((not b, NotOrdered) ∷ [])) c.is_ordered-ordered.ensures))

@@ -12,13 +12,13 @@ pub loop-set-preserved : goal.loop-set-preserved
 loop-set-preserved g c =
     let sets = c.args.sets.now in
     let i = c.loop-set.set-index in
-    let controlled = c.loop-set.self.controlled.items in
+    let controlled = c.loop-set.self.controlled in
     let among = is_among controlled (get_or sets i 0) in
     let twice : c.if-twice.twice ≡ (c.loop-set.twice || among) = elim c.if-twice.branch [
       | then-twice w ↦ or-true _ _ _ w.twice-is w.if-twice.true
-      | else-twice w ↦ or-right _ _ _ (w.twice-is ∙ w.is_controlled-twice.ensures ∙ ap (λ (names : List ℕ). is_among names (get_or sets i 0)) w.deref.ensures.value) w.if-twice.false
+      | else-twice w ↦ or-right _ _ _ (w.twice-is ∙ w.has-twice.ensures) w.if-twice.false
     ] in
     record {
-      controlled = controlled-more sets i 0 (seen c.args.self.now) (seen c.loop-set.self) _ c.loop-set-test.true c.loop-set.invariant.controlled (ap (λ (names : List ℕ). record (seen c.loop-set.self) { controlled = names }) c.in_ok-push.ensures.items);
-      twice = ap (λ b. b || is_controlled_twice c.push.new.self.items (drop (i + 1) sets)) twice ∙ ap (λ (names : List ℕ). (c.loop-set.twice || among) || is_controlled_twice names (drop (i + 1) sets)) c.in_ok-push.ensures.items ∙ or_assoc c.loop-set.twice among (is_controlled_twice (controlled ++ get_or sets i 0 ∷ []) (drop (i + 1) sets)) ∙ ap (λ b. c.loop-set.twice || b) (sym (at_drop_more (is_controlled_twice controlled) sets i 0 c.loop-set-test.true)) ∙ c.loop-set.invariant.twice;
+      controlled = controlled-more sets i 0 (seen c.args.self.now) (seen c.loop-set.self) _ c.loop-set-test.true c.loop-set.invariant.controlled (ap (λ (names : List ℕ). record (seen c.loop-set.self) { controlled = names }) c.in_ok-push.ensures);
+      twice = ap (λ b. b || is_controlled_twice c.push.new.self (drop (i + 1) sets)) twice ∙ ap (λ (names : List ℕ). (c.loop-set.twice || among) || is_controlled_twice names (drop (i + 1) sets)) c.in_ok-push.ensures ∙ or_assoc c.loop-set.twice among (is_controlled_twice (controlled ++ get_or sets i 0 ∷ []) (drop (i + 1) sets)) ∙ ap (λ b. c.loop-set.twice || b) (sym (at_drop_more (is_controlled_twice controlled) sets i 0 c.loop-set-test.true)) ∙ c.loop-set.invariant.twice;
     }

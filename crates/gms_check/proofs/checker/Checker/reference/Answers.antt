@@ -31,7 +31,7 @@ returns-clause-noted g c =
     let misplaced = not c.args.standing.variables && variable in
     let sets : c.in_ok-sets.sets.items ≡ index_sets xs = c.in_ok-sets.ensures in
     let stands : c.admits.result ≡ may = c.admits.ensures ∙ ap (λ kind. may_stand c.args.standing kind c.args.suffix) c.kind-kind.ensures in
-    let unruled : c.has_uncontrolled-uncontrolled.result ≡ free = c.has_uncontrolled-uncontrolled.ensures ∙ ap (λ (controlled : List ℕ). list_any (λ (set : ℕ). not (is_among controlled set)) c.deref-2.result.now) c.deref.ensures.value ∙ ap (list_any (λ (set : ℕ). not (is_among s.controlled set))) (c.deref-2.ensures.value ∙ sets) in
+    let unruled : c.has_uncontrolled-uncontrolled.result ≡ free = c.has_uncontrolled-uncontrolled.ensures ∙ ap (list_any (λ (set : ℕ). not (is_among s.controlled set))) (c.deref.ensures.value ∙ sets) in
     let admitted : c.if-standing.stands ≡ (c.args.standing.variables || not c.is_variable-variable.result) = elim c.if-standing.branch [
       | then-standing w ↦ or-true _ _ _ w.stands-is w.if-standing.true
       | else-standing w ↦ or-right _ _ _ w.stands-is w.if-standing.false

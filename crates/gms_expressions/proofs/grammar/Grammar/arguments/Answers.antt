@@ -12,6 +12,8 @@ use Rattle.gms_expressions.proofs.Nesting.{callable_inside, reads_inside}
 use Rattle.gms_expressions.proofs.Closings.{next_inside, closing_answer, arguments_got, arguments_refuses}
 use Rattle.gms_expressions.proofs.Lists.{arguments_start, arguments_on}
 use Rattle.gms_expressions.proofs.Made.{views_push}
+use Rattle.gms_expressions.proofs.Going.{went_by}
+use Rattle.gms_expressions.proofs.Loops.{loop_memory}
 use Rattle.gms_expressions.proofs.grammar.Grammar.arguments.Goals as goal
 
 pub nested-requires : goal.nested-requires
@@ -27,7 +29,7 @@ pub returns-in_err-first : goal.returns-in_err-first
 returns-in_err-first g c = handed_on _ _ c.from_residual-in_err-first.result _ c.from_residual-in_err-first.ensures.1 (refuses_inside c.in_ok-inner.ensures (refuses_the ExpressionList (refuses_first (reads_inside c.requires c.in_ok-inner.ensures c.in_err-first.ensures))))
 
 pub returns-in_err-push : goal.returns-in_err-push
-returns-in_err-push g c = handed_on _ _ c.from_residual-in_err-push.result _ c.from_residual-in_err-push.ensures.1 (refuses_memory refl)
+returns-in_err-push g c = handed_on _ _ c.from_residual-in_err-push.result _ c.from_residual-in_err-push.ensures.1 (refuses_memory (went_by (reads_inside c.requires c.in_ok-inner.ensures c.in_ok-first.ensures).gives) refl)
 
 pub loop-behind-init : goal.loop-behind-init
 loop-behind-init g c = arguments_start (reads_inside c.requires c.in_ok-inner.ensures c.in_ok-first.ensures) _ (ap (plain_views g.F.ExactField.value) (pushed (c.in_ok-first.first ∷ []) c.new-args.ensures.items c.in_ok-push.was c.push.ensures.items))
@@ -36,7 +38,7 @@ pub returns-in_err-argument : goal.returns-in_err-argument
 returns-in_err-argument g c = handed_on _ _ c.from_residual-in_err-argument.result _ c.from_residual-in_err-argument.ensures.1 (refuses_inside c.in_ok-inner.ensures (arguments_refuses c.loop-behind.invariant (next_inside (c.args.self.now.reader.unclosed + 1) c.in-Some.ensures) (reads_inside c.requires c.in_ok-inner.ensures c.in_err-argument.ensures)))
 
 pub returns-in_err-push-2 : goal.returns-in_err-push-2
-returns-in_err-push-2 g c = handed_on _ _ c.from_residual-in_err-push-2.result _ c.from_residual-in_err-push-2.ensures.1 (refuses_memory refl)
+returns-in_err-push-2 g c = handed_on _ _ c.from_residual-in_err-push-2.result _ c.from_residual-in_err-push-2.ensures.1 (refuses_inside c.in_ok-inner.ensures (loop_memory c.loop-behind.invariant.looping (reads_inside c.requires c.in_ok-inner.ensures c.in_ok-argument.ensures).gives refl))
 
 pub loop-behind-smaller : goal.loop-behind-smaller
 loop-behind-smaller g c = falls c.in-Some.ensures _ (reads_inside c.requires c.in_ok-inner.ensures c.in_ok-argument.ensures).further

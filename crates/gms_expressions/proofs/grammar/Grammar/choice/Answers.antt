@@ -13,10 +13,11 @@ use Rattle.gms_expressions.proofs.Made.{numbers_in_parts, views_push}
 use Rattle.gms_expressions.proofs.Signs.{handed_on}
 use Rattle.gms_expressions.proofs.Steps.{refuses_the, refuses_first, refuses_memory}
 use Rattle.gms_expressions.proofs.Nexts.{unled_next, falls}
-use Rattle.gms_expressions.proofs.Chains.{chain_first, chain_alone, chain_start, chain_on, chain_got, chain_refuses, in_sense}
+use Rattle.gms_expressions.proofs.Chains.{chain_first, chain_alone, chain_start, chain_on, chain_got, chain_refuses, in_sense, chain_memory}
 use Rattle.gms_grammar.specs.Terminals.{is}
 use Rattle.gms_expressions.specs.Readings.{seen_from}
 use Rattle.gms_expressions.proofs.Grows.{some_led, none_led}
+use Rattle.gms_expressions.proofs.Going.{went_by}
 use Rattle.gms_expressions.proofs.grammar.Grammar.choice.Goals as goal
 
 pub returns-in_err-first : goal.returns-in_err-first
@@ -26,7 +27,7 @@ pub returns-then-not-is_next : goal.returns-then-not-is_next
 returns-then-not-is_next g c = chain_alone {others = choices} {make = one_of} (chain_first Expression (chosen false) refl c.in_ok-first.ensures (λ sense b. refl)) (unled_next (is Or) (the Conjunction) (seen_from c.args.self.now.reader c.in_ok-first.next) (none_led c.is_next.ensures c.if-not-is_next.true)) (λ sense. refl)
 
 pub returns-in_err-push : goal.returns-in_err-push
-returns-in_err-push g c = handed_on _ _ c.from_residual-in_err-push.result _ c.from_residual-in_err-push.ensures.1 (refuses_memory refl)
+returns-in_err-push g c = handed_on _ _ c.from_residual-in_err-push.result _ c.from_residual-in_err-push.ensures.1 (refuses_memory (went_by c.in_ok-first.ensures.gives) refl)
 
 pub loop-word-init : goal.loop-word-init
 loop-word-init g c = chain_start (chain_first Expression (chosen false) refl c.in_ok-first.ensures (λ sense b. refl)) (some_led (is Or) (the Conjunction) (seen_from c.args.self.now.reader c.in_ok-first.next) c.is_next.ensures c.if-not-is_next.false) _ (ap (chosen_views g.F.ExactField.value) (pushed ((false, c.in_ok-first.first) ∷ []) c.new-parts.ensures.items c.in_ok-push.was c.push.ensures.items))
@@ -35,7 +36,7 @@ pub returns-in_err-part : goal.returns-in_err-part
 returns-in_err-part g c = handed_on _ _ c.from_residual-in_err-part.result _ c.from_residual-in_err-part.ensures.1 (chain_refuses c.loop-word.invariant c.in-Some.ensures refl c.in_err-part.ensures)
 
 pub returns-in_err-push-2 : goal.returns-in_err-push-2
-returns-in_err-push-2 g c = handed_on _ _ c.from_residual-in_err-push-2.result _ c.from_residual-in_err-push-2.ensures.1 (refuses_memory refl)
+returns-in_err-push-2 g c = handed_on _ _ c.from_residual-in_err-push-2.result _ c.from_residual-in_err-push-2.ensures.1 (chain_memory c.loop-word.invariant c.in_ok-part.ensures.gives refl)
 
 pub loop-word-smaller : goal.loop-word-smaller
 loop-word-smaller g c = falls c.in-Some.ensures _ c.in_ok-part.ensures.further

@@ -9,6 +9,7 @@ use Rattle.gms_expressions.proofs.Steps.{refuses_the, refuses_first, refuses_sec
 use Rattle.gms_expressions.proofs.Sums.{leads_condition}
 use Rattle.gms_expressions.proofs.Grows.{none_led}
 use Rattle.gms_expressions.proofs.Alternatives.{control_alone, control_got, over_alone, over_with}
+use Rattle.gms_expressions.proofs.Going.{went_then, went_by}
 use Rattle.gms_expressions.proofs.grammar.Grammar.control.Goals as goal
 
 pub nested-requires : goal.nested-requires
@@ -26,7 +27,7 @@ returns-in_err-condition g c = handed_on _ _ c.from_residual-in_err-condition.re
     (c.requires.reads c.args.self.now.reader.unclosed _ _ _ _ _ _ (omega arith) c.requires.ready.few c.in_err-condition.ensures))))
 
 pub returns-in_err-new : goal.returns-in_err-new
-returns-in_err-new g c = handed_on _ _ c.from_residual-in_err-new.result _ c.from_residual-in_err-new.ensures.1 (refuses_memory refl)
+returns-in_err-new g c = handed_on _ _ c.from_residual-in_err-new.result _ c.from_residual-in_err-new.ensures.1 (refuses_memory (went_then (c.in_ok-sets.ensures g.F.ExactField.limit).gives (went_by (c.requires.reads c.args.self.now.reader.unclosed _ _ _ _ _ _ (omega arith) c.requires.ready.few c.in_ok-condition.ensures).gives)) refl)
 
 pub returns : goal.returns
 returns g c = control_got g.F.ExactField.value _ (c.in_ok-sets.ensures g.F.ExactField.limit) (sym c.is_next.ensures ∙ c.if-not-is_next.false)

@@ -10,6 +10,7 @@ use Rattle.gms_expressions.proofs.Nexts.{gives_next, refuses_lacking, refuses_un
 use Rattle.gms_expressions.proofs.Nesting.{callable_inside, reads_inside, here_inside}
 use Rattle.gms_expressions.proofs.Closings.{next_inside}
 use Rattle.gms_expressions.proofs.Operands.{fold_got, at_inside, refused_inside}
+use Rattle.gms_expressions.proofs.Going.{went_then, went_by}
 use Rattle.gms_expressions.proofs.grammar.Grammar.fold.Goals as goal
 
 pub control-requires : goal.control-requires
@@ -42,7 +43,7 @@ returns-in_err-body-2 g c = handed_on _ _ c.from_residual-in_err-body-2.result _
     (refuses_the Fold (refuses_second (gives_next _ c.in_ok-word.ensures refl) (refuses_unclosed c.in_ok-inner.ensures (gives_both (at_inside (λ r. IsControl g.F.ExactField.value r.source.now) c.in_ok-inner.ensures c.in_ok-control.ensures).gives (gives_both (gives_next _ (next_inside (c.args.self.now.reader.unclosed + 1) c.in_ok-control-2.ensures.next) refl) (reads_inside c.requires c.in_ok-inner.ensures c.in_ok-body.ensures).gives)) c.in_err-body-2.ensures)))
 
 pub returns-in_err-fold : goal.returns-in_err-fold
-returns-in_err-fold g c = handed_on _ _ c.from_residual-in_err-fold.result _ c.from_residual-in_err-fold.ensures.1 (refuses_memory c.in_err-fold.ensures)
+returns-in_err-fold g c = handed_on _ _ c.from_residual-in_err-fold.result _ c.from_residual-in_err-fold.ensures.1 (refuses_memory (went_then (at_inside (λ r. IsControl g.F.ExactField.value r.source.now) c.in_ok-inner.ensures c.in_ok-control.ensures).gives (went_by (reads_inside c.requires c.in_ok-inner.ensures c.in_ok-body.ensures).gives)) c.in_err-fold.ensures)
 
 pub returns : goal.returns
 returns g c = fold_got c.fold_op_of-op.result c.in_ok-word.ensures c.in_ok-inner.ensures (at_inside (λ r. IsControl g.F.ExactField.value r.source.now) c.in_ok-inner.ensures c.in_ok-control.ensures) c.in_ok-control-2.ensures (reads_inside c.requires c.in_ok-inner.ensures c.in_ok-body.ensures) c.in_ok-body-2.ensures (c.fold_op_of-op.ensures ∙ ap fold_op_of c.text.ensures) c.in_ok-fold.ensures

@@ -1,9 +1,8 @@
 use Rattle.std.proofs.Common.{sym, ◌∙◌}
 use Rattle.gms_grammar.specs.GamsGrammar.{Index}
 use Rattle.gms_expressions.proofs.Signs.{handed_on}
-use Rattle.gms_expressions.proofs.Steps.{refuses_the, refuses_left}
+use Rattle.gms_expressions.proofs.Steps.{refuses_the, refuses_left, refuses_or}
 use Rattle.gms_expressions.proofs.Grows.{none_led}
-use Rattle.gms_expressions.proofs.Eithers.{refuses_or}
 use Rattle.gms_expressions.proofs.Indexing.{label_got, set_got, lagged_got, lag_refuses}
 use Rattle.gms_expressions.proofs.grammar.Grammar.index.Goals as goal
 

@@ -12,7 +12,8 @@ use Rattle.gms_expressions.proofs.Nesting.{deeper_inside}
 use Rattle.gms_expressions.proofs.Closings.{next_inside, closing_answer}
 use Rattle.gms_expressions.proofs.Operands.{at_inside, refused_inside}
 use Rattle.gms_expressions.proofs.Grows.{none_led, some_led}
-use Rattle.gms_expressions.proofs.Indexing.{no_indices, indices_start, indices_on, indices_got, indices_refuses, some_answer}
+use Rattle.gms_expressions.proofs.Indexing.{no_indices, indices_start, indices_on, indices_got, indices_refuses, some_answer, indices_memory}
+use Rattle.gms_expressions.proofs.Going.{went_by}
 use Rattle.gms_expressions.proofs.grammar.Grammar.indices.Goals as goal
 
 pub index-requires : goal.index-requires
@@ -32,7 +33,7 @@ returns-in_err-first g c = handed_on _ _ c.from_residual-in_err-first.result _ c
     (refuses_inside c.in_ok-inner.ensures (refuses_the IndexList (refuses_first (refused_inside c.in_ok-inner.ensures c.in_ok-inner.start c.in_err-first.ensures)))))
 
 pub returns-in_err-push : goal.returns-in_err-push
-returns-in_err-push g c = handed_on _ _ c.from_residual-in_err-push.result _ c.from_residual-in_err-push.ensures.1 (refuses_memory refl)
+returns-in_err-push g c = handed_on _ _ c.from_residual-in_err-push.result _ c.from_residual-in_err-push.ensures.1 (refuses_memory (went_by c.in_ok-first.ensures.gives) refl)
 
 pub loop-behind-init : goal.loop-behind-init
 loop-behind-init g c = indices_start (at_inside (λ r. IsIndex g.F.ExactField.value r.source.now) c.in_ok-inner.ensures c.in_ok-first.ensures) _ (pushed (c.in_ok-first.first ∷ []) c.new-indices.ensures.items c.in_ok-push.was c.push.ensures.items)
@@ -46,7 +47,9 @@ returns-in_err-index g c = handed_on _ _ c.from_residual-in_err-index.result _ c
     (refuses_inside c.in_ok-inner.ensures (indices_refuses c.loop-behind.invariant (next_inside (c.args.self.now.reader.unclosed + 1) c.in-Some.ensures) (refused_inside c.in_ok-inner.ensures _ c.in_err-index.ensures))))
 
 pub returns-in_err-push-2 : goal.returns-in_err-push-2
-returns-in_err-push-2 g c = handed_on _ _ c.from_residual-in_err-push-2.result _ c.from_residual-in_err-push-2.ensures.1 (refuses_memory refl)
+returns-in_err-push-2 g c = handed_on _ _ c.from_residual-in_err-push-2.result _ c.from_residual-in_err-push-2.ensures.1
+    (refuses_some (some_led (is LeftParen) (the IndexList · token RightParen) (seen_from c.args.self.now.reader c.args.at) c.is_next.ensures c.if-not-is_next.false)
+    (refuses_inside c.in_ok-inner.ensures (indices_memory c.loop-behind.invariant (next_inside (c.args.self.now.reader.unclosed + 1) c.in-Some.ensures) (at_inside (λ r. IsIndex g.F.ExactField.value r.source.now) c.in_ok-inner.ensures c.in_ok-index.ensures) refl)))
 
 pub loop-behind-smaller : goal.loop-behind-smaller
 loop-behind-smaller g c = falls c.in-Some.ensures _ c.in_ok-index.ensures.further

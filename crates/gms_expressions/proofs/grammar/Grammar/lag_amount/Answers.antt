@@ -9,6 +9,7 @@ use Rattle.gms_expressions.proofs.Parts.{in_node, in_right}
 use Rattle.gms_expressions.proofs.Signs.{answered, got_the, got_left, got_right}
 use Rattle.gms_expressions.proofs.Steps.{refuses_at, refuses_the, refuses_left, refuses_right}
 use Rattle.gms_expressions.proofs.Leading.{leads_of, named_leads, IsNone, leads_of_none}
+use Rattle.gms_expressions.proofs.Going.{went_same}
 use Rattle.gms_expressions.proofs.grammar.Grammar.lag_amount.Goals as goal
 
 pub returns-in-Number : goal.returns-in-Number
@@ -42,4 +43,4 @@ returns-in_default g c =
     let none : IsNone (Number ∷ Name ∷ Suffix ∷ LeftParen ∷ []) c.next.result = (c.in_default.not-Number, (c.in_default.not-Name, (c.in_default.not-Suffix, (c.in_default.not-LeftParen, tt)))) in
     let first = leads_of_none (token Number) (seen_from c.args.self.now.reader c.args.at) (Number ∷ Name ∷ Suffix ∷ LeftParen ∷ []) refl refl c.next.ensures none in
     let others = leads_of_none (name ∣ bracketed (the Expression)) (seen_from c.args.self.now.reader c.args.at) (Number ∷ Name ∷ Suffix ∷ LeftParen ∷ []) refl refl c.next.ensures none in
-    refuses_the LagAmount (refuses_at (in_neither first others) c.unexpected.ensures)
+    refuses_the LagAmount (refuses_at (went_same c.args.tables.now) (in_neither first others) c.unexpected.ensures)

@@ -4,13 +4,14 @@ use Rattle.gms_expressions.specs.ExpressionTrees.{negation}
 use Rattle.gms_expressions.proofs.Parts.{in_node}
 use Rattle.gms_expressions.proofs.Signs.{handed_on, negated_got, negated_refuses, got_the}
 use Rattle.gms_expressions.proofs.Steps.{refuses_the, refuses_memory}
+use Rattle.gms_expressions.proofs.Going.{went_by}
 use Rattle.gms_expressions.proofs.grammar.Grammar.negation.Goals as goal
 
 pub returns-in_err-operand : goal.returns-in_err-operand
 returns-in_err-operand g c = handed_on _ _ c.from_residual.result _ c.from_residual.ensures.1 (refuses_the Negation (negated_refuses _ c.not-is_negated.ensures c.in_err-operand.ensures))
 
 pub returns-in_err-negated : goal.returns-in_err-negated
-returns-in_err-negated g c = handed_on _ _ c.from_residual-in_err-negated.result _ c.from_residual-in_err-negated.ensures.1 (refuses_memory c.in_err-negated.ensures)
+returns-in_err-negated g c = handed_on _ _ c.from_residual-in_err-negated.result _ c.from_residual-in_err-negated.ensures.1 (refuses_memory (went_by c.in_ok-operand.ensures.gives) c.in_err-negated.ensures)
 
 pub returns : goal.returns
 returns g c = got_the Negation (negated_got {whole = in_node negation} c.not-is_negated.ensures c.in_ok-operand.ensures c.in_ok-negated.ensures (λ sense. refl)) (λ sense. refl)

@@ -9,6 +9,7 @@ use Rattle.gms_expressions.proofs.Parts.{in_node, in_right}
 use Rattle.gms_expressions.proofs.Signs.{answered, got_the, got_left, got_right}
 use Rattle.gms_expressions.proofs.Steps.{refuses_at, refuses_the, refuses_left, refuses_right}
 use Rattle.gms_expressions.proofs.Leading.{leads_of, constant_leads, named_leads, IsNone, leads_of_none}
+use Rattle.gms_expressions.proofs.Going.{went_same}
 use Rattle.gms_expressions.proofs.grammar.Grammar.primary.Goals as goal
 
 pub returns-in-Number : goal.returns-in-Number
@@ -84,4 +85,4 @@ returns-in_default g c =
     let none : IsNone (Number ∷ Infinity ∷ NotAvailable ∷ YesNo ∷ Name ∷ Suffix ∷ Function ∷ OrdCard ∷ FoldOp ∷ LeftParen ∷ []) c.next.result = (c.in_default.not-Number, (c.in_default.not-Infinity, (c.in_default.not-NotAvailable, (c.in_default.not-YesNo, (c.in_default.not-Name, (c.in_default.not-Suffix, (c.in_default.not-Function, (c.in_default.not-OrdCard, (c.in_default.not-FoldOp, (c.in_default.not-LeftParen, tt)))))))))) in
     let first = leads_of_none (any_of (Number ∷ Infinity ∷ NotAvailable ∷ YesNo ∷ [])) (seen_from c.args.self.now.reader c.args.at) (Number ∷ Infinity ∷ NotAvailable ∷ YesNo ∷ Name ∷ Suffix ∷ Function ∷ OrdCard ∷ FoldOp ∷ LeftParen ∷ []) refl refl c.next.ensures none in
     let others = leads_of_none (the Target ∣ the Call ∣ the Fold ∣ bracketed (the Expression)) (seen_from c.args.self.now.reader c.args.at) (Number ∷ Infinity ∷ NotAvailable ∷ YesNo ∷ Name ∷ Suffix ∷ Function ∷ OrdCard ∷ FoldOp ∷ LeftParen ∷ []) refl refl c.next.ensures none in
-    refuses_the Primary (refuses_at (in_neither first others) c.unexpected.ensures)
+    refuses_the Primary (refuses_at (went_same c.args.tables.now) (in_neither first others) c.unexpected.ensures)

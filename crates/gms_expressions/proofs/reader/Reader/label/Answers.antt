@@ -25,4 +25,4 @@ returns-in-Ok-enter c limit =
 
 pub returns-in-Err : goal.returns-in-Err
 returns-in-Err c limit =
-    label_not_entered c.args.tables.now c.in_ok-token.ensures c.in-Ok.text.now (c.in-Ok.ensures.cases.0 ∙ (c.unquoted.ensures ∙ ap unquoted c.text.ensures)) c.in-Err.fault c.not_entered.result (λ is. c.in-Err.ensures.full.0 (ap (λ (x : LabelFault). Err x) is)) c.not_entered.ensures
+    label_not_entered c.args.tables.now c.in_ok-token.ensures c.in-Ok.text.now (c.in-Ok.ensures.cases.0 ∙ (c.unquoted.ensures ∙ ap unquoted c.text.ensures)) c.in-Err.fault c.not_entered.result (λ is. c.in-Err.ensures.full.0 (ap (λ (x : LabelFault). Err x) is)) c.not_entered.ensures (record { names = c.args.tables.now.names; labels = c.enter.new.self }) refl c.in-Err.ensures.err

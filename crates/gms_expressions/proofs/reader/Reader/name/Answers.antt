@@ -24,4 +24,4 @@ returns-in-Ok-enter c limit =
 
 pub returns-in-Err : goal.returns-in-Err
 returns-in-Err c limit =
-    name_not_entered c.args.tables.now c.in_ok-token.ensures c.in-Ok.text.now (c.in-Ok.ensures.cases.0 ∙ c.text.ensures) c.in-Err.fault c.not_entered.result (λ is. c.in-Err.ensures.full.0 (ap (λ (x : LabelFault). Err x) is)) c.not_entered.ensures
+    name_not_entered c.args.tables.now c.in_ok-token.ensures c.in-Ok.text.now (c.in-Ok.ensures.cases.0 ∙ c.text.ensures) c.in-Err.fault c.not_entered.result (λ is. c.in-Err.ensures.full.0 (ap (λ (x : LabelFault). Err x) is)) c.not_entered.ensures (record { names = c.enter.new.self; labels = c.args.tables.now.labels }) c.in-Err.ensures.err refl

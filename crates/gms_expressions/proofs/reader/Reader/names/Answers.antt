@@ -5,13 +5,15 @@ use Rattle.gms_expressions.proofs.Signs.{handed_on}
 use Rattle.gms_expressions.proofs.Steps.{refuses_the, refuses_first, refuses_memory}
 use Rattle.gms_expressions.proofs.Nexts.{falls}
 use Rattle.gms_expressions.proofs.Lists.{names_start, names_on, names_got, names_refuses}
+use Rattle.gms_expressions.proofs.Going.{went_by}
+use Rattle.gms_expressions.proofs.Loops.{loop_memory}
 use Rattle.gms_expressions.proofs.reader.Reader.names.Goals as goal
 
 pub returns-in_err-first : goal.returns-in_err-first
 returns-in_err-first c limit = handed_on _ _ c.from_residual.result _ c.from_residual.ensures.1 (refuses_the NameList (refuses_first (c.in_err-first.ensures limit)))
 
 pub returns-in_err-push : goal.returns-in_err-push
-returns-in_err-push c limit = handed_on _ _ c.from_residual-in_err-push.result _ c.from_residual-in_err-push.ensures.1 (refuses_memory refl)
+returns-in_err-push c limit = handed_on _ _ c.from_residual-in_err-push.result _ c.from_residual-in_err-push.ensures.1 (refuses_memory (went_by (c.in_ok-first.ensures limit).gives) refl)
 
 pub loop-behind-init : goal.loop-behind-init
 loop-behind-init c limit = names_start (c.in_ok-first.ensures limit) _ (pushed (c.in_ok-first.first ∷ []) c.new-names.ensures.items c.in_ok-push.was c.push.ensures.items)
@@ -20,7 +22,7 @@ pub returns-in_err-name : goal.returns-in_err-name
 returns-in_err-name c limit = handed_on _ _ c.from_residual-in_err-name.result _ c.from_residual-in_err-name.ensures.1 (names_refuses (c.loop-behind.invariant limit) c.in-Some.ensures (c.in_err-name.ensures limit))
 
 pub returns-in_err-push-2 : goal.returns-in_err-push-2
-returns-in_err-push-2 c limit = handed_on _ _ c.from_residual-in_err-push-2.result _ c.from_residual-in_err-push-2.ensures.1 (refuses_memory refl)
+returns-in_err-push-2 c limit = handed_on _ _ c.from_residual-in_err-push-2.result _ c.from_residual-in_err-push-2.ensures.1 (loop_memory (c.loop-behind.invariant limit).looping (c.in_ok-name.ensures limit).gives refl)
 
 pub loop-behind-smaller : goal.loop-behind-smaller
 loop-behind-smaller c = falls c.in-Some.ensures _ ((c.in_ok-name.ensures 0).further)

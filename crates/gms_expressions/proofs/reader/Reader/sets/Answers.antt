@@ -1,4 +1,4 @@
-use Rattle.std.proofs.Common.{[], ◌∷◌, sym, ◌∙◌}
+use Rattle.std.proofs.Common.{[], ◌∷◌, refl, sym, ◌∙◌}
 use Rattle.std.proofs.lemmas.Slice.{pushed}
 use Rattle.gms_grammar.specs.Grammar.{the, ◌·◌, right}
 use Rattle.gms_grammar.specs.Terminals.{is}
@@ -6,13 +6,13 @@ use Rattle.gms_grammar.specs.declared.terminal.Terminal.TheVariants.{LeftParen, 
 use Rattle.gms_grammar.specs.GamsGrammar.{NameList, token, name, bracketed}
 use Rattle.gms_expressions.specs.Readings.{AreNames, AreSets, seen_from}
 use Rattle.gms_expressions.proofs.Signs.{handed_on}
-use Rattle.gms_expressions.proofs.Steps.{refuses_right}
+use Rattle.gms_expressions.proofs.Steps.{refuses_right, refuses_either, refuses_memory}
 use Rattle.gms_expressions.proofs.Nexts.{refuses_unopened, refuses_inside, unled_next}
 use Rattle.gms_expressions.proofs.Grows.{none_led, some_led}
-use Rattle.gms_expressions.proofs.Eithers.{refuses_either}
 use Rattle.gms_expressions.proofs.Closings.{closing_answer}
 use Rattle.gms_expressions.proofs.Operands.{at_inside, refused_inside, sets_one}
 use Rattle.gms_expressions.proofs.Alternatives.{no_name, right_answer}
+use Rattle.gms_expressions.proofs.Going.{went_by}
 use Rattle.gms_expressions.proofs.reader.Reader.sets.Goals as goal
 
 pub returns-in_err-set : goal.returns-in_err-set
@@ -22,6 +22,9 @@ returns-in_err-set c limit = handed_on _ _ c.from_residual.result _ c.from_resid
 pub returns-in_err-sets : goal.returns-in_err-sets
 returns-in_err-sets c limit = handed_on _ _ c.from_residual-in_err-sets.result _ c.from_residual-in_err-sets.ensures.1
     (refuses_right (no_name (seen_from c.args.self.now c.args.at) (sym c.is_next.ensures ∙ c.if-not-is_next.false)) (some_led (is LeftParen) (the NameList · token RightParen) (seen_from c.args.self.now c.args.at) c.is_next.ensures c.if-not-is_next.false) (refuses_inside c.in_ok-inner.ensures (refused_inside c.in_ok-inner.ensures c.in_ok-inner.start (c.in_err-sets.ensures limit))))
+
+pub returns-in_err-push : goal.returns-in_err-push
+returns-in_err-push c limit = handed_on _ _ c.from_residual-in_err-push.result _ c.from_residual-in_err-push.ensures.1 (refuses_memory (went_by (c.in_ok-set.ensures limit).gives) refl)
 
 pub returns-then-not-is_next : goal.returns-then-not-is_next
 returns-then-not-is_next c limit = sets_one _ (c.in_ok-set.ensures limit) (pushed (c.in_ok-set.set ∷ []) c.new-sets.ensures.items c.in_ok-push.was c.push.ensures.items)

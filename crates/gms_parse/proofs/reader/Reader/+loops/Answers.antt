@@ -13,31 +13,31 @@ use Rattle.gms_parse.proofs.Looped.{loop_inside, loop_has, control_starts, loop_
 use Rattle.gms_parse.proofs.reader.Reader.+loops.Goals as goal
 
 pub act-returns-in-Display-clause-read : goal.act-returns-in-Display-clause-read
-act-returns-in-Display-clause-read g t c walk h = through _ _ c.args.self.now c.args.at c.display.new.tables walk c.display.result (way_within {kind = Display} (in_first refl at_once) (sym c.next.ensures ∙ c.in-Display.is) refl) (c.display.ensures walk h) (λ sense tree x m. m)
+act-returns-in-Display-clause-read g t c walk h = through _ _ c.args.self.now c.args.at c.display.new.tables walk c.display.result (way_within {kind = Display} (in_first refl at_once) (sym c.next.ensures ∙ c.in-Display.is) refl) (c.display.ensures walk h) (λ v l. l) (λ sense tree x m. m)
 
 pub act-returns-in-Display-clause-other : goal.act-returns-in-Display-clause-other
 act-returns-in-Display-clause-other g t c unled = absurd (unled_other Display (seen_from c.args.self.now c.args.at) (sym c.next.ensures ∙ c.in-Display.is) refl refl unled)
 
 pub act-returns-in-Option-clause-read : goal.act-returns-in-Option-clause-read
-act-returns-in-Option-clause-read g t c walk h = through _ _ c.args.self.now c.args.at c.args.tables.now walk c.options.result (way_within {kind = Option} (in_other refl refl (in_first refl at_once)) (sym c.next.ensures ∙ c.in-Option.is) refl) (c.options.ensures c.args.tables.now walk h) (λ sense tree x m. m)
+act-returns-in-Option-clause-read g t c walk h = through _ _ c.args.self.now c.args.at c.args.tables.now walk c.options.result (way_within {kind = Option} (in_other refl refl (in_first refl at_once)) (sym c.next.ensures ∙ c.in-Option.is) refl) (c.options.ensures c.args.tables.now walk h) (λ v l. l) (λ sense tree x m. m)
 
 pub act-returns-in-Option-clause-other : goal.act-returns-in-Option-clause-other
 act-returns-in-Option-clause-other g t c unled = absurd (unled_other Option (seen_from c.args.self.now c.args.at) (sym c.next.ensures ∙ c.in-Option.is) refl refl unled)
 
 pub act-returns-in-Solve-clause-read : goal.act-returns-in-Solve-clause-read
-act-returns-in-Solve-clause-read g t c walk h = through _ _ c.args.self.now c.args.at c.solve.new.tables walk c.solve.result (way_within {kind = Solve} (in_other refl refl (in_other refl refl (in_first refl at_once))) (sym c.next.ensures ∙ c.in-Solve.is) refl) (c.solve.ensures walk h) (λ sense tree x m. m)
+act-returns-in-Solve-clause-read g t c walk h = through _ _ c.args.self.now c.args.at c.solve.new.tables walk c.solve.result (way_within {kind = Solve} (in_other refl refl (in_other refl refl (in_first refl at_once))) (sym c.next.ensures ∙ c.in-Solve.is) refl) (c.solve.ensures walk h) (λ v l. l) (λ sense tree x m. m)
 
 pub act-returns-in-Solve-clause-other : goal.act-returns-in-Solve-clause-other
 act-returns-in-Solve-clause-other g t c unled = absurd (unled_other Solve (seen_from c.args.self.now c.args.at) (sym c.next.ensures ∙ c.in-Solve.is) refl refl unled)
 
 pub act-returns-in-Abort-clause-read : goal.act-returns-in-Abort-clause-read
-act-returns-in-Abort-clause-read g t c walk h = through _ _ c.args.self.now c.args.at c.abort.new.tables walk c.abort.result (way_within {kind = Abort} (in_other refl refl (in_other refl refl (in_other refl refl (in_first refl at_once)))) (sym c.next.ensures ∙ c.in-Abort.is) refl) (c.abort.ensures walk h) (λ sense tree x m. m)
+act-returns-in-Abort-clause-read g t c walk h = through _ _ c.args.self.now c.args.at c.abort.new.tables walk c.abort.result (way_within {kind = Abort} (in_other refl refl (in_other refl refl (in_other refl refl (in_first refl at_once)))) (sym c.next.ensures ∙ c.in-Abort.is) refl) (c.abort.ensures walk h) (λ v l. l) (λ sense tree x m. m)
 
 pub act-returns-in-Abort-clause-other : goal.act-returns-in-Abort-clause-other
 act-returns-in-Abort-clause-other g t c unled = absurd (unled_other Abort (seen_from c.args.self.now c.args.at) (sym c.next.ensures ∙ c.in-Abort.is) refl refl unled)
 
 pub act-returns-in-Loop-clause-read : goal.act-returns-in-Loop-clause-read
-act-returns-in-Loop-clause-read g t c walk h = through _ _ c.args.self.now c.args.at c.loop_statement.new.tables walk c.loop_statement.result (way_within {kind = Loop} (in_other refl refl (in_other refl refl (in_other refl refl (in_other refl refl at_once)))) (sym c.next.ensures ∙ c.in-Loop.is) refl) (c.loop_statement.ensures walk h) (λ sense tree x m. m)
+act-returns-in-Loop-clause-read g t c walk h = through _ _ c.args.self.now c.args.at c.loop_statement.new.tables walk c.loop_statement.result (way_within {kind = Loop} (in_other refl refl (in_other refl refl (in_other refl refl (in_other refl refl at_once)))) (sym c.next.ensures ∙ c.in-Loop.is) refl) (c.loop_statement.ensures walk h) (λ v l. l) (λ sense tree x m. m)
 
 pub act-returns-in-Loop-clause-other : goal.act-returns-in-Loop-clause-other
 act-returns-in-Loop-clause-other g t c unled = absurd (unled_other Loop (seen_from c.args.self.now c.args.at) (sym c.next.ensures ∙ c.in-Loop.is) refl refl unled)

@@ -2,7 +2,7 @@ use Rattle.std.proofs.Common.{ℕ, List, subst}
 use Rattle.gq_number.specs.Number.{Number}
 use Rattle.gq_text.specs.Literal.{FitsLiteral}
 use Rattle.gq_text.specs.Decimal.{MeansNumber}
-use Rattle.gms_parse.proofs.Entering.{none_fits}
+use Rattle.gms_expressions.proofs.Singles.{none_fits}
 use Rattle.gms_parse.proofs.reader.Reader.number.Goals as goal
 
 pub returns-in-Err : goal.returns-in-Err

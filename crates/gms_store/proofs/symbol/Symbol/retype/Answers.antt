@@ -3,10 +3,6 @@ use Rattle.gms_store.specs.State.{IsKept}
 use Rattle.gms_store.proofs.Views.{kept-content_of}
 use Rattle.gms_store.proofs.symbol.Symbol.retype.Goals as goal
 
-pub invariant_of-self-in-Variable-3 : goal.invariant_of-self-in-Variable-3
-invariant_of-self-in-Variable-3 g c =
-    subst (IsKept (length c.self.inside.domain)) (sym c.declared-later.ensures) (kept-content_of (length c.self.inside.domain) c.args.kind)
-
-pub invariant_of-self-in-Variable-5 : goal.invariant_of-self-in-Variable-5
-invariant_of-self-in-Variable-5 g c =
+pub invariant_of-self : goal.invariant_of-self
+invariant_of-self g c =
     subst (IsKept (length c.self.inside.domain)) (sym c.declared-later.ensures) (kept-content_of (length c.self.inside.domain) c.args.kind)

@@ -1,12 +1,8 @@
 use Rattle.std.proofs.Common.{◌++◌, remove, ap, sym, ◌∙◌, arith}
 use Rattle.std.proofs.lemmas.List.Edits.{remove-append_right}
-use Rattle.gms_tuple.proofs.line.Line.remove.Goals.{in-Heap-1, in-Inline-1}
 use Rattle.gms_tuple.proofs.line.Line.remove.Goals as goal
 
 pub returns-else-place-before : goal.returns-else-place-before
 returns-else-place-before c =
     let taken = ap (λ b. c.self.inside.tree ++ b) c.remove-taken.ensures.items ∙ sym (remove-append_right c.self.inside.tree c.self.inside.behind.items c.len-before.result c.args.place (sym c.len-before.ensures) (omega arith)) in
-    elim c.match-taken.branch [
-      | in-Heap-1 w ↦ w.self-is ∙ taken ∙ ap (λ l. remove l c.args.place) c.self.view_is
-      | in-Inline-1 w ↦ w.self-is ∙ taken ∙ ap (λ l. remove l c.args.place) c.self.view_is
-    ]
+    taken ∙ ap (λ l. remove l c.args.place) c.self.view_is

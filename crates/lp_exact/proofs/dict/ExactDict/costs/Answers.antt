@@ -2,7 +2,7 @@ use Rattle.std.proofs.Common.{◌+◌, ◌≡◌, List, [], map, length, Some, r
 use Rattle.std.specs.Prelude.{slice_get, slice_set, Contains, Vec}
 use Rattle.std.specs.declared.alloc.Global.{Global}
 use Rattle.std.proofs.lemmas.Result.{IfOk-weaker}
-use Rattle.lp_core.specs.Answers.{last_of}
+use Rattle.lp_core.specs.Pivots.{last_of}
 use Rattle.lp_exact.specs.declared.row.Entry.{Entry}
 use Rattle.lp_exact.specs.Rows.{IsRow}
 use Rattle.lp_exact.specs.Lines.{rows_of}

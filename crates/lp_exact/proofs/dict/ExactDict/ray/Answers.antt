@@ -1,6 +1,6 @@
 use Rattle.std.proofs.Common.{ℕ, ◌+◌, ◌≤◌, ◌≡◌, List, map, length, refl, sym, ap, subst, subst₂, arith}
 use Rattle.std.specs.Prelude.{Contains}
-use Rattle.lp_core.specs.Answers.{last_along}
+use Rattle.lp_core.specs.Pivots.{last_along}
 use Rattle.lp_exact.specs.declared.row.Entry.{Entry}
 use Rattle.lp_exact.specs.Lines.{rows_of}
 use Rattle.lp_exact.specs.Tableau.{Tableau, dictionary}

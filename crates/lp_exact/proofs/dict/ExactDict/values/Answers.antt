@@ -2,7 +2,7 @@ use Rattle.std.proofs.Common.{ℕ, ◌+◌, ◌≡◌, List, map, length, refl, 
 use Rattle.std.specs.Prelude.{Vec}
 use Rattle.std.specs.declared.alloc.Global.{Global}
 use Rattle.std.proofs.lemmas.Result.{IfOk-weaker}
-use Rattle.lp_core.specs.Answers.{last_of}
+use Rattle.lp_core.specs.Pivots.{last_of}
 use Rattle.lp_exact.specs.declared.row.Entry.{Entry}
 use Rattle.lp_exact.specs.Lines.{rows_of}
 use Rattle.lp_exact.specs.Tableau.{Tableau, dictionary}

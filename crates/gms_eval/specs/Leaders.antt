@@ -1,0 +1,108 @@
+-- Which references of a condition may lead the walk over the elements of a control, and to how many elements a walk by one comes at
+-- most. A condition holds only where each of its factors does, and a reference holds only at its stored tuples (GAMS User's Guide,
+-- "Conditional Expressions, Assignments and Equations", logical operators and nested dollar conditions).
+use Rattle.std.specs.Prelude.{◌≡◌, ◌⊎◌, ℕ, suc, ◌*◌, ◌≤◌, Bool, true, false, not, ◌&&◌, ◌||◌, ◌==◌, is_some, List, [], ◌∷◌, ◌++◌, length, Option, Some, None, if◌then◌else◌}
+use Rattle.std.specs.List.{list_any}
+use Rattle.gms_ast.specs.declared.expression.Suffix.{Suffix}
+use Rattle.gms_ast.specs.declared.expression.Suffix.TheVariants as suffix
+use Rattle.gms_ast.specs.Trees as tree
+use Rattle.gms_tuple.specs.TupleSet.{those_with}
+use Rattle.gms_store.specs.State.{State, given_of}
+use Rattle.gms_eval.specs.Bindings.{Pairs, label_of}
+use Rattle.gms_eval.specs.Domain.{elements}
+
+-- a label before others, where there is one; else nothing
+abbrev pub before_others : Option ℕ → List ℕ → List ℕ
+before_others None others = []
+before_others (Some label) others = label ∷ others
+
+module _ {F : Type 0} where
+  -- no index has a lag
+  abbrev pub without_lags : tree.Indices F → Bool
+  without_lags tree.no_index = true
+  without_lags (tree.label label rest) = without_lags rest
+  without_lags (tree.set name rest) = without_lags rest
+  without_lags (tree.lagged name op at amount rest) = false
+
+  -- how many indices there are
+  abbrev pub index_count : tree.Indices F → ℕ
+  index_count tree.no_index = 0
+  index_count (tree.label label rest) = suc (index_count rest)
+  index_count (tree.set name rest) = suc (index_count rest)
+  index_count (tree.lagged name op at amount rest) = suc (index_count rest)
+
+  -- a reference has neither a suffix nor a lag
+  abbrev pub is_bare : Suffix → tree.Indices F → Bool
+  is_bare suffix.None indices = without_lags indices
+  is_bare other indices = false
+
+  abbrev mutual
+    -- A condition that never has a fault: a number, a reference with neither a suffix nor a lag, or such conditions joined by `and`
+    -- or under guards.
+    pub never_fails : tree.Tree F → Bool
+    never_fails (tree.number n) = true
+    never_fails (tree.reference at name suffix indices) = is_bare suffix indices
+    never_fails (tree.all_of parts) = none_fails parts
+    never_fails (tree.guarded operand guards) = none_fails guards && never_fails operand
+    never_fails other = false
+
+    -- none of these conditions ever has a fault
+    pub none_fails : tree.Parts F → Bool
+    none_fails tree.no_part = true
+    none_fails (tree.part mark condition rest) = never_fails condition && none_fails rest
+
+  module _ (name : ℕ) (indices : tree.Indices F) where
+    abbrev mutual
+      -- The reference to this name with these indices may lead the walk of a condition: it has neither a suffix nor a lag and at
+      -- most 10 indices, and it is the condition, or a factor of it that is taken behind factors which never have a fault. Guards are
+      -- taken before what they guard, from the last to the first.
+      pub MayLead : tree.Tree F → Type 0
+      MayLead (tree.reference at other suffix those) =
+          (is_bare suffix those ≡ true) × (index_count those ≤ 10) × (other ≡ name) × (those ≡ indices)
+      MayLead (tree.all_of parts) = OneMayLead parts
+      MayLead (tree.guarded operand guards) = LastMayLead guards ⊎ ((none_fails guards ≡ true) × MayLead operand)
+      MayLead other = ⊥
+
+      -- it may lead that of conditions taken from the first to the last
+      pub OneMayLead : tree.Parts F → Type 0
+      OneMayLead tree.no_part = ⊥
+      OneMayLead (tree.part mark condition rest) = MayLead condition ⊎ ((never_fails condition ≡ true) × OneMayLead rest)
+
+      -- it may lead that of conditions taken from the last to the first
+      pub LastMayLead : tree.Parts F → Type 0
+      LastMayLead tree.no_part = ⊥
+      LastMayLead (tree.part mark condition rest) = LastMayLead rest ⊎ ((none_fails rest ≡ true) × MayLead condition)
+
+  -- The first labels of each tuple of a reference: those of its first indices that are labels, or sets that stand for a label
+  -- outside.
+  abbrev pub front_of : Pairs → tree.Indices F → List ℕ
+  front_of binding tree.no_index = []
+  front_of binding (tree.label label rest) = label ∷ front_of binding rest
+  front_of binding (tree.set name rest) = before_others (label_of binding name) (front_of binding rest)
+  front_of binding (tree.lagged name op at amount rest) = []
+
+  -- a set stands among indices without a lag
+  abbrev pub is_index : ℕ → tree.Indices F → Bool
+  is_index name tree.no_index = false
+  is_index name (tree.label label rest) = is_index name rest
+  is_index name (tree.set other rest) = other == name || is_index name rest
+  is_index name (tree.lagged other op at amount rest) = is_index name rest
+
+  -- The tuple of a reference says what a set of a control stands for, before which these sets stand there: the set is an index, it
+  -- stands for no label outside, and it does not stand before.
+  abbrev pub is_told : Pairs → tree.Indices F → List ℕ → ℕ → Bool
+  is_told binding indices before name =
+      not (is_some (label_of binding name) || list_any (λ other. other == name) before) && is_index name indices
+
+  -- the sets of a control of which the tuple of a reference says nothing, behind those that stand before
+  abbrev pub free_behind : Pairs → tree.Indices F → List ℕ → List ℕ → List ℕ
+  free_behind binding indices before [] = []
+  free_behind binding indices before (name ∷ rest) =
+      let others = free_behind binding indices (before ++ name ∷ []) rest in
+      if is_told binding indices before name then others else name ∷ others
+
+  -- To how many elements a walk by a reference comes at most: its stored tuples that begin with the labels known outside, times the
+  -- elements of the sets of which they say nothing.
+  abbrev pub reach : State → Pairs → List ℕ → ℕ → tree.Indices F → ℕ
+  reach state binding sets name indices =
+      length (those_with (given_of state name) (front_of binding indices)) * length (elements state (free_behind binding indices [] sets))

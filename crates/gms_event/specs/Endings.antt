@@ -1,0 +1,18 @@
+-- How the end of a solve counts for its model and its solver (GAMS User's Guide, "GAMS Output", model status and solver status).
+use Rattle.std.specs.Prelude.{ℕ, ◌==◌, if◌then◌else◌}
+use Rattle.gms_store.specs.declared.status.SolveStatus.{SolveStatus}
+use Rattle.gms_store.specs.declared.status.SolveStatus.TheVariants as status
+use Rattle.lp_core.specs.declared.answer.End.{End}
+use Rattle.lp_core.specs.declared.answer.End.TheVariants.{Optimal, Infeasible, Unbounded, Interrupted, Refused}
+
+-- after an interrupt: a feasible point is there from the second phase on
+abbrev pub interrupted : ℕ → SolveStatus
+interrupted phase = if phase == 1 then status.Intermediate else status.Feasible
+
+-- the status of an end
+abbrev pub solve_status : {F : Type 0} → End F → SolveStatus
+solve_status (Optimal levels row_levels duals reduced) = status.Optimal
+solve_status (Unbounded levels row_levels ray) = status.Unbounded
+solve_status (Infeasible duals crossed) = status.Infeasible
+solve_status (Interrupted phase levels row_levels) = interrupted phase
+solve_status (Refused name) = status.Unanswered

@@ -1,0 +1,21 @@
+//! How the end of a solve counts for its model and its solver.
+ghost use Rattle.std.specs.Prelude.{◌≡◌};
+ghost use Rattle.gms_event.specs.Endings.{solve_status};
+
+use gms_store::SolveStatus;
+use lp_core::End;
+
+/// How an end counts: the one status from which the state, `m.modelstat`, `m.solvestat` and the listing take their numbers and texts.
+/// GAMS User's Guide, "GAMS Output", model status and solver status.
+pub fn solve_status<F>(end: &End<F>) -> SolveStatus
+    ensures { result ≡ solve_status end.now }
+{
+    match end {
+        End::Optimal { .. } => SolveStatus::Optimal,
+        End::Unbounded { .. } => SolveStatus::Unbounded,
+        End::Infeasible { .. } => SolveStatus::Infeasible,
+        End::Interrupted { phase: 1, .. } => SolveStatus::Intermediate,
+        End::Interrupted { .. } => SolveStatus::Feasible,
+        End::Refused { .. } => SolveStatus::Unanswered,
+    }
+}

@@ -1,0 +1,9 @@
+pub mod Eaches
+pub mod Values
+pub mod Linear
+pub mod FormKeys
+pub mod RowElements
+pub mod ModelRows
+pub mod Changing
+pub mod Assigning
+pub mod Running

@@ -1,0 +1,192 @@
+-- In states that agree on the names in the definitions of a model it has the same linear program, and that is over elements of such names.
+use Rattle.std.proofs.Common.{◌≡◌, ℕ, Bool, true, false, not, ◌==◌, cond, List, [], ◌∷◌, ◌++◌, map, filter, Option, Some, None, Ok, Err, refl, ap, ◌∙◌}
+use Rattle.std.specs.Prelude.{flat_map}
+use Rattle.std.proofs.Math.Path.{fun_ext}
+use Rattle.gms_labels.specs.declared.place.Place.{Place}
+use Rattle.gq_number.specs.Number.{Number}
+use Rattle.gms_ast.specs.declared.program.Stmt.{Stmt}
+use Rattle.gms_ast.specs.Trees as tree
+use Rattle.gms_store.specs.State.{State, Attributes}
+use Rattle.gms_eval.specs.Nodes.{in_order}
+use Rattle.gms_eval.specs.Bindings.{Pairs, controlled}
+use Rattle.gms_eval.specs.Faults.{Answer, ◌and_then◌}
+use Rattle.gms_eval.specs.References.{tuple_of}
+use Rattle.gms_eval.specs.Value.{labels, domain, control_over}
+use Rattle.lp_core.specs.declared.program.Column.{Column}
+use Rattle.lp_form.specs.declared.key.Key.{Key}
+use Rattle.gms_rows.specs.Affine.{affine}
+use Rattle.gms_rows.specs.Forms.{Form, sum_of}
+use Rattle.gms_rows.specs.ModelPoints.{definitions_of_model}
+use Rattle.gms_rows.specs.ProgramLp.{column_keys, column_of, placed, place_of, program_of, sized, program_lp}
+use Rattle.gms_rows.specs.Rows.{Definition, FormRow, each_once, sets_among, sense_of, those_there, row_form, row_under, rows_of, rows_of_model}
+use Rattle.gms_exec.specs.Assignment as assigning
+use Rattle.gms_frames.specs.Agreeing.{AgreeOn}
+use Rattle.gms_frames.specs.Names.{Each, names, index_names, condition_names, definition_names}
+use Rattle.gms_frames.proofs.Eaches.{each-left, each-right}
+use Rattle.gms_frames.proofs.FormKeys.{OkHas, EachHas, then-has, after-has, in_order-has, map-has, AreKeys, IsKeyed, affine-keyed, sum-keyed}
+use Rattle.gms_frames.proofs.Linear.{affine-same}
+use Rattle.gms_frames.proofs.RowElements.{HasKeys, MayHaveKeys, there-keyed, joined-keyed, column-elements, columns-over, rows-over, IsOver, sized-over}
+use Rattle.gms_frames.proofs.Values.{attributes-same, indices-same, where-same}
+
+-- ---- the sets of indices
+
+module _ (test : ℕ → Bool) where
+  pub filter-each : (p : ℕ → Bool) (ns : List ℕ) → Each test ns → Each test (filter p ns)
+  filter-each p [] all = tt
+  filter-each p (n ∷ ns) all = by (p n) (filter-each p ns all.1)
+    where
+      by : (b : Bool) → Each test (filter p ns) → Each test (cond b (n ∷ filter p ns) (filter p ns))
+      by true rest = (all.0, rest)
+      by false rest = rest
+
+  once-each : (ns : List ℕ) → Each test ns → Each test (each_once ns)
+  once-each [] all = tt
+  once-each (n ∷ ns) all = (all.0, filter-each (λ m. not (m == n)) (each_once ns) (once-each ns all.1))
+
+  among-each : {F : Type 0} (indices : tree.Indices F) → Each test (index_names indices) → Each test (sets_among indices)
+  among-each tree.no_index all = tt
+  among-each (tree.label label rest) all = among-each rest all
+  among-each (tree.set set rest) all = (all.0, among-each rest all.1)
+  among-each (tree.lagged set op at amount rest) all =
+      (all.0, among-each rest (each-right test (names amount) (index_names rest) all.1))
+
+  pub sets-each : {F : Type 0} (indices : tree.Indices F) → Each test (index_names indices) → Each test (each_once (sets_among indices))
+  sets-each indices all = once-each (sets_among indices) (among-each indices all)
+
+  -- the same in the words of assignments
+  left-once : (ns : List ℕ) → Each test ns → Each test (assigning.each_once ns)
+  left-once [] all = tt
+  left-once (n ∷ ns) all = (all.0, filter-each (λ m. not (m == n)) (assigning.each_once ns) (left-once ns all.1))
+
+  left-among : {F : Type 0} (indices : tree.Indices F) → Each test (index_names indices) → Each test (assigning.sets_among indices)
+  left-among tree.no_index all = tt
+  left-among (tree.label label rest) all = left-among rest all
+  left-among (tree.set set rest) all = (all.0, left-among rest all.1)
+  left-among (tree.lagged set op at amount rest) all =
+      (all.0, left-among rest (each-right test (names amount) (index_names rest) all.1))
+
+  pub left-sets : {F : Type 0} (indices : tree.Indices F) → Each test (index_names indices) → Each test (assigning.each_once (assigning.sets_among indices))
+  left-sets indices all = left-once (assigning.sets_among indices) (left-among indices all)
+
+-- ---- rows
+
+-- What is known of the names in a definition.
+record Parts {F : Type 0} (test : ℕ → Bool) (d : Definition F) : Type 0 where
+  equation : test d.equation ≡ true
+  indices : Each test (index_names d.indices)
+  condition : Each test (condition_names d.condition)
+  left : Each test (names d.left)
+  right : Each test (names d.right)
+
+parts-of : {F : Type 0} (test : ℕ → Bool) (d : Definition F) → Each test (definition_names d) → Parts test d
+parts-of test d all =
+    let one = each-right test (index_names d.indices) (condition_names d.condition ++ (names d.left ++ names d.right)) all.1 in
+    let two = each-right test (condition_names d.condition) (names d.left ++ names d.right) one in
+    record {
+      equation = all.0;
+      indices = each-left test (index_names d.indices) (condition_names d.condition ++ (names d.left ++ names d.right)) all.1;
+      condition = each-left test (condition_names d.condition) (names d.left ++ names d.right) one;
+      left = each-left test (names d.left) (names d.right) two;
+      right = each-right test (names d.left) (names d.right) two;
+    }
+
+module _ (test : ℕ → Bool) {F : Type 0} (v : F → Number) (limit : ℕ) where
+  module _ (one other : State) (agree : AgreeOn test one other) where
+    module _ (d : Definition F) (parts : Parts test d) where
+      form-same : (binding : Pairs) → row_form v limit other d binding ≡ row_form v limit one d binding
+      form-same binding =
+          ap (λ (x : Answer Form). x and_then λ left. affine v limit other d.right_at binding d.right and_then λ right. sum_of limit d.right_at binding true left right) (affine-same test one other agree v limit d.left parts.left d.left_at binding)
+          ∙ ap (λ (x : Answer Form). affine v limit one d.left_at binding d.left and_then λ left. x and_then λ right. sum_of limit d.right_at binding true left right) (affine-same test one other agree v limit d.right parts.right d.right_at binding)
+
+      abbrev under : Answer (List (Option ℕ)) → Answer Form → Answer (Option FormRow)
+      under those form =
+          those and_then λ those. elim (tuple_of those) [
+            | None ↦ Ok None
+            | Some t ↦ form and_then λ form. Ok (Some (record { key = record { symbol = d.equation; tuple = t }; sense = sense_of d.side; form = form }))
+          ]
+
+      row-same : (binding : Pairs) → row_under v limit other d binding ≡ row_under v limit one d binding
+      row-same binding =
+          ap (λ ls. under (in_order ls) (row_form v limit other d binding)) (indices-same test one other agree v limit d.indices parts.indices binding)
+          ∙ ap (under (in_order (labels v limit one binding d.indices))) (form-same binding)
+
+      abbrev over_all : Answer (List (List ℕ)) → (List ℕ → Answer (Option FormRow)) → Answer (List FormRow)
+      over_all elements row = elements and_then λ elements. in_order (map row elements) and_then λ rows. Ok (those_there rows)
+
+      definition-same : rows_of v limit other d ≡ rows_of v limit one d
+      definition-same =
+          let sets = each_once (sets_among d.indices) in
+          ap (λ (elements : Answer (List (List ℕ))). over_all elements (λ element. row_under v limit other d (controlled [] sets element))) (where-same test one other agree v limit sets d.condition (sets-each test d.indices parts.indices) parts.condition [] d.at)
+          ∙ ap (over_all (domain v limit one [] d.at (control_over sets d.condition))) (fun_ext (λ element. row-same (controlled [] sets element)))
+
+    definitions-same : (ds : List (Definition F)) → Each test (flat_map definition_names ds) → map (rows_of v limit other) ds ≡ map (rows_of v limit one) ds
+    definitions-same [] all = refl
+    definitions-same (d ∷ ds) all =
+        ap (λ (rows : Answer (List FormRow)). rows ∷ map (rows_of v limit other) ds) (definition-same d (parts-of test d (each-left test (definition_names d) (flat_map definition_names ds) all)))
+        ∙ ap (λ (all_rows : List (Answer (List FormRow))). rows_of v limit one d ∷ all_rows) (definitions-same ds (each-right test (definition_names d) (flat_map definition_names ds) all))
+
+  module _ (state : State) where
+    row-keyed : (d : Definition F) → Parts test d → (binding : Pairs) → OkHas (MayHaveKeys test) (row_under v limit state d binding)
+    row-keyed d parts binding =
+        after-has (MayHaveKeys test) (in_order (labels v limit state binding d.indices)) (λ those. elim (tuple_of those) [
+          | None ↦ Ok None
+          | Some t ↦ row_form v limit state d binding and_then λ form. Ok (Some (record { key = record { symbol = d.equation; tuple = t }; sense = sense_of d.side; form = form }))
+        ]) (λ those. by (tuple_of those))
+      where
+        by : (o : Option (List ℕ)) → OkHas (MayHaveKeys test) (elim o [
+          | None ↦ Ok None
+          | Some t ↦ row_form v limit state d binding and_then λ form. Ok (Some (record { key = record { symbol = d.equation; tuple = t }; sense = sense_of d.side; form = form }))
+        ])
+        by None = tt
+        by (Some t) =
+            then-has (IsKeyed test) (MayHaveKeys test) (row_form v limit state d binding) (λ form. Ok (Some (record { key = record { symbol = d.equation; tuple = t }; sense = sense_of d.side; form = form })))
+            (then-has (IsKeyed test) (IsKeyed test) (affine v limit state d.left_at binding d.left) (λ left. affine v limit state d.right_at binding d.right and_then λ right. sum_of limit d.right_at binding true left right) (affine-keyed test v limit state d.left parts.left d.left_at binding)
+            (λ left one. then-has (IsKeyed test) (IsKeyed test) (affine v limit state d.right_at binding d.right) (λ right. sum_of limit d.right_at binding true left right) (affine-keyed test v limit state d.right parts.right d.right_at binding) (λ right other. sum-keyed test limit d.right_at binding true left right one other)))
+            (λ form keyed. (parts.equation, keyed))
+
+    definition-keyed : (d : Definition F) → Parts test d → OkHas (EachHas (HasKeys test)) (rows_of v limit state d)
+    definition-keyed d parts =
+        let sets = each_once (sets_among d.indices) in
+        after-has (EachHas (HasKeys test)) (domain v limit state [] d.at (control_over sets d.condition)) (λ elements. in_order (map (λ element. row_under v limit state d (controlled [] sets element)) elements) and_then λ rows. Ok (those_there rows))
+        (λ elements. then-has (EachHas (MayHaveKeys test)) (EachHas (HasKeys test)) (in_order (map (λ element. row_under v limit state d (controlled [] sets element)) elements)) (λ rows. Ok (those_there rows))
+        (in_order-has (MayHaveKeys test) (map (λ element. row_under v limit state d (controlled [] sets element)) elements) (map-has (OkHas (MayHaveKeys test)) (λ element. row_under v limit state d (controlled [] sets element)) (λ element. row-keyed d parts (controlled [] sets element)) elements))
+        (there-keyed test))
+
+    definitions-keyed : (ds : List (Definition F)) → Each test (flat_map definition_names ds) → EachHas (OkHas (EachHas (HasKeys test))) (map (rows_of v limit state) ds)
+    definitions-keyed [] all = tt
+    definitions-keyed (d ∷ ds) all =
+        (definition-keyed d (parts-of test d (each-left test (definition_names d) (flat_map definition_names ds) all)), definitions-keyed ds (each-right test (definition_names d) (flat_map definition_names ds) all))
+
+    model-keyed : (statements : List (Stmt F)) (model : ℕ) → Each test (flat_map definition_names (definitions_of_model statements model)) → OkHas (EachHas (HasKeys test)) (rows_of_model v limit state statements model)
+    model-keyed statements model all =
+        then-has (EachHas (EachHas (HasKeys test))) (EachHas (HasKeys test)) (in_order (map (rows_of v limit state) (definitions_of_model statements model))) (λ rows. Ok (flat_map (λ some. some) rows))
+        (in_order-has (EachHas (HasKeys test)) (map (rows_of v limit state) (definitions_of_model statements model)) (definitions-keyed (definitions_of_model statements model) all)) (joined-keyed test)
+
+  -- ---- the linear program
+
+  pub program-over : (state : State) (statements : List (Stmt F)) (model objective : ℕ) (maximize : Bool) (at : Place) → Each test (flat_map definition_names (definitions_of_model statements model)) → test objective ≡ true → OkHas (IsOver test) (program_lp v limit state statements model objective maximize at)
+  program-over state statements model objective maximize at all is =
+      let key : Key = record { symbol = objective; tuple = [] } in
+      then-has (EachHas (HasKeys test)) (IsOver test) (rows_of_model v limit state statements model) (λ rows. sized at (program_of state rows key maximize)) (model-keyed state statements model all)
+      (λ rows has. sized-over test at (program_of state rows key maximize) (columns-over test state (column_keys rows key) (column-elements test rows key has is), rows-over test (column_keys rows key) rows has))
+
+  columns-same : (one other : State) → AgreeOn test one other → (keys : List Key) → AreKeys test keys → map (column_of other) keys ≡ map (column_of one) keys
+  columns-same one other agree [] all = refl
+  columns-same one other agree (key ∷ keys) all =
+      ap (λ (a : Attributes). record { key = key; lower = a.lower; upper = a.upper } ∷ map (column_of other) keys) (attributes-same test one other agree key.symbol all.0 key.tuple)
+      ∙ ap (λ (columns : List (Column Number)). column_of one key ∷ columns) (columns-same one other agree keys all.1)
+
+  -- where an answer has something, what comes behind it may be looked at with that alone
+  then-same : {A B : Type 0} (P : A → Type 0) (a : Answer A) (next after : A → Answer B) → OkHas P a → ((x : A) → P x → next x ≡ after x) → (a and_then next) ≡ (a and_then after)
+  then-same P (Ok x) next after has each = each x has
+  then-same P (Err fault) next after has each = refl
+
+  pub program-same : (one other : State) → AgreeOn test one other → (statements others : List (Stmt F)) (model objective : ℕ) (maximize : Bool) (at : Place) → definitions_of_model others model ≡ definitions_of_model statements model → Each test (flat_map definition_names (definitions_of_model statements model)) → test objective ≡ true →
+      program_lp v limit other others model objective maximize at ≡ program_lp v limit one statements model objective maximize at
+  program-same one other agree statements others model objective maximize at alike all is =
+      let key : Key = record { symbol = objective; tuple = [] } in
+      let rows : List (Answer (List FormRow)) → Answer (List FormRow) = λ those. in_order those and_then λ rows. Ok (flat_map (λ some. some) rows) in
+      ap (λ (ds : List (Definition F)). rows (map (rows_of v limit other) ds) and_then λ rows. sized at (program_of other rows key maximize)) alike
+      ∙ ap (λ (those : List (Answer (List FormRow))). rows those and_then λ rows. sized at (program_of other rows key maximize)) (definitions-same one other agree (definitions_of_model statements model) all)
+      ∙ then-same (EachHas (HasKeys test)) (rows_of_model v limit one statements model) (λ rows. sized at (program_of other rows key maximize)) (λ rows. sized at (program_of one rows key maximize)) (model-keyed one statements model all)
+      (λ rows has. ap (λ (columns : List (Column Number)). sized at (record { columns = columns; rows = map (placed (column_keys rows key)) rows; objective = place_of (column_keys rows key) key; maximize = maximize })) (columns-same one other agree (column_keys rows key) (column-elements test rows key has is)))

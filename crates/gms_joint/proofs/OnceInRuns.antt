@@ -1,0 +1,68 @@
+-- In the states of an accepted program's run no assignment of the program gives an element twice.
+use Rattle.std.proofs.Common.{◌≡◌, ℕ, true, List, length, Option, option_map, Ok, refl}
+use Rattle.std.proofs.lemmas.List.Elements.{All-contains}
+use Rattle.gq_number.specs.Number.{Number}
+use Rattle.gms_labels.specs.declared.place.Place.{Place}
+use Rattle.gms_ast.specs.declared.expression.Expr.{Expr}
+use Rattle.gms_ast.specs.declared.expression.Suffix.TheVariants as suffix
+use Rattle.gms_ast.specs.declared.program.Act.TheVariants.{Assign}
+use Rattle.gms_ast.specs.declared.program.Right.TheVariants.{Value}
+use Rattle.gms_ast.specs.declared.program.Stmt.{Stmt}
+use Rattle.gms_ast.specs.declared.program.Target.{Target}
+use Rattle.gms_ast.specs.TreeView.{tree_of}
+use Rattle.gms_ast.specs.Trees as tree
+use Rattle.gms_tuple.proofs.Members.{Contains-has}
+use Rattle.gms_store.specs.State.{State, members_of}
+use Rattle.gms_known.specs.Names.{is_index_set}
+use Rattle.gms_check.specs.Checked.{StandsAfter}
+use Rattle.gms_check.specs.LeftSides.{AreLeftIndices, is_fixed_amount}
+use Rattle.gms_check.specs.Loaded.{IsAccepted, loaded, sound}
+use Rattle.gms_check.specs.CompileErrors.{known_after}
+use Rattle.gms_check.specs.Past.{state_after}
+use Rattle.gms_check.specs.StatementUses.{index_list}
+use Rattle.gms_check.proofs.IndexSetsStay.{IsOverOne, index-set-loaded}
+use Rattle.gms_check.proofs.LeftAmounts.{program-left}
+use Rattle.gms_eval.specs.Bindings.{Pairs}
+use Rattle.gms_eval.specs.InnerLeading.{IsSimple}
+use Rattle.gms_exec.specs.Assignment.{given_by, target_of}
+use Rattle.gms_exec.specs.Given.{AllGiven}
+use Rattle.gms_exec.specs.Once.{is_fixed, AreLeft, IsOnce}
+use Rattle.gms_exec.specs.Run.{World}
+use Rattle.gms_exec.proofs.Once.{given-once}
+use Rattle.gms_exec.proofs.Staying.{Stays, follows-of}
+use Rattle.gms_joint.specs.Reached.{IsStatementOf, IsReached}
+use Rattle.gms_joint.proofs.Reaching.{reached-stays}
+
+-- a set over one position stays so
+simple-set : (old new : State) → Stays old new → (set : ℕ) → IsOverOne old set → IsSimple new set
+simple-set old new stays set over =
+    let follows = follows-of old new stays set in
+    let singles = follows.singles over.position over.labels in
+    (follows.ordered over.ordered, λ member there. All-contains (λ (t : List ℕ). length t ≡ 1) (members_of new set) member singles (Contains-has (members_of new set) member there))
+
+-- a set that is an index set where a statement stands is one in each state of a run
+pub index-simple : {F : Type 0} (v : F → Number) (limit : ℕ) (world : World F) (before : List (Stmt F)) (statement : Stmt F) (set : ℕ) (state : State) → StandsAfter world.program before statement → is_index_set (state_after v (length world.program.names) (sound before)) set ≡ true → IsReached v limit world (loaded v world.program) state → IsSimple state set
+index-simple v limit world before statement set state stands one reached =
+    simple-set (loaded v world.program) state (reached-stays v limit world (loaded v world.program) state reached) set (index-set-loaded v world.program before statement stands set one)
+
+module _ {F : Type 0} where
+  fixed-amount : (amount : tree.Tree F) → is_fixed_amount amount ≡ true → is_fixed amount ≡ true
+  fixed-amount (tree.number n) e = refl
+  fixed-amount (tree.reference at name suffix.None tree.no_index) e = refl
+  fixed-amount amount e = absurd (cc)
+
+  left-simple : (old new : State) → ((set : ℕ) → is_index_set old set ≡ true → IsSimple new set) → (indices : tree.Indices F) → AreLeftIndices old indices → AreLeft new indices
+  left-simple old new simple tree.no_index are = tt
+  left-simple old new simple (tree.label n rest) are = left-simple old new simple rest are
+  left-simple old new simple (tree.set set rest) are = (simple set are.0, left-simple old new simple rest are.1)
+  left-simple old new simple (tree.lagged set op at amount rest) are =
+      (simple set are.0, (fixed-amount amount are.1.0, left-simple old new simple rest are.1.1))
+
+  pub run-once : (v : F → Number) (limit : ℕ) (world : World F) (statement : Stmt F) (target : Target F) (condition : Option (Expr F)) (right_at : Place) (right : Expr F) (state : State) (binding : Pairs) (given : AllGiven) → IsAccepted v world.program → IsStatementOf world.program statement → statement.act ≡ Assign target condition right_at (Value right) → IsReached v limit world (loaded v world.program) state → given_by v limit state statement.at binding (target_of target) (option_map tree_of condition) right_at (tree_of right) ≡ Ok given → IsOnce given
+  run-once v limit world statement target condition right_at right state binding given accepted of_program is reached e =
+      let program = world.program in
+      let stays = reached-stays v limit world (loaded v program) state reached in
+      let known = known_after v program accepted.0 (sound of_program.before) in
+      let left = program-left v program accepted.0 of_program.before of_program.outer statement of_program.depth target condition right_at right accepted.1 of_program.stands of_program.inside is in
+      let simple = λ (set : ℕ) (one : is_index_set known.state set ≡ true). simple-set (loaded v program) state stays set (index-set-loaded v program of_program.before of_program.outer of_program.stands set one) in
+      given-once v limit state binding (target_of target) right_at (tree_of right) (left-simple known.state state simple (index_list target.indices) left) statement.at (option_map tree_of condition) given e

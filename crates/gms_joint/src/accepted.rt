@@ -1,0 +1,118 @@
+//! What holds of the runs of accepted programs.
+ghost use Rattle.std.specs.Prelude.{◌≡◌, ◌≤◌, ◌++◌, ℕ, true, [], List, Option, None, Ok, All, length, option_map};
+ghost use Rattle.gq_number.specs.Number.{Number};
+ghost use Rattle.gms_labels.specs.declared.place.Place.{Place};
+ghost use Rattle.gms_ast.specs.declared.expression.Expr.{Expr};
+ghost use Rattle.gms_ast.specs.declared.expression.Suffix.{Suffix};
+ghost use Rattle.gms_ast.specs.declared.program.Act.TheVariants.{Assign};
+ghost use Rattle.gms_ast.specs.declared.program.Program.{Program};
+ghost use Rattle.gms_ast.specs.declared.program.Right.TheVariants.{Value};
+ghost use Rattle.gms_ast.specs.declared.program.Stmt.{Stmt};
+ghost use Rattle.gms_ast.specs.declared.program.Target.{Target};
+ghost use Rattle.gms_ast.specs.Trees.{Indices};
+ghost use Rattle.gms_ast.specs.TreeView.{tree_of};
+ghost use Rattle.gms_tuple.specs.TupleSet.{has};
+ghost use Rattle.gms_store.specs.State.{State, given_in, symbol_at};
+ghost use Rattle.gms_known.specs.DynamicSets.{dynamic_sets};
+ghost use Rattle.gms_known.specs.Names.{is_index_set};
+ghost use Rattle.gms_check.specs.Checked.{StandsAfter};
+ghost use Rattle.gms_check.specs.CompileErrors.{of_program};
+ghost use Rattle.gms_check.specs.Domains.{index_count};
+ghost use Rattle.gms_check.specs.Loaded.{IsAccepted, loaded, sound};
+ghost use Rattle.gms_check.specs.Past.{is_among, state_after};
+ghost use Rattle.gms_check.specs.References.{InStatement, reads};
+ghost use Rattle.gms_check.specs.Uses.{index_sets};
+ghost use Rattle.gms_eval.specs.Bindings.{Pairs, controlled};
+ghost use Rattle.gms_eval.specs.Domain.{elements};
+ghost use Rattle.gms_eval.specs.InnerLeading.{IsSimple};
+ghost use Rattle.gms_eval.specs.Nodes.{in_order};
+ghost use Rattle.gms_eval.specs.References.{tuple_of};
+ghost use Rattle.gms_eval.specs.Value.{labels};
+ghost use Rattle.gms_rows.specs.ModelPoints.{IsLinearDefinition, definitions_of_model};
+ghost use Rattle.gms_exec.specs.Assignment.{given_by, target_of};
+ghost use Rattle.gms_exec.specs.Given.{AllGiven};
+ghost use Rattle.gms_exec.specs.Once.{IsOnce};
+ghost use Rattle.gms_exec.specs.Run.{World, run_from};
+ghost use Rattle.gms_joint.specs.Labels.{AreMembers, StandForLabels, SomeGoesPast};
+ghost use Rattle.gms_joint.specs.LastStates.{AreFixed, IsLater, StandAt, names_assigned};
+ghost use Rattle.gms_joint.specs.Reached.{IsReached, IsStatementOf};
+ghost use Rattle.lp_core.specs.declared.answer.Answer.{Answer};
+
+use gq_field::ExactField;
+
+/// The labels of a reference of an accepted program, under a binding in which each set that is controlled where it stands has a label:
+/// so has each set among its indices, and there are at most 10 indices; so that in every state it has a tuple but where a lag goes
+/// past the ends of its set. No reference reads 0 for want of a label otherwise. And with the labels of an element of its sets a
+/// fold, a loop or a left side gives each of them a label, besides those that have one; where the sets are over one position, these
+/// labels are members of them.
+///
+/// GAMS User's Guide, "Data Manipulations with Parameters", controlled indices; "Sets as Sequences: Ordered Sets".
+pub fn label_laws<F: ExactField>()
+    ensures stand { (program : Program F) (before : List (Stmt F)) (statement : Stmt F) (depth : ℕ) (within : List ℕ) (name : ℕ) (suffix : Suffix) (indices : Indices F) (binding : Pairs) →
+        IsAccepted F.value program → StandsAfter program before statement → InStatement depth within (reads name suffix indices) [] statement →
+        StandForLabels binding within → StandForLabels binding (index_sets indices) }
+    ensures few { (program : Program F) (before : List (Stmt F)) (statement : Stmt F) (depth : ℕ) (within : List ℕ) (name : ℕ) (suffix : Suffix) (indices : Indices F) →
+        IsAccepted F.value program → StandsAfter program before statement → InStatement depth within (reads name suffix indices) [] statement →
+        index_count indices ≤ 10 }
+    ensures tuple { (state : State) (binding : Pairs) (indices : Indices F) (those : List (Option ℕ)) →
+        StandForLabels binding (index_sets indices) → index_count indices ≤ 10 →
+        in_order (labels F.value F.limit state binding indices) ≡ Ok those → tuple_of those ≡ None →
+        SomeGoesPast F.value F.limit state binding indices }
+    ensures element { (state : State) (binding : Pairs) (around sets element : List ℕ) →
+        StandForLabels binding around → has (elements state sets) element ≡ true →
+        StandForLabels (controlled binding sets element) (around ++ sets) }
+    ensures members { (state : State) (sets element : List ℕ) →
+        All (IsSimple state) sets → has (elements state sets) element ≡ true → AreMembers state sets element }
+{}
+
+/// The last state of a program's run is one that its statements lead to. In each state that the statements lead to from where it begins, also
+/// in the midst of a loop, a set that is an index set where a statement stands is one over one position; and where the program is
+/// accepted, no assignment of the program gives an element twice (GAMS User's Guide, "Data Manipulations with Parameters", indexed
+/// assignments).
+pub fn run_laws<F: ExactField>()
+    ensures last { (world : World F) (state : State) (answers : List (Answer Number)) →
+        IsReached F.value F.limit world state (run_from F.value F.limit world state answers world.program.statements.items).state }
+    ensures simple { (world : World F) (before : List (Stmt F)) (statement : Stmt F) (set : ℕ) (state : State) →
+        StandsAfter world.program before statement → is_index_set (state_after F.value (length world.program.names) (sound before)) set ≡ true →
+        IsReached F.value F.limit world (loaded F.value world.program) state → IsSimple state set }
+    ensures once { (world : World F) (statement : Stmt F) (target : Target F) (condition : Option (Expr F)) (right_at : Place) (right : Expr F) (state : State) (binding : Pairs) (given : AllGiven) →
+        IsAccepted F.value world.program → IsStatementOf world.program statement →
+        statement.act ≡ Assign target condition right_at (Value right) →
+        IsReached F.value F.limit world (loaded F.value world.program) state →
+        given_by F.value F.limit state statement.at binding (target_of target) (option_map tree_of condition) right_at (tree_of right) ≡ Ok given →
+        IsOnce given }
+{}
+
+/// What each state of a program's run keeps of the one in which the run begins, also in the midst of a loop: it declares the same; what is
+/// given of each name is in order, with as many labels as the name has positions, and is what differs from an absent entry; a model
+/// has the statuses of before a solve or of after one; the members of a set that the program does not assign are as they were; and the
+/// settings are in the ranges of their options. So the last state, which is saved, is such a state. Of an accepted program each tuple
+/// has at most 10 labels, and in the state in which the run begins each label is a member of the set of its position, which is
+/// declared and which no statement of the program assigns.
+///
+/// GAMS User's Guide, "Save and Restart", "Set Definition", "Variables", "The Option Statement".
+pub fn last_laws<F: ExactField>()
+    ensures kept { (world : World F) (state : State) →
+        IsReached F.value F.limit world (loaded F.value world.program) state →
+        IsLater (loaded F.value world.program) (is_among (names_assigned (loaded F.value world.program) world.program)) state }
+    ensures few { (world : World F) (state : State) (name : ℕ) →
+        IsAccepted F.value world.program → IsReached F.value F.limit world (loaded F.value world.program) state →
+        All (λ (t : List ℕ). length t ≤ 10) (given_in (symbol_at state name).content) }
+    ensures begins { (program : Program F) (name : ℕ) →
+        IsAccepted F.value program →
+        All (StandAt (loaded F.value program) (symbol_at (loaded F.value program) name).domain) (given_in (symbol_at (loaded F.value program) name).content) }
+    ensures fixed { (program : Program F) (name : ℕ) →
+        IsAccepted F.value program →
+        AreFixed (of_program program (is_among (dynamic_sets program))) (loaded F.value program) (symbol_at (loaded F.value program) name).domain }
+{}
+
+/// In each state of an accepted program's run both sides of each definition of a model are linear in the variables: of a product one
+/// factor may have some and no divisor, and of the folds over what has some there are sums alone. So there the points that keep the
+/// model are exactly the feasible points of the linear program that a solve means (`point_laws` of gms_rows).
+///
+/// GAMS User's Guide, "Equations", "Model and Solve Statements".
+pub fn linear_laws<F: ExactField>()
+    ensures { (world : World F) (state : State) (model : ℕ) →
+        IsAccepted F.value world.program → IsReached F.value F.limit world (loaded F.value world.program) state →
+        All (IsLinearDefinition state) (definitions_of_model world.program.statements.items model) }
+{}

@@ -1,0 +1,52 @@
+-- What stands between tokens, and where a line end is a token (GAMS User's Guide, "Language Items", "GAMS Programs", data
+-- declarations and lists).
+use Rattle.std.specs.Prelude.{◌≡◌, ◌⊎◌, ℕ, ◌-◌, ◌≤◌, Bool, true, not, ◌||◌, ◌==◌, List, [], ◌∷◌, take, drop}
+use Rattle.std.specs.List.{list_all, concat, AllByRecursion}
+use Rattle.gms_lines.specs.Lines.{begins, is_blank, is_line_end}
+use Rattle.gms_lexemes.specs.declared.kind.Kind.TheVariants.{Break}
+use Rattle.gms_lexemes.specs.declared.lexeme.Piece.TheVariants as piece
+use Rattle.gms_lexemes.specs.declared.lexeme.Lexeme.{Lexeme}
+use Rattle.gms_lex.specs.declared.mode.Mode.{Mode}
+use Rattle.gms_lex.specs.declared.mode.LineEnds.{LineEnds}
+use Rattle.gms_lex.specs.declared.mode.LineEnds.TheVariants.{Skipped, EndItem, EndElement}
+use Rattle.gms_lex.specs.declared.token.Token.{Token}
+use Rattle.gms_lex.specs.Pieces.{space_length, line_ends}
+use Rattle.gms_lex.specs.Spellings.{IsText}
+
+-- a space, a tab, a line feed or a carriage return
+abbrev pub is_space : ℕ → Bool
+is_space b = is_blank b || (b == 10 || b == 13)
+
+-- blanks and line ends, or a descriptive text
+abbrev pub IsSkipped : List ℕ → Type 0
+IsSkipped text = (list_all is_space text ≡ true) ⊎ IsText text
+
+-- only blanks, line ends and descriptive texts, in any order
+abbrev pub AreSkipped : List ℕ → Type 0
+AreSkipped text = (parts : List (List ℕ)) × (text ≡ concat parts) × AllByRecursion IsSkipped parts
+
+-- Tokens stand one behind the other in a text, the first at this byte or behind it, and between them are only blanks, line ends and
+-- descriptive texts.
+abbrev pub AreApart : List ℕ → ℕ → List Token → Type 0
+AreApart text from [] = Unit {0}
+AreApart text from (token ∷ tokens) =
+    (from ≤ token.start) × AreSkipped (take (token.start - from) (drop from text)) × AreApart text token.end tokens
+
+-- a line end of so many bytes that is a token
+abbrev pub break_of : ℕ → Lexeme
+break_of bytes = record { piece = piece.Token Break; length = bytes }
+
+-- one line end: a line feed, or a carriage return and a line feed
+abbrev pub IsOneLineEnd : List ℕ → Type 0
+IsOneLineEnd text = (text ≡ 10 ∷ []) ⊎ (text ≡ 13 ∷ 10 ∷ [])
+
+-- what stands behind all blanks and line ends is a byte before which a line end ends an item, or an element
+abbrev pub IsEnding : LineEnds → List ℕ → Type 0
+IsEnding Skipped behind = ⊥
+IsEnding EndItem behind = begins (λ b. not (b == 47 || (b == 44 || b == 59))) behind ≡ true
+IsEnding EndElement behind = begins (λ b. not (b == 47 || b == 44)) behind ≡ true
+
+-- A line end with which a text begins is a token in this mode: behind a declared name or in a list a line end ends the item, or the
+-- element, unless the next byte that is neither blank nor a line end ends it by itself, or begins the item's list.
+abbrev pub IsBreak : Mode → List ℕ → Type 0
+IsBreak mode text = (is_line_end text ≡ true) × IsEnding (line_ends mode) (drop (space_length text) text)

@@ -1,0 +1,93 @@
+-- Which tokens and texts may stand at the front of a text, in each mode, and which of them is the longest (GAMS User's Guide,
+-- "Language Items", "GAMS Programs", data declarations, lists and tables).
+use Rattle.std.specs.Prelude.{◌≡◌, ◌⊎◌, ℕ, zero, suc, ◌<◌, ◌≤◌, Bool, true, false, ◌||◌, ◌==◌, List, length, take, drop}
+use Rattle.gms_lines.specs.Lines.{begins, content}
+use Rattle.gms_lexemes.specs.declared.kind.Kind.{Kind}
+use Rattle.gms_lexemes.specs.declared.kind.Kind.TheVariants.{Word, Label, Number, Text, Symbol, Break, TableLine}
+use Rattle.gms_lexemes.specs.declared.lexeme.Piece.{Piece}
+use Rattle.gms_lexemes.specs.declared.lexeme.Piece.TheVariants.{Gap, LineEnd, Remark, Token}
+use Rattle.gms_lexemes.specs.declared.lexeme.Lexeme.{Lexeme}
+use Rattle.gms_lexemes.specs.Numbers.{begins_dot}
+use Rattle.gms_lexemes.specs.TableLines.{table_bytes}
+use Rattle.gms_lex.specs.declared.keyword.Shape.{Shape}
+use Rattle.gms_lex.specs.declared.keyword.Shape.TheVariants.{Set, Parameter, Scalar, Model}
+use Rattle.gms_lex.specs.declared.mode.Stage.{Stage}
+use Rattle.gms_lex.specs.declared.mode.Stage.TheVariants.{Fresh, Due, After, Spaced}
+use Rattle.gms_lex.specs.declared.mode.Mode.{Mode}
+use Rattle.gms_lex.specs.declared.mode.Mode.TheVariants.{Named, Bare, Element, Value, Tail, TableNamed, TableBare, TableLines}
+use Rattle.gms_lex.specs.Keywords.{begins_statement}
+use Rattle.gms_lex.specs.Pieces.{is_item_mark, is_element_mark}
+use Rattle.gms_lex.specs.Spellings.{IsWord, IsLabel, IsQuoted, IsText, IsSymbol, IsNumber}
+
+-- a token of code, before what stands behind it: a word, a number, a symbol, or a quoted token of this kind
+abbrev pub IsCode : Kind → Piece → List ℕ → List ℕ → Type 0
+IsCode quoted (Token Word) text behind = IsWord text
+IsCode quoted (Token Number) text behind = IsNumber text behind
+IsCode quoted (Token (Symbol symbol)) text behind = IsSymbol symbol text
+IsCode quoted (Token Text) text behind = (quoted ≡ Text) × IsQuoted text
+IsCode quoted (Token Label) text behind = (quoted ≡ Label) × IsQuoted text
+IsCode quoted piece text behind = ⊥
+
+-- a token where an element is due: a label, unquoted or quoted, or a symbol
+abbrev pub IsElement : Piece → List ℕ → Type 0
+IsElement (Token Label) text = IsLabel text ⊎ IsQuoted text
+IsElement (Token (Symbol symbol)) text = IsSymbol symbol text
+IsElement piece text = ⊥
+
+-- a symbol that begins with a byte that passes the test, or a descriptive text that does not
+abbrev pub IsMarkOrText : (ℕ → Bool) → Piece → List ℕ → Type 0
+IsMarkOrText marks (Token (Symbol symbol)) text = (begins marks text ≡ true) × IsSymbol symbol text
+IsMarkOrText marks Remark text = (begins marks text ≡ false) × IsText text
+IsMarkOrText marks piece text = ⊥
+
+-- A token of code behind an element of a parameter's list. Right behind the element a dot joins a label, and begins no number.
+abbrev pub IsValue : Stage → Piece → List ℕ → List ℕ → Type 0
+IsValue After (Token Number) text behind = IsNumber text behind × (begins_dot text ≡ false)
+IsValue stage piece text behind = IsCode Label piece text behind
+
+-- behind an element outside parentheses: a value in a parameter's list; in any other `/`, `,`, `;`, `)`, `*`, `.`, or a text
+abbrev pub IsBehindElement : Shape → Stage → Piece → List ℕ → List ℕ → Type 0
+IsBehindElement Parameter stage piece text behind = IsValue stage piece text behind
+IsBehindElement Set stage piece text behind = IsMarkOrText is_element_mark piece text
+IsBehindElement Scalar stage piece text behind = IsMarkOrText is_element_mark piece text
+IsBehindElement Model stage piece text behind = IsMarkOrText is_element_mark piece text
+
+-- within a list, in so many parentheses
+abbrev pub IsListed : Shape → ℕ → Stage → Piece → List ℕ → List ℕ → Type 0
+IsListed shape depth Fresh piece text behind = IsElement piece text
+IsListed shape depth Due piece text behind = IsElement piece text
+IsListed shape zero After piece text behind = IsBehindElement shape After piece text behind
+IsListed shape zero Spaced piece text behind = IsBehindElement shape Spaced piece text behind
+IsListed shape (suc depth) After piece text behind = IsElement piece text
+IsListed shape (suc depth) Spaced piece text behind = IsElement piece text
+
+-- The first bytes of a text, so many, among the lines of a table: all of the line up to the `;` that ends the table; where that `;`
+-- or a statement begins, a token of code.
+abbrev pub IsOfTable : List ℕ → Piece → ℕ → Type 0
+IsOfTable text (Token TableLine) n = (begins_statement text ≡ false) × (0 < n) × (n ≡ table_bytes (content text))
+IsOfTable text piece n =
+    ((table_bytes (content text) == 0 || begins_statement text) ≡ true) × IsCode Text piece (take n text) (drop n text)
+
+-- the first bytes of a text, so many, are a token or a descriptive text that the mode allows there
+abbrev pub IsAllowed : Mode → List ℕ → Piece → ℕ → Type 0
+IsAllowed (Named shape) text piece n = IsMarkOrText (λ b. b == 40 || is_item_mark b) piece (take n text)
+IsAllowed TableNamed text piece n = IsMarkOrText (λ b. b == 40 || is_item_mark b) piece (take n text)
+IsAllowed (Bare shape) text piece n = IsMarkOrText is_item_mark piece (take n text)
+IsAllowed TableBare text piece n = IsMarkOrText is_item_mark piece (take n text)
+IsAllowed (Element shape depth stage) text piece n = IsListed shape depth stage piece (take n text) (drop n text)
+IsAllowed (Value shape) text piece n = IsCode Label piece (take n text) (drop n text)
+IsAllowed (Tail shape) text piece n = IsCode Label piece (take n text) (drop n text)
+IsAllowed TableLines text piece n = IsOfTable text piece n
+IsAllowed current text piece n = IsCode Text piece (take n text) (drop n text)
+
+-- a piece that has a text of its own: each but blanks and line ends
+abbrev pub has_text : Piece → Bool
+has_text Gap = false
+has_text LineEnd = false
+has_text (Token Break) = false
+has_text piece = true
+
+-- a piece at the front of a text is one that the mode allows there, and none that it allows is longer
+pub record IsLongest (mode : Mode) (text : List ℕ) (p : Lexeme) : Type 0 where
+  pub allowed : IsAllowed mode text p.piece p.length
+  pub longest : (other : Piece) (n : ℕ) → n ≤ length text → IsAllowed mode text other n → n ≤ p.length

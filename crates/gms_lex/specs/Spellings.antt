@@ -1,0 +1,70 @@
+-- How words, labels, numbers, symbols and texts are spelled (GAMS User's Guide, "Language Items").
+use Rattle.std.specs.Prelude.{◌≡◌, ◌⊎◌, ℕ, ◌<◌, true, false, not, ◌||◌, ◌==◌, List, [], ◌∷◌, ◌++◌, length}
+use Rattle.std.specs.List.{list_all}
+use Rattle.std.specs.Char.{is_ascii_alphabetic, is_ascii_alphanumeric, is_ascii_digit}
+use Rattle.std.specs.Str.{str_eq_ignore_ascii_case}
+use Rattle.gms_lines.specs.Lines.{begins}
+use Rattle.gms_lexemes.specs.declared.kind.Sym.{Sym}
+use Rattle.gms_lexemes.specs.Bytes.{is_name_byte, is_label_byte, is_quote, is_text_byte}
+use Rattle.gms_lexemes.specs.Numbers.{begins_dot, is_sign}
+use Rattle.gms_lexemes.specs.Symbols.{written}
+
+-- a word: a letter, then letters, digits and `_`
+abbrev pub IsWord : List ℕ → Type 0
+IsWord text = (begins is_ascii_alphabetic text ≡ true) × (list_all is_name_byte text ≡ true)
+
+-- an unquoted label: a letter or a digit, then letters, digits, `+`, `-` and `_`
+abbrev pub IsLabel : List ℕ → Type 0
+IsLabel text = (begins is_ascii_alphanumeric text ≡ true) × (list_all is_label_byte text ≡ true)
+
+-- a quoted text: a quotation mark, and the same mark again, with neither it nor a line feed between the two
+pub record IsQuoted (text : List ℕ) : Type 0 where
+  pub mark : ℕ
+  pub inner : List ℕ
+  pub quotes : is_quote mark ≡ true
+  pub free : list_all (λ b. not (b == mark || b == 10)) inner ≡ true
+  pub spelled : text ≡ mark ∷ (inner ++ mark ∷ [])
+
+-- an unquoted descriptive text: at least one byte, none of them `/`, `,`, `;`, a line feed or a carriage return
+abbrev pub IsUnquotedText : List ℕ → Type 0
+IsUnquotedText text = (0 < length text) × (begins is_quote text ≡ false) × (list_all is_text_byte text ≡ true)
+
+-- a descriptive text
+abbrev pub IsText : List ℕ → Type 0
+IsText text = IsQuoted text ⊎ IsUnquotedText text
+
+-- a symbol as it is written, letter case ignored
+abbrev pub IsSymbol : Sym → List ℕ → Type 0
+IsSymbol symbol text = str_eq_ignore_ascii_case text (written symbol) ≡ true
+
+-- at least one digit, and nothing else
+abbrev pub AreDigits : List ℕ → Type 0
+AreDigits text = (begins is_ascii_digit text ≡ true) × (list_all is_ascii_digit text ≡ true)
+
+-- the dot of a number with the digits behind it, of which there may be none; or nothing
+abbrev pub IsPoint : List ℕ → Type 0
+IsPoint [] = Unit {0}
+IsPoint (b ∷ digits) = (b ≡ 46) × (list_all is_ascii_digit digits ≡ true)
+
+-- a power of ten: an optional sign, and digits
+abbrev pub IsPower : List ℕ → Type 0
+IsPower [] = ⊥
+IsPower (b ∷ digits) = AreDigits (b ∷ digits) ⊎ ((is_sign b ≡ true) × AreDigits digits)
+
+-- the exponent of a number: `e` and a power of ten; or nothing
+abbrev pub IsExponent : List ℕ → Type 0
+IsExponent [] = Unit {0}
+IsExponent (b ∷ power) = ((b == 101 || b == 69) ≡ true) × IsPower power
+
+-- A number, and what stands behind it: digits, a dot with digits, and an exponent, with at least one digit before the exponent.
+-- No other dot follows its dot.
+pub record IsNumber (text behind : List ℕ) : Type 0 where
+  pub whole : List ℕ
+  pub point : List ℕ
+  pub exponent : List ℕ
+  pub spelled : text ≡ whole ++ (point ++ exponent)
+  pub digits : list_all is_ascii_digit whole ≡ true
+  pub fraction : IsPoint point
+  pub power : IsExponent exponent
+  pub some : (0 < length whole) ⊎ (1 < length point)
+  pub alone : point ≡ 46 ∷ [] → begins_dot (exponent ++ behind) ≡ false

@@ -1,0 +1,11 @@
+pub mod Feeds
+pub mod FedTokens
+pub mod Spaces
+pub mod SeamLines
+pub mod SeamTokens
+pub mod SeamTrees
+pub mod Flows
+pub mod Spots
+pub mod Standing
+pub mod Listless
+pub mod SeamSeen

@@ -1,0 +1,604 @@
+-- Where in a declaration the next token stands, as far as lists of data go: what the mode is behind tokens of some kinds.
+use Rattle.std.proofs.Common.{◌≡◌, ℕ, ◌==◌, ◌&&◌, ◌||◌, Bool, true, false, nat_lt, if◌then◌else◌, List, [], ◌∷◌, ◌++◌, length, Option, Some, None, refl, sym, ap, ap₂, ◌∙◌, subst, ◌⊎◌, inl, inr}
+use Rattle.std.proofs.lemmas.Slice.Eq.{bytes_eq-Decides}
+use Rattle.std.specs.List.{list_any, list_all}
+use Rattle.std.specs.Str.{bytes_eq, str_eq_ignore_ascii_case, str_to_ascii_lowercase}
+use Rattle.gms_lines.specs.ControlWords.{is_among}
+use Rattle.gms_lines.proofs.LineLemmas.{true_or_false}
+use Rattle.gms_lexemes.specs.declared.kind.Sym.{Sym}
+use Rattle.gms_lexemes.specs.declared.kind.Sym.TheVariants.{EqE, Slash as SlashSymbol, RightParen as Close, Comma as CommaSymbol, Semicolon as SemicolonSymbol, Dot as DotSymbol, DotDot as DotDotSymbol, Star as StarSymbol, Power as PowerSymbol}
+use Rattle.gms_lexemes.specs.declared.kind.Kind.{Kind}
+use Rattle.gms_lexemes.specs.declared.kind.Kind.TheVariants as kind
+use Rattle.gms_lex.specs.declared.keyword.Shape.{Shape}
+use Rattle.gms_lex.specs.declared.keyword.Shape.TheVariants as shape
+use Rattle.gms_lex.specs.declared.keyword.Keyword.{Keyword}
+use Rattle.gms_lex.specs.declared.keyword.Keyword.TheVariants as keyword
+use Rattle.gms_lex.specs.declared.mode.Stage.TheVariants.{Fresh, Due, After, Spaced}
+use Rattle.gms_lex.specs.declared.mode.Mode.{Mode}
+use Rattle.gms_lex.specs.declared.mode.Mode.TheVariants as mode
+use Rattle.gms_lex.specs.Keywords.{set_words, parameter_words, scalar_words, model_words, table_words, other_words, keyword_of}
+use Rattle.gms_lex.specs.Modes.{list_start, begun_by, behind_element, after_word, after_comma, after_stray_paren, after_token, after_gap, after_line, after_remark}
+use Rattle.gms_grammar.specs.declared.terminal.Terminal.{Terminal}
+use Rattle.gms_grammar.specs.declared.terminal.Terminal.TheVariants as terminal
+use Rattle.gms_expressions.specs.Words.{Words, statement_words, expression_words, other_words as more_words, kind_among, or_name, or_else, terminal_of_word, terminal_of_symbol, terminal_of_text, terminal_of}
+use Rattle.gms_seam.proofs.Flows.{has, within, within_has}
+
+-- ---- places and sorts
+
+-- Outside declarations and in tables; where an item is due; behind its name; in its domain; behind that; behind its text or list; in its list.
+pub data Spot : Type 0 where
+  out item named domain bare rest list : Spot
+
+-- two places are the same
+abbrev pub same : Spot → Spot → Bool
+same out out = true
+same item item = true
+same named named = true
+same domain domain = true
+same bare bare = true
+same rest rest = true
+same list list = true
+same _ _ = false
+
+pub same_is : (a b : Spot) → same a b ≡ true → a ≡ b
+same_is out out h = refl
+same_is item item h = refl
+same_is named named h = refl
+same_is domain domain h = refl
+same_is bare bare h = refl
+same_is rest rest h = refl
+same_is list list h = refl
+same_is _ _ h = absurd (let e : false ≡ true = h in cc)
+
+pub same_self : (a : Spot) → same a a ≡ true
+same_self out = refl
+same_self _ = refl
+
+-- the place of a mode
+abbrev pub spot_of : Mode → Spot
+spot_of (mode.Item shape) = item
+spot_of (mode.Named shape) = named
+spot_of (mode.Domain shape) = domain
+spot_of (mode.Bare shape) = bare
+spot_of (mode.Rest shape) = rest
+spot_of (mode.Element shape depth stage) = list
+spot_of (mode.Value shape) = list
+spot_of (mode.Tail shape) = list
+spot_of _ = out
+
+-- What a token does to a place.
+pub data Sort : Type 0 where
+  declarer leaving word label slash opening closing comma semicolon ending other : Sort
+
+abbrev pub sort_of : Terminal → Sort
+sort_of terminal.Set = declarer
+sort_of terminal.Parameter = declarer
+sort_of terminal.Scalar = declarer
+sort_of terminal.Variable = declarer
+sort_of terminal.Equation = declarer
+sort_of terminal.Model = declarer
+sort_of terminal.Table = leaving
+sort_of terminal.Abort = leaving
+sort_of terminal.Alias = leaving
+sort_of terminal.Display = leaving
+sort_of terminal.Loop = leaving
+sort_of terminal.Option = leaving
+sort_of terminal.Solve = leaving
+sort_of terminal.VariableType = leaving
+sort_of terminal.Name = word
+sort_of terminal.Suffix = word
+sort_of terminal.Function = word
+sort_of terminal.OrdCard = word
+sort_of terminal.FoldOp = word
+sort_of terminal.Infinity = word
+sort_of terminal.NotAvailable = word
+sort_of terminal.YesNo = word
+sort_of terminal.Not = word
+sort_of terminal.And = word
+sort_of terminal.Or = word
+sort_of terminal.RelationWord = word
+sort_of terminal.All = word
+sort_of terminal.Using = word
+sort_of terminal.Direction = word
+sort_of terminal.Reserved = word
+sort_of terminal.NotInProfile = word
+sort_of terminal.Label = label
+sort_of terminal.Slash = slash
+sort_of terminal.LeftParen = opening
+sort_of terminal.RightParen = closing
+sort_of terminal.Comma = comma
+sort_of terminal.Semicolon = semicolon
+sort_of terminal.Break = ending
+sort_of _ = other
+
+-- the places to which a token of a sort may lead from a place
+abbrev pub step : Spot → Sort → List Spot
+step out declarer = item ∷ out ∷ []
+step out sort = out ∷ []
+step item declarer = item ∷ []
+step item leaving = out ∷ []
+step item word = named ∷ []
+step item label = []
+step item semicolon = out ∷ []
+step item sort = item ∷ []
+step named declarer = item ∷ []
+step named leaving = out ∷ []
+step named word = rest ∷ []
+step named slash = list ∷ []
+step named opening = domain ∷ rest ∷ []
+step named comma = item ∷ []
+step named ending = item ∷ []
+step named semicolon = out ∷ []
+step named sort = named ∷ rest ∷ []
+step domain closing = bare ∷ []
+step domain semicolon = out ∷ []
+step domain sort = domain ∷ []
+step bare declarer = item ∷ []
+step bare leaving = out ∷ []
+step bare word = rest ∷ []
+step bare slash = list ∷ []
+step bare comma = item ∷ []
+step bare ending = item ∷ []
+step bare semicolon = out ∷ []
+step bare sort = bare ∷ rest ∷ []
+step rest declarer = item ∷ []
+step rest leaving = out ∷ []
+step rest slash = list ∷ []
+step rest comma = item ∷ []
+step rest ending = item ∷ []
+step rest semicolon = out ∷ []
+step rest sort = rest ∷ []
+step list slash = rest ∷ []
+step list semicolon = out ∷ []
+step list sort = list ∷ []
+
+-- a place is one of some
+abbrev pub Leads : Spot → Sort → Mode → Type 0
+Leads spot sort current = has same same_is (step spot sort) (spot_of current) ≡ true
+
+-- ---- symbols
+
+start_in_list : (s : Shape) → spot_of (list_start s) ≡ list
+start_in_list shape.Set = refl
+start_in_list shape.Parameter = refl
+start_in_list shape.Scalar = refl
+start_in_list shape.Model = refl
+
+either_in_list : (b : Bool) (x y : Mode) → spot_of x ≡ list → spot_of y ≡ list → spot_of (if b then x else y) ≡ list
+either_in_list true x y h k = h
+either_in_list false x y h k = k
+
+element_in_list : (s : Shape) (depth : ℕ) → spot_of (behind_element s depth) ≡ list
+element_in_list s depth = either_in_list (depth == 0) (mode.Tail s) (mode.Element s depth After) refl refl
+
+comma_in_list : (s : Shape) (depth : ℕ) → spot_of (after_comma s depth) ≡ list
+comma_in_list s depth = either_in_list (depth == 0) (list_start s) (mode.Element s depth Due) (start_in_list s) refl
+
+stray_in_list : (s : Shape) → spot_of (after_stray_paren s) ≡ list
+stray_in_list shape.Set = refl
+stray_in_list shape.Parameter = refl
+stray_in_list shape.Scalar = refl
+stray_in_list shape.Model = refl
+
+-- what leads to a list from a place
+to_list : (spot : Spot) (sort : Sort) (m : Mode) → has same same_is (step spot sort) list ≡ true → spot_of m ≡ list → Leads spot sort m
+to_list spot sort m h e = ap (has same same_is (step spot sort)) e ∙ h
+
+symbol_leads : (m : Mode) (s : Sym) (text : List ℕ) → Leads (spot_of m) (sort_of (terminal_of_symbol s)) (after_token m (kind.Symbol s) text)
+symbol_leads mode.Code EqE text = refl
+symbol_leads mode.Code _ text = refl
+symbol_leads (mode.Item s) EqE text = refl
+symbol_leads (mode.Item s) _ text = refl
+symbol_leads (mode.Named s) SlashSymbol text = to_list named slash (list_start s) refl (start_in_list s)
+symbol_leads (mode.Named s) _ text = refl
+symbol_leads (mode.Domain s) EqE text = refl
+symbol_leads (mode.Domain s) _ text = refl
+symbol_leads (mode.Bare s) SlashSymbol text = to_list bare slash (list_start s) refl (start_in_list s)
+symbol_leads (mode.Bare s) _ text = refl
+symbol_leads (mode.Rest s) SlashSymbol text = to_list rest slash (list_start s) refl (start_in_list s)
+symbol_leads (mode.Rest s) _ text = refl
+symbol_leads (mode.Element s depth Fresh) CommaSymbol text = to_list list comma (after_comma s depth) refl (comma_in_list s depth)
+symbol_leads (mode.Element s depth Fresh) _ text = refl
+symbol_leads (mode.Element s depth Due) CommaSymbol text = to_list list comma (after_comma s depth) refl (comma_in_list s depth)
+symbol_leads (mode.Element s depth Due) _ text = refl
+symbol_leads (mode.Element s depth After) CommaSymbol text = to_list list comma (after_comma s depth) refl (comma_in_list s depth)
+symbol_leads (mode.Element s depth After) Close text = refl
+symbol_leads (mode.Element s depth After) SlashSymbol text = refl
+symbol_leads (mode.Element s depth After) SemicolonSymbol text = refl
+symbol_leads (mode.Element s depth After) DotSymbol text = refl
+symbol_leads (mode.Element s depth After) DotDotSymbol text = refl
+symbol_leads (mode.Element s depth After) StarSymbol text = refl
+symbol_leads (mode.Element s depth After) PowerSymbol text = refl
+symbol_leads (mode.Element s depth After) _ text = to_list list other (behind_element s depth) refl (element_in_list s depth)
+symbol_leads (mode.Element s depth Spaced) CommaSymbol text = to_list list comma (after_comma s depth) refl (comma_in_list s depth)
+symbol_leads (mode.Element s depth Spaced) Close text = refl
+symbol_leads (mode.Element s depth Spaced) SlashSymbol text = refl
+symbol_leads (mode.Element s depth Spaced) SemicolonSymbol text = refl
+symbol_leads (mode.Element s depth Spaced) DotSymbol text = refl
+symbol_leads (mode.Element s depth Spaced) DotDotSymbol text = refl
+symbol_leads (mode.Element s depth Spaced) StarSymbol text = refl
+symbol_leads (mode.Element s depth Spaced) PowerSymbol text = refl
+symbol_leads (mode.Element s depth Spaced) _ text = to_list list other (behind_element s depth) refl (element_in_list s depth)
+symbol_leads (mode.Value s) CommaSymbol text = to_list list comma (list_start s) refl (start_in_list s)
+symbol_leads (mode.Value s) Close text = to_list list closing (after_stray_paren s) refl (stray_in_list s)
+symbol_leads (mode.Value s) _ text = refl
+symbol_leads (mode.Tail s) CommaSymbol text = to_list list comma (list_start s) refl (start_in_list s)
+symbol_leads (mode.Tail s) Close text = to_list list closing (after_stray_paren s) refl (stray_in_list s)
+symbol_leads (mode.Tail s) _ text = refl
+symbol_leads mode.TableName EqE text = refl
+symbol_leads mode.TableName _ text = refl
+symbol_leads mode.TableNamed EqE text = refl
+symbol_leads mode.TableNamed _ text = refl
+symbol_leads mode.TableDomain EqE text = refl
+symbol_leads mode.TableDomain _ text = refl
+symbol_leads mode.TableBare EqE text = refl
+symbol_leads mode.TableBare _ text = refl
+symbol_leads mode.TableTexted EqE text = refl
+symbol_leads mode.TableTexted _ text = refl
+symbol_leads mode.TableLines EqE text = refl
+symbol_leads mode.TableLines _ text = refl
+
+-- ---- words
+
+-- the sort of a word, by the statement that it begins
+abbrev key_sort : Option Keyword → Sort
+key_sort None = word
+key_sort (Some (keyword.Declarer s)) = declarer
+key_sort (Some keyword.Table) = leaving
+key_sort (Some keyword.Other) = leaving
+
+-- whether two sorts are these
+abbrev sort_number : Sort → ℕ
+sort_number declarer = 0
+sort_number leaving = 1
+sort_number word = 2
+sort_number _ = 3
+
+-- all words that begin statements
+abbrev all_words : List (List ℕ)
+all_words = set_words ++ (parameter_words ++ (scalar_words ++ (model_words ++ (table_words ++ other_words))))
+
+or_first : (a b : Bool) → (a || b) ≡ false → a ≡ false
+or_first true b h = cc
+or_first false b h = refl
+
+or_second : (a b : Bool) → (a || b) ≡ false → b ≡ false
+or_second true b h = cc
+or_second false b h = h
+
+among_append : (text : List ℕ) (xs ys : List (List ℕ)) → is_among text (xs ++ ys) ≡ (is_among text xs || is_among text ys)
+among_append text [] ys = refl
+among_append text (x ∷ xs) ys = ap (λ v. str_eq_ignore_ascii_case text x || v) (among_append text xs ys) ∙ regroup (str_eq_ignore_ascii_case text x) (is_among text xs) (is_among text ys)
+  where
+    regroup : (a b c : Bool) → (a || (b || c)) ≡ ((a || b) || c)
+    regroup true b c = refl
+    regroup false b c = refl
+
+-- the word that a text is, where it is one of some
+found_word : (text : List ℕ) (words : List (List ℕ)) (test : List ℕ → Bool) → is_among text words ≡ true → list_all test words ≡ true → (w : List ℕ) × (str_to_ascii_lowercase text ≡ str_to_ascii_lowercase w) × (test w ≡ true)
+found_word text [] test h all = cc
+found_word text (w ∷ words) test h all = elim (true_or_false (str_eq_ignore_ascii_case text w)) [
+  | inl e ↦ (w, (bytes_eq-Decides (str_to_ascii_lowercase text) (str_to_ascii_lowercase w)).0 e, first (test w) (list_all test words) all)
+  | inr d ↦ found_word text words test (sym (ap (λ v. v || is_among text words) d) ∙ h) (second (test w) (list_all test words) all)
+]
+  where
+    first : (a b : Bool) → (a && b) ≡ true → a ≡ true
+    first true b h = refl
+    first false b h = cc
+
+    second : (a b : Bool) → (a && b) ≡ true → b ≡ true
+    second true b h = h
+    second false b h = cc
+
+-- a text that is none of some words is none of others that stand among them
+abbrev stand_among : List (List ℕ) → List (List ℕ) → Bool
+stand_among words all = list_all (λ w. list_any (λ v. bytes_eq w v) all) words
+
+not_among : (text : List ℕ) (words : List (List ℕ)) (w : List ℕ) → is_among text words ≡ false → list_any (λ v. bytes_eq w v) words ≡ true → str_eq_ignore_ascii_case text w ≡ false
+not_among text [] w h k = cc
+not_among text (v ∷ words) w h k = elim (true_or_false (bytes_eq w v)) [
+  | inl e ↦ ap (str_eq_ignore_ascii_case text) ((bytes_eq-Decides w v).0 e) ∙ or_first (str_eq_ignore_ascii_case text v) (is_among text words) h
+  | inr d ↦ not_among text words w (or_second (str_eq_ignore_ascii_case text v) (is_among text words) h) (sym (ap (λ b. b || list_any (λ u. bytes_eq w u) words) d) ∙ k)
+]
+
+none_among : (text : List ℕ) (words all : List (List ℕ)) → is_among text all ≡ false → stand_among words all ≡ true → is_among text words ≡ false
+none_among text [] all h k = refl
+none_among text (w ∷ words) all h k = both (str_eq_ignore_ascii_case text w) (is_among text words) (not_among text all w h (first (list_any (λ v. bytes_eq w v) all) (stand_among words all) k)) (none_among text words all h (second (list_any (λ v. bytes_eq w v) all) (stand_among words all) k))
+  where
+    first : (a b : Bool) → (a && b) ≡ true → a ≡ true
+    first true b h = refl
+    first false b h = cc
+
+    second : (a b : Bool) → (a && b) ≡ true → b ≡ true
+    second true b h = h
+    second false b h = cc
+
+    both : (a b : Bool) → a ≡ false → b ≡ false → (a || b) ≡ false
+    both true b h k = cc
+    both false b h k = k
+
+-- no statement begins with a text that is none of these words
+no_statement : (text : List ℕ) (groups : List Words) → is_among text all_words ≡ false → list_all (λ (g : Words). stand_among g.1 all_words) groups ≡ true → kind_among text groups ≡ None
+no_statement text [] h k = refl
+no_statement text (g ∷ groups) h k =
+    ap (λ v. if v then Some g.0 else kind_among text groups) (none_among text g.1 all_words h (first (stand_among g.1 all_words) (list_all (λ (g : Words). stand_among g.1 all_words) groups) k))
+    ∙ no_statement text groups h (second (stand_among g.1 all_words) (list_all (λ (g : Words). stand_among g.1 all_words) groups) k)
+  where
+    first : (a b : Bool) → (a && b) ≡ true → a ≡ true
+    first true b h = refl
+    first false b h = cc
+
+    second : (a b : Bool) → (a && b) ≡ true → b ≡ true
+    second true b h = h
+    second false b h = cc
+
+-- groups of words of one sort
+abbrev AreWords : List Words → Type 0
+AreWords [] = Unit {0}
+AreWords (g ∷ groups) = (sort_of g.0 ≡ word) × AreWords groups
+
+word_kind : (text : List ℕ) (groups : List Words) (behind : Option Terminal) → AreWords groups → sort_of (or_name behind) ≡ word → sort_of (or_name (or_else (kind_among text groups) behind)) ≡ word
+word_kind text [] behind a h = h
+word_kind text (g ∷ groups) behind a h = by (is_among text g.1) (word_kind text groups behind a.1 h)
+  where
+    by : (b : Bool) → sort_of (or_name (or_else (kind_among text groups) behind)) ≡ word → sort_of (or_name (or_else (if b then Some g.0 else kind_among text groups) behind)) ≡ word
+    by true k = a.0
+    by false k = k
+
+else_none : (o : Option Terminal) → or_else o None ≡ o
+else_none None = refl
+else_none (Some t) = refl
+
+-- the keyword and the terminal of a text in lower case
+abbrev among_lower : List ℕ → List (List ℕ) → Bool
+among_lower low words = list_any (λ w. bytes_eq low (str_to_ascii_lowercase w)) words
+
+key_none : (text : List ℕ) → is_among text all_words ≡ false → keyword_of text ≡ None
+unfolding keyword_of
+key_none text h =
+    let r1 = parts set_words (parameter_words ++ (scalar_words ++ (model_words ++ (table_words ++ other_words)))) h in
+    let r2 = parts parameter_words (scalar_words ++ (model_words ++ (table_words ++ other_words))) r1.1 in
+    let r3 = parts scalar_words (model_words ++ (table_words ++ other_words)) r2.1 in
+    let r4 = parts model_words (table_words ++ other_words) r3.1 in
+    let r5 = parts table_words other_words r4.1 in
+    chain (is_among text set_words) (is_among text parameter_words) (is_among text scalar_words) (is_among text model_words) (is_among text table_words) (is_among text other_words) r1.0 r2.0 r3.0 r4.0 r5.0 r5.1
+  where
+    parts : (xs ys : List (List ℕ)) → is_among text (xs ++ ys) ≡ false → (is_among text xs ≡ false) × (is_among text ys ≡ false)
+    parts xs ys h = let e = sym (among_append text xs ys) ∙ h in (or_first (is_among text xs) (is_among text ys) e, or_second (is_among text xs) (is_among text ys) e)
+
+    chain : (a b c d e f : Bool) → a ≡ false → b ≡ false → c ≡ false → d ≡ false → e ≡ false → f ≡ false → (if a then Some (keyword.Declarer shape.Set) else (if b then Some (keyword.Declarer shape.Parameter) else (if c then Some (keyword.Declarer shape.Scalar) else (if d then Some (keyword.Declarer shape.Model) else (if e then Some keyword.Table else (if f then Some keyword.Other else None)))))) ≡ None
+    chain false false false false false false h1 h2 h3 h4 h5 h6 = refl
+    chain true b c d e f h1 h2 h3 h4 h5 h6 = absurd (let z : true ≡ false = h1 in cc)
+    chain a true c d e f h1 h2 h3 h4 h5 h6 = absurd (let z : true ≡ false = h2 in cc)
+    chain a b true d e f h1 h2 h3 h4 h5 h6 = absurd (let z : true ≡ false = h3 in cc)
+    chain a b c true e f h1 h2 h3 h4 h5 h6 = absurd (let z : true ≡ false = h4 in cc)
+    chain a b c d true f h1 h2 h3 h4 h5 h6 = absurd (let z : true ≡ false = h5 in cc)
+    chain a b c d e true h1 h2 h3 h4 h5 h6 = absurd (let z : true ≡ false = h6 in cc)
+
+-- what the lower case of a text tells
+abbrev kind_of_lower : List ℕ → List Words → Option Terminal
+kind_of_lower low [] = None
+kind_of_lower low (g ∷ groups) = if among_lower low g.1 then Some g.0 else kind_of_lower low groups
+
+abbrev terminal_of_lower : List ℕ → Terminal
+terminal_of_lower low = or_name (or_else (kind_of_lower low statement_words) (or_else (kind_of_lower low expression_words) (kind_of_lower low more_words)))
+
+abbrev keyword_of_lower : List ℕ → Option Keyword
+keyword_of_lower low =
+    if among_lower low set_words then Some (keyword.Declarer shape.Set) else (if among_lower low parameter_words then Some (keyword.Declarer shape.Parameter) else (if among_lower low scalar_words then Some (keyword.Declarer shape.Scalar) else (if among_lower low model_words then Some (keyword.Declarer shape.Model) else (if among_lower low table_words then Some keyword.Table else (if among_lower low other_words then Some keyword.Other else None)))))
+
+kind_lower : (text : List ℕ) (groups : List Words) → kind_among text groups ≡ kind_of_lower (str_to_ascii_lowercase text) groups
+kind_lower text [] = refl
+kind_lower text (g ∷ groups) = ap (λ o. if is_among text g.1 then Some g.0 else o) (kind_lower text groups)
+
+terminal_lower : (text : List ℕ) → terminal_of_word text ≡ terminal_of_lower (str_to_ascii_lowercase text)
+unfolding terminal_of_word
+terminal_lower text =
+    ap₂ (λ a b. or_name (or_else a b)) (kind_lower text statement_words) (ap₂ or_else (kind_lower text expression_words) (kind_lower text more_words))
+
+keyword_lower : (text : List ℕ) → keyword_of text ≡ keyword_of_lower (str_to_ascii_lowercase text)
+unfolding keyword_of
+keyword_lower text = refl
+
+-- of each word that begins a statement both tell the same
+abbrev tells_alike : List ℕ → Bool
+tells_alike w =
+    sort_number (sort_of (terminal_of_lower (str_to_ascii_lowercase w))) == sort_number (key_sort (keyword_of_lower (str_to_ascii_lowercase w))) && nat_lt (sort_number (sort_of (terminal_of_lower (str_to_ascii_lowercase w)))) 3
+
+all_alike : list_all tells_alike all_words ≡ true
+all_alike = refl
+
+number_is : (a b : Sort) → (sort_number a == sort_number b && nat_lt (sort_number a) 3) ≡ true → a ≡ b
+number_is declarer declarer h = refl
+number_is leaving leaving h = refl
+number_is word word h = refl
+number_is declarer _ h = absurd (let e : false ≡ true = h in cc)
+number_is leaving _ h = absurd (let e : false ≡ true = h in cc)
+number_is word _ h = absurd (let e : false ≡ true = h in cc)
+number_is _ declarer h = absurd (let e : false ≡ true = h in cc)
+number_is _ leaving h = absurd (let e : false ≡ true = h in cc)
+number_is _ word h = absurd (let e : false ≡ true = h in cc)
+number_is _ _ h = absurd (let e : false ≡ true = h in cc)
+
+-- a word that begins no statement
+no_keyword : (text : List ℕ) → is_among text all_words ≡ false → sort_of (terminal_of_word text) ≡ word
+unfolding terminal_of_word
+no_keyword text f =
+    ap (λ (o : Option Terminal). sort_of (or_name (or_else o (or_else (kind_among text expression_words) (kind_among text more_words))))) (no_statement text statement_words f refl)
+    ∙ word_kind text expression_words (kind_among text more_words) (refl, (refl, (refl, (refl, (refl, (refl, (refl, (refl, (refl, (refl, (refl, tt)))))))))))
+    (ap (λ (o : Option Terminal). sort_of (or_name o)) (sym (else_none (kind_among text more_words))) ∙ word_kind text more_words None (refl, (refl, (refl, (refl, (refl, tt))))) refl)
+
+-- a word is of the sort of the statement that it begins
+word_sort : (text : List ℕ) → sort_of (terminal_of_word text) ≡ key_sort (keyword_of text)
+word_sort text = elim (true_or_false (is_among text all_words)) [
+  | inl t ↦
+      let r = found_word text all_words tells_alike t all_alike in
+      ap sort_of (terminal_lower text ∙ ap terminal_of_lower r.1)
+      ∙ number_is (sort_of (terminal_of_lower (str_to_ascii_lowercase r.0))) (key_sort (keyword_of_lower (str_to_ascii_lowercase r.0))) r.2
+      ∙ sym (ap key_sort (keyword_lower text ∙ ap keyword_of_lower r.1))
+  | inr f ↦ no_keyword text f ∙ sym (ap key_sort (key_none text f))
+]
+
+begun_leads : (spot : Spot) (current : Mode) (k : Option Keyword) → has same same_is (step spot declarer) item ≡ true → has same same_is (step spot leaving) out ≡ true → Leads spot word current → Leads spot (key_sort k) (begun_by k current)
+begun_leads spot current None h l w = w
+begun_leads spot current (Some (keyword.Declarer s)) h l w = h
+begun_leads spot current (Some keyword.Table) h l w = l
+begun_leads spot current (Some keyword.Other) h l w = l
+
+-- which tokens do not stand in a mode
+abbrev pub CanStand : Mode → Kind → Type 0
+CanStand (mode.Item s) kind.Label = ⊥
+CanStand (mode.Named s) kind.Word = ⊥
+CanStand (mode.Bare s) kind.Word = ⊥
+CanStand _ _ = Unit {0}
+
+key_leads : (m : Mode) (k : Option Keyword) (sort : Sort) → spot_of m ≡ out → Leads out (key_sort k) (begun_by k m)
+key_leads m None sort e = ap (has same same_is (out ∷ [])) e
+key_leads m (Some (keyword.Declarer s)) sort e = refl
+key_leads m (Some keyword.Table) sort e = refl
+key_leads m (Some keyword.Other) sort e = refl
+
+stay_out : (k : Option Keyword) → has same same_is (step out (key_sort k)) out ≡ true
+stay_out None = refl
+stay_out (Some (keyword.Declarer s)) = refl
+stay_out (Some keyword.Table) = refl
+stay_out (Some keyword.Other) = refl
+
+stay_domain : (k : Option Keyword) → has same same_is (step domain (key_sort k)) domain ≡ true
+stay_domain None = refl
+stay_domain (Some (keyword.Declarer s)) = refl
+stay_domain (Some keyword.Table) = refl
+stay_domain (Some keyword.Other) = refl
+
+stay_list : (k : Option Keyword) → has same same_is (step list (key_sort k)) list ≡ true
+stay_list None = refl
+stay_list (Some (keyword.Declarer s)) = refl
+stay_list (Some keyword.Table) = refl
+stay_list (Some keyword.Other) = refl
+
+key_table : (m : Mode) (k : Option Keyword) → spot_of m ≡ out → Leads out (key_sort k) (begun_by k m)
+key_table m k e = key_leads m k word e
+
+word_leads : (m : Mode) (text : List ℕ) (k : Option Keyword) → k ≡ keyword_of text → CanStand m kind.Word → Leads (spot_of m) (key_sort k) (after_word m text)
+word_leads m text k e can = subst (λ (j : Option Keyword). Leads (spot_of m) (key_sort j) (after_word m text)) (sym e) (by m can)
+  where
+    by : (m : Mode) → CanStand m kind.Word → Leads (spot_of m) (key_sort (keyword_of text)) (after_word m text)
+    by mode.Code can = key_table mode.Code (keyword_of text) refl
+    by (mode.Item s) can = begun_leads item (mode.Named s) (keyword_of text) refl refl refl
+    by (mode.Named s) can = absurd can
+    by (mode.Domain s) can = stay_domain (keyword_of text)
+    by (mode.Bare s) can = absurd can
+    by (mode.Rest s) can = begun_leads rest (mode.Rest s) (keyword_of text) refl refl refl
+    by (mode.Element s depth Fresh) can = stay_list (keyword_of text)
+    by (mode.Element s depth Due) can = stay_list (keyword_of text)
+    by (mode.Element s depth After) can = ap (has same same_is (step list (key_sort (keyword_of text)))) (element_in_list s depth) ∙ stay_list (keyword_of text)
+    by (mode.Element s depth Spaced) can = ap (has same same_is (step list (key_sort (keyword_of text)))) (element_in_list s depth) ∙ stay_list (keyword_of text)
+    by (mode.Value s) can = stay_list (keyword_of text)
+    by (mode.Tail s) can = stay_list (keyword_of text)
+    by mode.TableName can = key_table mode.TableNamed (keyword_of text) refl
+    by mode.TableNamed can = stay_out (keyword_of text)
+    by mode.TableDomain can = stay_out (keyword_of text)
+    by mode.TableBare can = stay_out (keyword_of text)
+    by mode.TableTexted can = key_table mode.Code (keyword_of text) refl
+    by mode.TableLines can = key_table mode.Code (keyword_of text) refl
+
+-- ---- other tokens
+
+text_sort : (text : List ℕ) → sort_of (terminal_of_text text) ≡ other
+text_sort text = by (nat_lt 65 (length text))
+  where
+    by : (b : Bool) → sort_of (if b then terminal.LongText else terminal.Text) ≡ other
+    by true = refl
+    by false = refl
+
+label_leads : (m : Mode) (text : List ℕ) → CanStand m kind.Label → Leads (spot_of m) label (after_token m kind.Label text)
+label_leads (mode.Item s) text can = absurd can
+label_leads (mode.Element s depth After) text can = to_list list label (behind_element s depth) refl (element_in_list s depth)
+label_leads (mode.Element s depth Spaced) text can = to_list list label (behind_element s depth) refl (element_in_list s depth)
+label_leads (mode.Element s depth Fresh) text can = refl
+label_leads (mode.Element s depth Due) text can = refl
+label_leads mode.Code text can = refl
+label_leads _ text can = refl
+
+number_leads : (m : Mode) (text : List ℕ) → Leads (spot_of m) other (after_token m kind.Number text)
+number_leads (mode.Element s depth After) text = to_list list other (behind_element s depth) refl (element_in_list s depth)
+number_leads (mode.Element s depth Spaced) text = to_list list other (behind_element s depth) refl (element_in_list s depth)
+number_leads (mode.Element s depth Fresh) text = refl
+number_leads (mode.Element s depth Due) text = refl
+number_leads mode.Code text = refl
+number_leads _ text = refl
+
+break_leads : (m : Mode) (text : List ℕ) → Leads (spot_of m) ending (after_token m kind.Break text)
+break_leads (mode.Element s depth stage) text = to_list list ending (list_start s) refl (start_in_list s)
+break_leads (mode.Tail s) text = to_list list ending (list_start s) refl (start_in_list s)
+break_leads mode.Code text = refl
+break_leads _ text = refl
+
+line_leads : (m : Mode) (text : List ℕ) → Leads (spot_of m) other (after_token m kind.TableLine text)
+line_leads (mode.Element s depth stage) text = refl
+line_leads mode.Code text = refl
+line_leads _ text = refl
+
+-- a token leads from the place of a mode to that of the mode behind it; `text` is the token in the code, and `bytes` in the source
+pub token_leads : (m : Mode) (k : Kind) (text bytes : List ℕ) → CanStand m k → (k ≡ kind.Word → text ≡ bytes) → Leads (spot_of m) (sort_of (terminal_of k bytes)) (after_token m k text)
+token_leads m kind.Word text bytes can same =
+    subst (λ (s : Sort). Leads (spot_of m) s (after_word m text)) (sym (ap (λ t. sort_of (terminal_of_word t)) (sym (same refl)) ∙ word_sort text)) (word_leads m text (keyword_of text) refl can)
+token_leads m kind.Label text bytes can same = label_leads m text can
+token_leads m kind.Number text bytes can same = number_leads m text
+token_leads m kind.Text text bytes can same = subst (λ (s : Sort). Leads (spot_of m) s (after_token m kind.Text text)) (sym (text_sort bytes)) (number_leads m text)
+token_leads m (kind.Symbol s) text bytes can same = symbol_leads m s text
+token_leads m kind.Break text bytes can same = break_leads m text
+token_leads m kind.TableLine text bytes can same = line_leads m text
+token_leads m kind.End text bytes can same = number_leads m text
+
+-- ---- places that stand for modes
+
+-- behind a name or a domain a descriptive text may have been passed
+abbrev IsMild : Spot → Type 0
+IsMild named = Unit {0}
+IsMild bare = Unit {0}
+IsMild _ = ⊥
+
+-- a place stands for a mode: it is its place, or the mode is that behind a descriptive text
+abbrev pub StandsFor : Spot → Mode → Type 0
+StandsFor spot m = (spot ≡ spot_of m) ⊎ (IsMild spot × (spot_of m ≡ rest))
+
+mild_more : (spot : Spot) (sort : Sort) → IsMild spot → within same same_is (step rest sort) (step spot sort) ≡ true
+mild_more named declarer h = refl
+mild_more named _ h = refl
+mild_more bare declarer h = refl
+mild_more bare _ h = refl
+mild_more _ _ h = absurd h
+
+-- what a token leads to from a place that stands for a mode
+pub stands_leads : (spot : Spot) (m behind : Mode) (sort : Sort) → StandsFor spot m → Leads (spot_of m) sort behind → Leads spot sort behind
+stands_leads spot m behind sort (inl e) l = subst (λ (s : Spot). Leads s sort behind) (sym e) l
+stands_leads spot m behind sort (inr e) l =
+    within_has same same_is (step rest sort) (step spot sort) (spot_of behind) (mild_more spot sort e.0) (subst (λ (s : Spot). Leads s sort behind) e.1 l)
+
+-- what is no token leaves it
+pub stands_gap : (spot : Spot) (m : Mode) → StandsFor spot m → StandsFor spot (after_gap m)
+stands_gap spot (mode.Element s depth After) h = h
+stands_gap spot (mode.Element s depth Fresh) h = h
+stands_gap spot (mode.Element s depth Due) h = h
+stands_gap spot (mode.Element s depth Spaced) h = h
+stands_gap spot mode.Code h = h
+stands_gap spot _ h = h
+
+pub stands_line : (spot : Spot) (m : Mode) → StandsFor spot m → StandsFor spot (after_line m)
+stands_line spot mode.Code h = h
+stands_line spot _ h = h
+
+pub stands_remark : (spot : Spot) (m : Mode) → StandsFor spot m → StandsFor spot (after_remark m)
+stands_remark spot (mode.Named s) (inl e) = inr (subst IsMild (sym e) tt, refl)
+stands_remark spot (mode.Named s) (inr e) = absurd (let z : ◌≡◌ {A = Spot} named rest = e.1 in cc)
+stands_remark spot (mode.Bare s) (inl e) = inr (subst IsMild (sym e) tt, refl)
+stands_remark spot (mode.Bare s) (inr e) = absurd (let z : ◌≡◌ {A = Spot} bare rest = e.1 in cc)
+stands_remark spot (mode.Element s depth stage) h = h
+stands_remark spot mode.Code h = h
+stands_remark spot _ h = h
+
+-- a place that stands for a list is that of a list
+pub list_stands : (spot : Spot) (m : Mode) → StandsFor spot m → spot_of m ≡ list → spot ≡ list
+list_stands spot m (inl e) h = e ∙ h
+list_stands spot m (inr e) h = absurd (let z : ◌≡◌ {A = Spot} rest list = sym e.1 ∙ h in cc)

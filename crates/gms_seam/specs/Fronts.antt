@@ -1,0 +1,49 @@
+-- Joint sources: a saved source, and a file that goes on from it; what their tokens and their derivation have in front (GAMS User's Guide,
+-- "Save and Restart", "GAMS Programs").
+use Rattle.std.specs.Prelude.{◌≡◌, ℕ, List, [], ◌∷◌, ◌++◌, All}
+use Rattle.gms_lexemes.specs.declared.kind.Kind.TheVariants.{Break, Symbol}
+use Rattle.gms_lexemes.specs.declared.kind.Sym.TheVariants.{Semicolon}
+use Rattle.gms_lex.specs.declared.token.Token.{Token}
+use Rattle.gms_lex.specs.Tokens.{end_token}
+use Rattle.gms_grammar.specs.declared.terminal.Terminal.{Terminal}
+use Rattle.gms_grammar.specs.declared.terminal.Terminal.TheVariants.{End}
+use Rattle.gms_grammar.specs.Grammar.{the, Tree, leaf, pair, more, node, yield, IsTree}
+use Rattle.gms_grammar.specs.GamsGrammar.{Program, productions}
+use Rattle.gms_expressions.specs.Outcomes.{seen}
+
+-- the joint source: the saved source, a line end, a line with `;`, and the file
+abbrev pub joint_source : List ℕ → List ℕ → List ℕ
+joint_source saved file = saved ++ (10 ∷ 59 ∷ 10 ∷ file)
+
+-- The tokens of a joint source are those of the saved source without its end, line ends that are tokens, a `;`, and others.
+pub record HaveFront (saved : List ℕ) (tokens joint : List Token) : Type 0 where
+  pub own : List Token
+  pub tokens_are : tokens ≡ own ++ end_token saved ∷ []
+  pub ends : List Token
+  pub semicolon : Token
+  pub others : List Token
+  pub joint_are : joint ≡ own ++ ends ++ semicolon ∷ others
+  pub are_ends : All (λ (token : Token). token.kind ≡ Break) ends
+  pub is_semicolon : semicolon.kind ≡ Symbol Semicolon
+
+-- The tokens of a source are those of a program, which this tree derives, and the end.
+pub record Derives (source : List ℕ) (tokens : List Token) (tree : Tree (Terminal × Token)) : Type 0 where
+  pub end : Token
+  pub is_tree : IsTree productions (the Program) tree
+  pub yields : seen source tokens ≡ yield tree ++ (End, end) ∷ []
+
+-- semicolons with what stands behind each, and more of them
+abbrev pub attach : {T : Type 0} → Tree T → Tree T → Tree T
+attach (more first others) tree = more first (attach others tree)
+attach _ tree = tree
+
+-- The derivation of a program begins with that of another: behind the same segments, of which each but the first stands behind a `;`, come a
+-- `;` and more of them.
+pub record BeginsWith (whole first : Tree (Terminal × Token)) : Type 0 where
+  pub segment : Tree (Terminal × Token)
+  pub others : Tree (Terminal × Token)
+  pub first_is : first ≡ node (pair segment others)
+  pub semicolon : Terminal × Token
+  pub next : Tree (Terminal × Token)
+  pub last : Tree (Terminal × Token)
+  pub whole_is : whole ≡ node (pair segment (attach others (more (pair (leaf semicolon) next) last)))

@@ -1,0 +1,28 @@
+//! Laws of joint sources.
+ghost use Rattle.std.specs.Prelude.{◌≡◌, ℕ, List, [], ◌++◌};
+ghost use Rattle.gms_lines.specs.Lines.{code_text};
+ghost use Rattle.gms_lex.specs.declared.token.Token.{Token};
+ghost use Rattle.gms_lex.specs.Tokens.{IsTokens};
+ghost use Rattle.gms_grammar.specs.declared.terminal.Terminal.{Terminal};
+ghost use Rattle.gms_grammar.specs.Grammar.{Tree};
+ghost use Rattle.gms_expressions.specs.Outcomes.{seen};
+ghost use Rattle.gms_seam.specs.Fronts.{joint_source, HaveFront, Derives, BeginsWith};
+
+/// A joint source begins as its saved source does, whatever that ends in: a table, a comment, a list of data, or a statement without
+/// its `;` (GAMS User's Guide, "Save and Restart", "GAMS Programs").
+///
+/// Its tokens begin with those of the saved source, which are the same to the grammar in both, and a `;` follows them. Line ends may
+/// stand before the `;` as tokens where the saved source ends within a list of data; where it is a program, there are none. And where
+/// both are programs, the derivation of the joint source begins with that of the saved source.
+pub fn seam_laws()
+    ensures tokens { (saved file : List ℕ) (tokens joint : List Token) →
+        IsTokens saved tokens → IsTokens (joint_source saved file) joint → HaveFront saved tokens joint }
+    ensures seen { (saved file : List ℕ) (tokens joint : List Token) → IsTokens saved tokens →
+        (front : HaveFront saved tokens joint) → seen (joint_source saved file) front.own ≡ seen saved front.own }
+    ensures no_ends { (saved file : List ℕ) (tokens joint : List Token) (tree : Tree (Terminal × Token)) →
+        IsTokens saved tokens → IsTokens (joint_source saved file) joint → Derives saved tokens tree →
+        (front : HaveFront saved tokens joint) → front.ends ≡ [] }
+    ensures derivation { (saved file : List ℕ) (tokens joint : List Token) (first whole : Tree (Terminal × Token)) →
+        IsTokens saved tokens → IsTokens (joint_source saved file) joint →
+        Derives saved tokens first → Derives (joint_source saved file) joint whole → BeginsWith whole first }
+{}

@@ -1,0 +1,6 @@
+//! Floor 2, source to tree. Joint sources, of a saved source and a file that goes on from it: what their tokens and their derivation begin with.
+#![tactic(auto)]
+
+mod laws;
+
+pub use laws::seam_laws;

@@ -1,0 +1,153 @@
+//! Values at tuples: a finite map in two parts.
+ghost use Rattle.std.specs.Prelude.{◌≡◌, ◌<◌, ◌++◌, ◌∷◌, [], ℕ, List, length, IsTrue, IfSome, IfNone, IfOk, OnOk, OnErr, set};
+ghost use Rattle.std.specs.Map.{keys_of};
+ghost use Rattle.std.specs.FinMap as finite;
+ghost use Rattle.gms_tuple.specs.TupleOrder.{tuple_cmp, IsOrdered};
+ghost use Rattle.gms_store.specs.Parts.{StandsAt};
+
+use gms_tuple::Tuple;
+use std::alloc::{AllocError, Global};
+use std::cmp::Ordering;
+use std::collections::BTreeMap;
+use std::marker::Model;
+
+/// Values at tuples. One that is put at a tuple behind all others is put there without a search, and counts before what the
+/// tree has; where it is taken out, its place stays.
+pub(crate) struct Values<X> {
+    tree: BTreeMap<Tuple, X>,
+    behind: Vec<(Tuple, Option<X>)>,
+}
+
+// Written out, so that it is proved here alone, and not in each crate that lets one go.
+impl<X: Drop> Drop for Values<X> {
+    fn drop(self) {
+        let Self { tree: _, behind: _ } = self;
+    }
+}
+
+impl<X> Model for Values<X> {
+    ghost use Rattle.std.specs.Coded.{coded_list, coded_ℕ};
+    ghost use Rattle.std.specs.Map.{keys_of};
+    ghost use Rattle.std.specs.FinMap as finite;
+    ghost use Rattle.gms_tuple.specs.TupleOrder.{tuple_cmp, IsOrdered};
+    ghost use Rattle.gms_store.specs.Parts.{in_two_parts};
+
+    ghost Value = { finite.FinMap tuple_cmp X };
+
+    ghost coded = { finite.code (coded_list coded_ℕ) X.code };
+
+    ghost view = { λ v. in_two_parts v.behind.items v.tree.entries };
+
+    ghost invariant = { λ v. IsOrdered (keys_of v.behind.items) };
+}
+
+impl<X: Copy> Values<X> {
+    /// No values.
+    pub fn new(alloc: Global) -> Values<X>
+        ensures { result ≡ finite.empty }
+    {
+        Values {
+            tree: BTreeMap::new(alloc),
+            behind: Vec::new(alloc),
+        }
+    }
+
+    /// The value at a tuple, where there is one.
+    pub fn get(&self, t: &Tuple) -> Option<X>
+        ensures { result ≡ finite.get self.now t.now }
+    {
+        match place_in(&self.behind, t) {
+            Some(place) => self.behind[place].1,
+            None => self.tree.get(t).copied(),
+        }
+    }
+
+    /// Puts a value at a tuple. After want of memory the values are as they were.
+    pub fn insert(&mut self, alloc: Global, t: &Tuple, value: X) -> Result<(), AllocError>
+        ensures ok { OnOk result (self.new ≡ finite.insert self.old t.now value) }
+        ensures err { OnErr result (self.new ≡ self.old) }
+    {
+        if comes_last(&self.behind, t) {
+            let tuple = t.copy(alloc)?;
+            self.behind.push((tuple, Some(value)))?;
+            return Ok(());
+        }
+        if let Some(place) = place_in(&self.behind, t) {
+            put_at(&mut self.behind, place, Some(value));
+            return Ok(());
+        }
+        let tuple = t.copy(alloc)?;
+        self.tree.insert(tuple, value)?;
+        Ok(())
+    }
+
+    /// An equal map, where the tree has no values.
+    pub fn copy(&self, alloc: Global) -> Result<Option<Values<X>>, AllocError>
+        ensures { IfOk result (λ some. IfSome some (λ copy. copy ≡ self.now)) }
+    {
+        if !self.tree.is_empty() {
+            return Ok(None);
+        }
+        let behind = copied(alloc, &self.behind)?;
+        let tree = BTreeMap::new(alloc);
+        Ok(Some(Values { tree, behind }))
+    }
+
+    /// Takes the value at a tuple out, where there is one.
+    pub fn remove(&mut self, t: &Tuple)
+        ensures { self.new ≡ finite.remove self.old t.now }
+    {
+        match place_in(&self.behind, t) {
+            Some(place) => put_at(&mut self.behind, place, None),
+            None => {
+                self.tree.remove(t);
+            }
+        }
+    }
+}
+
+/// The place of a tuple among tuples in order.
+fn place_in<X>(behind: &[(Tuple, Option<X>)], t: &Tuple) -> Option<usize>
+    requires { IsOrdered (keys_of behind.now) }
+    ensures there { IfSome result (λ place. StandsAt behind.now place t.now) }
+    ensures absent { IfNone result (finite.find tuple_cmp t.now behind.now ≡ None) }
+{
+    match behind.binary_search_by(|entry| entry.0.order(t)) {
+        Ok(place) => Some(place),
+        Err(_) => None,
+    }
+}
+
+/// Whether a tuple comes behind all tuples that are in order.
+fn comes_last<X>(behind: &[(Tuple, Option<X>)], t: &Tuple) -> bool
+    requires { IsOrdered (keys_of behind.now) }
+    ensures { IsTrue result → IsOrdered (keys_of behind.now ++ t.now ∷ []) }
+{
+    match behind.last() {
+        Some(last) => last.0.order(t) == Ordering::Less,
+        None => true,
+    }
+}
+
+/// Puts a value, or none, at a place.
+fn put_at<X: Copy>(behind: &mut Vec<(Tuple, Option<X>)>, place: usize, value: Option<X>)
+    requires { place < length behind.old.items }
+    ensures { (t : List ℕ) → StandsAt behind.old.items place t → behind.new.items ≡ set behind.old.items place (t, value) }
+{
+    behind[place].1 = value;
+}
+
+/// Equal tuples, with the same values.
+fn copied<X: Copy>(
+    alloc: Global,
+    behind: &[(Tuple, Option<X>)],
+) -> Result<Vec<(Tuple, Option<X>)>, AllocError>
+    ensures { IfOk result (λ copy. copy.items ≡ behind.now) }
+{
+    let mut copy = Vec::with_capacity(alloc, behind.len())?;
+    for entry in behind {
+        let tuple = entry.0.copy(alloc)?;
+        copy.push((tuple, entry.1))?;
+    }
+    Ok(copy)
+}

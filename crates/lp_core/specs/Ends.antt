@@ -1,0 +1,80 @@
+-- How a search ends at a dictionary: the condition of each kind of end, what the way back tells, and what may keep it from being told
+-- (Chvatal, Linear Programming, chapters 2, 3 and 8). The steps of the way back stand in Steps, and what proves an end in Proofs.
+use Rattle.std.specs.Prelude.{◌≡◌, ℕ, ◌+◌, ◌<◌, ◌⊎◌, [], map, None}
+use Rattle.gq_number.specs.Number.{Number}
+use Rattle.lp_core.specs.declared.answer.Pivot.{Pivot}
+use Rattle.lp_core.specs.declared.answer.Rule.{Rule}
+use Rattle.lp_core.specs.declared.answer.StepName.{StepName}
+use Rattle.lp_core.specs.declared.answer.EndKind.{EndKind}
+use Rattle.lp_core.specs.declared.answer.EndKind.TheVariants as kind
+use Rattle.lp_core.specs.declared.answer.End.{End}
+use Rattle.lp_core.specs.declared.answer.End.TheVariants.{Optimal, Infeasible, Unbounded, Interrupted, Refused}
+use Rattle.lp_core.specs.declared.program.Lp.{Lp}
+use Rattle.lp_core.specs.Proofs.{row_sums, IsProved}
+use Rattle.lp_core.specs.StandardForm.{Last, levels_back, duals_back, reduced_back, farkas_back, ray_back}
+use Rattle.lp_core.specs.Dictionary.{Dictionary, OpeningIsDue, InPhaseOne, Limits}
+use Rattle.lp_core.specs.Steps.{AllFit, FirstStop, ratio_steps, exchange_steps, steps_back}
+use Rattle.lp_core.specs.Pivots.{IsChosen, NothingImproves, TestFits, last_of, last_along}
+
+-- a variable is chosen that no row limits
+abbrev pub IsUnlimitedBy : (ℕ → Type 0) → Dictionary → ℕ → Type 0
+IsUnlimitedBy Chosen d q = ¬ (OpeningIsDue d) × Chosen q × ((k : ℕ) → ¬ (Limits d q k))
+
+-- a further pivot is due: the opening one, or a variable is chosen that some row limits
+abbrev pub IsGoingOnBy : (ℕ → Type 0) → Dictionary → Type 0
+IsGoingOnBy Chosen d = OpeningIsDue d ⊎ (¬ (OpeningIsDue d) × ((q k : ℕ) × Chosen q × Limits d q k))
+
+-- the phase of a dictionary: 1 while variable 0 is basic or is still to enter
+abbrev pub IsPhase : Dictionary → ℕ → Type 0
+IsPhase d phase = ((phase ≡ 1) × (OpeningIsDue d ⊎ InPhaseOne d)) ⊎ ((phase ≡ 2) × ¬ (OpeningIsDue d) × ¬ (InPhaseOne d))
+
+-- a step of a further pivot, the n-th, that does not fit: one of the ratio test, or of the exchange where that test fits
+abbrev pub PivotStopsBy : (Pivot → ℕ → Type 0) → (ℕ → Type 0) → ℕ → ℕ → Dictionary → StepName → Type 0
+PivotStopsBy Allowed Chosen limit n d step =
+    (¬ (OpeningIsDue d) × ((q k : ℕ) × Chosen q × Limits d q k × FirstStop (ratio_steps limit n d q) step))
+    ⊎ ((p : Pivot) × (k : ℕ) × Allowed p k × TestFits limit n d p × FirstStop (exchange_steps limit n d p.enter k) step)
+
+-- a variable is chosen by the rule that no row limits
+abbrev pub IsUnlimited : Rule → Dictionary → ℕ → Type 0
+IsUnlimited rule d q = IsUnlimitedBy (IsChosen rule d) d q
+
+-- ---- the kinds of ends
+
+-- At a dictionary a search ends by this kind, and this is read from it: nothing improves, and variable 0 is not basic; or it is; a
+-- variable is chosen that no row limits, and what is read is read along it; or the search is broken off in phase 2.
+abbrev pub EndsAt : (ℕ → Type 0) → Type 0 → Dictionary → EndKind → Last → Type 0
+EndsAt Chosen BrokenOff d kind.Optimal last = ¬ (InPhaseOne d) × NothingImproves d × (last ≡ last_of d)
+EndsAt Chosen BrokenOff d kind.Infeasible last = InPhaseOne d × NothingImproves d × (last ≡ last_of d)
+EndsAt Chosen BrokenOff d kind.Unbounded last = ¬ (InPhaseOne d) × ((q : ℕ) × IsUnlimitedBy Chosen d q × (last ≡ last_along d q))
+EndsAt Chosen BrokenOff d kind.Interrupted last = ¬ (InPhaseOne d) × ¬ (OpeningIsDue d) × BrokenOff × (last ≡ last_of d)
+
+module _ {F : Type 0} (value : F → Number) (lp : Lp F) where
+  -- the way back: what an end of this kind tells, by what was read from the last dictionary
+  abbrev pub LeadsTo : EndKind → Last → End F → Type 0
+  LeadsTo kind.Optimal last (Optimal levels row_levels duals reduced) =
+      (map value levels ≡ levels_back value lp last) × (map value row_levels ≡ row_sums value lp (levels_back value lp last))
+      × (map value duals ≡ duals_back value lp last) × (map value reduced ≡ reduced_back value lp last)
+  LeadsTo kind.Infeasible last (Infeasible duals crossed) = (map value duals ≡ farkas_back value lp last) × (crossed ≡ None)
+  LeadsTo kind.Unbounded last (Unbounded levels row_levels ray) =
+      (map value levels ≡ levels_back value lp last) × (map value row_levels ≡ row_sums value lp (levels_back value lp last))
+      × (map value ray ≡ ray_back value lp last)
+  LeadsTo kind.Interrupted last (Interrupted phase levels row_levels) =
+      (phase ≡ 2) × (map value levels ≡ levels_back value lp last) × (map value row_levels ≡ row_sums value lp (levels_back value lp last))
+  LeadsTo other last end = ⊥
+
+module _ {F : Type 0} (value : F → Number) (limit : ℕ) (lp : Lp F) where
+  -- an end of this kind: all steps of the way back fit, and the end is what that way tells, and is proved; or it is refused with the
+  -- first step of the way back that does not fit
+  abbrev pub EndsWith : EndKind → Last → End F → Type 0
+  EndsWith how last end =
+      (LeadsTo value lp how last end × AllFit (steps_back value limit lp how last) × IsProved value lp end)
+      ⊎ ((step : StepName) × (end ≡ Refused step) × FirstStop (steps_back value limit lp how last) step)
+
+module _ {F : Type 0} (value : F → Number) (limit : ℕ) (lp : Lp F) (iterlim : ℕ) (Allowed : Pivot → ℕ → Type 0) (Chosen : ℕ → Type 0) where
+  -- The end of a search that stands at a dictionary after so many pivots. It ends by a kind, and so the end is one of that kind; or
+  -- the limit of pivots is met in phase 1, of which nothing is told; or it is refused with a step of a further pivot.
+  abbrev pub EndsSoBy : ℕ → Dictionary → End F → Type 0
+  EndsSoBy pivots d end =
+      ((how : EndKind) × (last : Last) × EndsAt Chosen ((pivots ≡ iterlim) × IsGoingOnBy Chosen d) d how last × EndsWith value limit lp how last end)
+      ⊎ ((pivots ≡ iterlim) × IsPhase d 1 × IsGoingOnBy Chosen d × (end ≡ Interrupted 1 [] []))
+      ⊎ ((pivots < iterlim) × ((step : StepName) × (end ≡ Refused step) × PivotStopsBy Allowed Chosen limit (pivots + 1) d step))

@@ -1,0 +1,113 @@
+-- What is read from a dictionary, and pivots that lead from one to another (Chvatal, Linear Programming, chapters 2 and 3).
+use Rattle.std.specs.Prelude.{◌≡◌, ℕ, ◌+◌, ◌≤◌, pos, List, [], ◌∷◌, ◌++◌, length, map, Option, Some, None, if◌then◌else◌, ◌==◌, position, unwrap_or}
+use Rattle.std.specs.List.{range_with_len}
+use Rattle.gq_number.specs.Number.{Number, whole, neg_ℚ}
+use Rattle.lp_core.specs.declared.answer.Pivot.{Pivot}
+use Rattle.lp_core.specs.declared.answer.Rule.{Rule}
+use Rattle.lp_core.specs.declared.answer.Rule.TheVariants.{Bland, Legal}
+use Rattle.lp_core.specs.StandardForm.{Last}
+use Rattle.lp_core.specs.Dictionary.{Dictionary, basic_at, constant_at, entry_at, OpeningIsDue, Improves, Ties, IsLeast, IsLegal, IsBland, exchanged}
+use Rattle.lp_core.specs.Steps.{AllFit, ratio_steps, exchange_steps}
+
+-- ---- what is read from a dictionary
+
+-- the row of a basic variable, none for another
+abbrev pub row_of_basic : Dictionary → ℕ → Option ℕ
+row_of_basic d v = position (λ b. b == v) d.basic
+
+-- the value of a variable where those that are not basic are 0: its row's constant
+abbrev pub value_by_row : Dictionary → Option ℕ → Number
+value_by_row d None = whole (pos 0)
+value_by_row d (Some k) = constant_at d k
+
+-- the change of a variable where q rises by 1: its row's number of q, negated
+abbrev pub change_by_row : Dictionary → ℕ → ℕ → Option ℕ → Number
+change_by_row d q v None = if q == v then whole (pos 1) else whole (pos 0)
+change_by_row d q v (Some k) = neg_ℚ (entry_at d k q)
+
+-- the coefficient of a variable in the priced row, 0 for a basic one
+abbrev pub cost_by_row : Dictionary → ℕ → ℕ → Option ℕ → Number
+cost_by_row d k v None = entry_at d k v
+cost_by_row d k v (Some row) = whole (pos 0)
+
+-- the priced row: that of variable 0 while it is basic, else the objective
+abbrev pub priced_row : Dictionary → ℕ
+priced_row d = unwrap_or (row_of_basic d 0) (length d.basic)
+
+-- all variables, from number 0
+abbrev pub all_variables : Dictionary → List ℕ
+all_variables d = range_with_len 0 (d.variables + 1)
+
+-- values and coefficients of all variables, with no ray
+abbrev pub last_of : Dictionary → Last
+last_of d =
+    record {
+      values = map (λ v. value_by_row d (row_of_basic d v)) (all_variables d);
+      costs = map (λ v. cost_by_row d (priced_row d) v (row_of_basic d v)) (all_variables d);
+      changes = [];
+    }
+
+-- the same with the ray along which q rises
+abbrev pub last_along : Dictionary → ℕ → Last
+last_along d q = record (last_of d) { changes = map (λ v. change_by_row d q v (row_of_basic d v)) (all_variables d) }
+
+-- ---- the rules
+
+-- a pivot that the rule allows; k is the row of the variable that leaves
+abbrev pub IsAllowed : Rule → Dictionary → Pivot → ℕ → Type 0
+IsAllowed Bland d p k = IsLegal d p k × IsBland d p
+IsAllowed Legal d p k = IsLegal d p k
+
+-- a variable that the rule allows to choose: it improves, and under Bland no lesser one does
+abbrev pub IsChosen : Rule → Dictionary → ℕ → Type 0
+IsChosen Bland d q = Improves d q × ((v : ℕ) → Improves d v → q ≤ v)
+IsChosen Legal d q = Improves d q
+
+-- nothing is left to choose
+abbrev pub NothingImproves : Dictionary → Type 0
+NothingImproves d = ¬ (OpeningIsDue d) × ((v : ℕ) → ¬ (Improves d v))
+
+-- the ratio steps of a pivot, of which the opening one has none
+abbrev pub TestFits : ℕ → ℕ → Dictionary → Pivot → Type 0
+TestFits limit n d p = ¬ (OpeningIsDue d) → AllFit (ratio_steps limit n d p.enter)
+
+-- A pivot at a dictionary by what is chosen there: a chosen variable enters, and the least of the tied ones leaves, which is
+-- variable 0 where it ties; at the opening the least variable among those with the least constant leaves.
+pub record IsTaken (Chosen : ℕ → Type 0) (d : Dictionary) (p : Pivot) : Type 0 where
+  pub enters : ¬ (OpeningIsDue d) → Chosen p.enter
+  pub leaves : (i : ℕ) → ¬ (OpeningIsDue d) → Ties d p.enter i → p.leave ≤ basic_at d i
+  pub opens : (i : ℕ) → OpeningIsDue d → IsLeast d i → p.leave ≤ basic_at d i
+
+-- a legal pivot by what is chosen; k is the row of the variable that leaves
+abbrev pub IsAllowedBy : (ℕ → Type 0) → Dictionary → Pivot → ℕ → Type 0
+IsAllowedBy Chosen d p k = IsLegal d p k × IsTaken Chosen d p
+
+-- ---- ways from one dictionary to another, over numbers without limit; and whether their steps fit
+
+-- Which pivots are allowed is told by the pivots so far, the dictionary to which they lead, the pivot, and the row of the
+-- variable that leaves. A rule does not look at the pivots so far.
+abbrev pub ByRule : Rule → List Pivot → Dictionary → Pivot → ℕ → Type 0
+ByRule rule done d p k = IsAllowed rule d p k
+
+-- the same by a choice of the variable that enters, which is told by the first dictionary, the pivots so far, the dictionary to
+-- which they lead and the variable; of the tied variables the least leaves
+abbrev pub ByChoice : (Dictionary → List Pivot → Dictionary → ℕ → Type 0) → Dictionary → List Pivot → Dictionary → Pivot → ℕ → Type 0
+ByChoice choice first done d p k = IsAllowedBy (choice first done d) d p k
+
+module _ (Allowed : List Pivot → Dictionary → Pivot → ℕ → Type 0) where
+  -- pivots lead from one dictionary, to which those of `done` have led, to another: each is allowed, at the dictionary to which
+  -- those before it lead
+  abbrev pub Leads : List Pivot → Dictionary → List Pivot → Dictionary → Type 0
+  Leads done d [] last = last ≡ d
+  Leads done d (p ∷ pivots) last = (k : ℕ) × Allowed done d p k × Leads (done ++ p ∷ []) (exchanged d p.enter k) pivots last
+
+  -- all steps on such a way fit under a limit; the first of its pivots is the n-th
+  abbrev pub PivotsFit : ℕ → ℕ → (done : List Pivot) (d : Dictionary) (pivots : List Pivot) (last : Dictionary) → Leads done d pivots last → Type 0
+  PivotsFit limit n done d [] last way = Unit {0}
+  PivotsFit limit n done d (p ∷ pivots) last way =
+      TestFits limit n d p × AllFit (exchange_steps limit n d p.enter way.0)
+      × PivotsFit limit (n + 1) (done ++ p ∷ []) (exchanged d p.enter way.0) pivots last way.2
+
+  -- pivots lead from one dictionary to another, and all their steps fit
+  abbrev pub LeadsWithin : ℕ → ℕ → List Pivot → Dictionary → List Pivot → Dictionary → Type 0
+  LeadsWithin limit n done d pivots last = (way : Leads done d pivots last) × PivotsFit limit n done d pivots last way
