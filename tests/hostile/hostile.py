@@ -50,7 +50,7 @@ def words_of(doc, *options):
     parser.add_argument('--only', default='', metavar='TEXT', help='the sources whose name holds TEXT')
     parser.add_argument('--jobs', type=int, default=os.cpu_count() or 1, metavar='N', help='how many runs go side by side')
     for name, kind, first, said in options:
-        parser.add_argument(name, type=kind, default=first, metavar='N', help=said)
+        parser.add_argument(name, type=kind, default=first, metavar='N' if kind is int else 'FOLDER', help=said)
     words = parser.parse_args()
     words.program = os.path.abspath(words.program) if words.program else own_program()
     return words

@@ -17,7 +17,6 @@ use Rattle.gms_grammar.proofs.Sound.{sound}
 use Rattle.gms_grammar.proofs.Starts.{Starts, starts}
 use Rattle.gms_grammar.proofs.Decided.{gams_decided}
 use Rattle.gms_expressions.specs.declared.fault.SyntaxFaultOrMemory.{SyntaxFaultOrMemory}
-use Rattle.gms_expressions.specs.declared.fault.SyntaxFaultOrMemory.TheVariants.{Memory}
 use Rattle.gms_expressions.specs.declared.reader.Reader.{Reader}
 use Rattle.gms_expressions.specs.declared.reader.Tables.{Tables}
 use Rattle.gms_expressions.specs.ExpressionTrees.{or_alone, first_place, place_in}
@@ -27,7 +26,7 @@ use Rattle.gms_expressions.specs.Readings.{Seen, Derivation, GamsPart, Meaning, 
 use Rattle.gms_expressions.proofs.TokenKinds.{is_plain, implies}
 use Rattle.gms_expressions.proofs.Steps.{Within, within_the, within_second, within_then, gives_both, refuses_second}
 use Rattle.gms_expressions.proofs.Nexts.{gives_next, leads_next, unled_next}
-use Rattle.gms_expressions.proofs.Loops.{Looping, loop_on, loop_got, loop_refuses, loop_memory}
+use Rattle.gms_expressions.proofs.Loops.{Looping, loop_on, loop_got, loop_refuses}
 
 -- where a tree begins is where the next token stood
 place_begun : (source : List ℕ) (p : GamsPart) {ts : List Seen} (rest : List Seen) (tree : Derivation) → may_be_empty look_ahead p ≡ false → IsTree productions p tree × (ts ≡ yield tree ++ rest) → place_in tree ≡ next_place source ts
@@ -55,7 +54,7 @@ parts_before_all (p ∷ ps) = ap (part p.0 p.1) (parts_before_all ps)
 
 -- a meaning, in a sense
 abbrev pub in_sense : {X : Type 0} → List ℕ → Meaning X → Sense → Derivation → X
-in_sense source meaning sense tree = meaning source sense.names sense.labels sense.value tree
+in_sense source meaning sense tree = meaning source sense.names sense.labels tree
 
 -- what a chain is, of which a first part and some others were read
 abbrev pub chain_made : (Parts Number → Syntax Number) → Mark → Syntax Number → List (Mark × Syntax Number) → Parts Number → Syntax Number
@@ -145,9 +144,3 @@ pub chain_refuses : {limit : ℕ} {whole : Meaning (Syntax Number)} {others : Me
     Chain limit P (one test · sub) whole others make views reader start old new at → {behind : ℕ} {token : Token} {last : Tables} {e : SyntaxFaultOrMemory} (n : IsNext test reader at token behind) → implies test is_plain ≡ true →
     Refuses limit reader.source.now sub last (walk_of reader.unclosed new) (seen_from reader behind) e → Refuses limit reader.source.now P last (walk_of reader.unclosed old) (seen_from reader start) e
 chain_refuses {new = new} {sub = sub} l n plain r = loop_refuses l.looping (leads_next sub n) (refuses_second (gives_next new n plain) r)
-
--- memory was wanting behind another part
-pub chain_memory : {limit : ℕ} {whole : Meaning (Syntax Number)} {others : Meaning (Parts Number)} {make : Parts Number → Syntax Number} {reader : Reader} {start : ℕ} {old new : Tables} {at : ℕ} {P q : GamsPart} {views : List (Mark × Syntax Number)} →
-    Chain limit P q whole others make views reader start old new at → {p : GamsPart} {ts rest : List Seen} {tree : Derivation} {last : Tables} {e : SyntaxFaultOrMemory} → Gives limit reader.source.now p (walk_of reader.unclosed new) ts tree (walk_of reader.unclosed last) rest → e ≡ Memory →
-    Refuses limit reader.source.now P last (walk_of reader.unclosed old) (seen_from reader start) e
-chain_memory l g is = loop_memory l.looping g is

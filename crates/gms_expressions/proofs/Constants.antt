@@ -1,5 +1,5 @@
 -- Constants: numbers, infinities, what is not available, and `yes` and `no`.
-use Rattle.std.proofs.Common.{◌≡◌, ℕ, Bool, true, false, if◌then◌else◌, List, [], ◌∷◌, refl, sym, ap, ◌∙◌, arith}
+use Rattle.std.proofs.Common.{◌≡◌, ℕ, Bool, true, if◌then◌else◌, List, [], ◌∷◌, refl, sym, ap, ◌∙◌, arith}
 use Rattle.std.specs.Prelude.{codes}
 use Rattle.gq_number.specs.Number.{Number as Rational}
 use Rattle.gms_lex.specs.declared.token.Token.{Token}
@@ -14,6 +14,8 @@ use Rattle.gms_grammar.specs.declared.terminal.Terminal.{Terminal}
 use Rattle.gms_grammar.specs.declared.terminal.Terminal.TheVariants.{Number, Infinity, NotAvailable, YesNo}
 use Rattle.gms_grammar.specs.Terminals.{is_among}
 use Rattle.gms_grammar.specs.GamsGrammar.{any_of}
+use Rattle.gms_expressions.specs.Valuations.{number_in as number_meant}
+use Rattle.gms_expressions.proofs.Valued.{number_in_is}
 use Rattle.gms_expressions.specs.declared.fault.SyntaxFaultOrMemory.{SyntaxFaultOrMemory}
 use Rattle.gms_expressions.specs.declared.reader.Reader.{Reader}
 use Rattle.gms_expressions.specs.declared.reader.Tables.{Tables}
@@ -38,11 +40,8 @@ number_left YesNo h a b c = absurd (c refl)
 number_left _ h a b c = cc
 
 -- whether a word is `yes` is what it shows
-pub shows_yes : (shown text : List ℕ) (is_yes : Bool) (x : Rational) → shown ≡ text → is_yes ≡ is_word shown (codes "yes") → is_yes ≡ true → constant_of YesNo text x ≡ yes
-shows_yes shown text is_yes x same e h = ap (λ (b : Bool). if b then yes else no) (ap (λ (t : List ℕ). is_word t (codes "yes")) (sym same) ∙ sym e ∙ h)
-
-pub shows_no : (shown text : List ℕ) (is_yes : Bool) (x : Rational) → shown ≡ text → is_yes ≡ is_word shown (codes "yes") → is_yes ≡ false → constant_of YesNo text x ≡ no
-shows_no shown text is_yes x same e h = ap (λ (b : Bool). if b then yes else no) (ap (λ (t : List ℕ). is_word t (codes "yes")) (sym same) ∙ sym e ∙ h)
+pub shows_word : (shown text : List ℕ) (is_yes b : Bool) (x : Rational) → shown ≡ text → is_yes ≡ is_word shown (codes "yes") → is_yes ≡ b → constant_of YesNo text x ≡ (if b then yes else no)
+shows_word shown text is_yes b x same e h = ap (λ (b : Bool). if b then yes else no) (ap (λ (t : List ℕ). is_word t (codes "yes")) (sym same) ∙ sym e ∙ h)
 
 module _ {F : Type 0} where
   pub tree_of-PlusInf : tree_of {F = F} PlusInf ≡ plus_infinity
@@ -67,7 +66,7 @@ module _ {reader : Reader} {at behind : ℕ} {token : Token} (tables : Tables) (
   constant_got {limit = limit} other is plain e shows =
       let k : is_plain n.kind ≡ true = ap is_plain (there ∙ is) ∙ plain in
       got_by (gives_one n.is n.passes (plain_sound limit reader.source.now (walk_of reader.unclosed tables) n.kind token k) (sym (plain_after reader.source.now reader.unclosed tables n.kind token k)))
-      (λ sense s. record { is = shows (sense.value (token_text reader.source.now token)) ∙ ap (λ t. constant_of t (token_text reader.source.now token) (sense.value (token_text reader.source.now token))) (sym (there ∙ is)) })
+      (λ sense s. record { is = shows (number_meant (token_text reader.source.now token)) ∙ ap (λ t. constant_of t (token_text reader.source.now token) (number_meant (token_text reader.source.now token))) (sym (there ∙ is)) })
       (let g = n.further in omega arith)
 
   module _ (not_infinity : kind ≡ Infinity → ⊥) (not_na : kind ≡ NotAvailable → ⊥) (not_yes : kind ≡ YesNo → ⊥) where
@@ -81,7 +80,7 @@ module _ {reader : Reader} {at behind : ℕ} {token : Token} (tables : Tables) (
     pub constant_number : {limit : ℕ} {F : Type 0} {value : F → Rational} (v : F) → IsValue limit value (token_text reader.source.now token) v → (e : Expr F) → view value e ≡ number_node (value v) →
         IsGot limit (IsMeant value reader.source.now constant_in) (any_of constants) reader at tables tables e behind
     constant_number {value = value} v within e is = got_by (number_gives reader at behind tables (value v) number_there refl within.0 within.1)
-        (λ sense s. record { is = is ∙ ap number_node (sym (s.value (token_text reader.source.now token) (value v) within.0)) }) (let g = n.further in omega arith)
+        (λ sense s. record { is = is ∙ ap number_node (sym (number_in_is (token_text reader.source.now token) (value v) within.0)) }) (let g = n.further in omega arith)
 
     -- which is out of range
     pub constant_refused : {limit : ℕ} {e : SyntaxFaultOrMemory} → IsOutOfRange limit reader.source.now token e → Refuses limit reader.source.now (any_of constants) tables (walk_of reader.unclosed tables) (seen_from reader at) e

@@ -1,6 +1,5 @@
 -- What a reader by the table found, as the calls say it: the longest part, or its first fault.
 use Rattle.std.proofs.Common.{ℕ, List, refl, inl, inr}
-use Rattle.gq_number.specs.Number.{Number}
 use Rattle.gms_grammar.specs.Grammar.{the, Derives}
 use Rattle.gms_grammar.specs.GamsGrammar.{Nonterminal, productions}
 use Rattle.gms_grammar.proofs.Language.{gams_read_tree, gams_read_stops}
@@ -22,7 +21,7 @@ refusal_of {n = n} (Fault fault) r =
 
 -- what was read
 pub read_of : {T : Type 0} {limit : ℕ} {Means : Sense → Derivation → T → Type 0} {n : Nonterminal} {reader : Reader} {at : ℕ} {old new : Tables} {x : T} {behind : ℕ} → IsGot limit Means (the n) reader at old new x behind →
-    (Says : List (List ℕ) → List (List ℕ) → (List ℕ → Number) → Derivation → T → Type 0) → ((names labels : List (List ℕ)) (value : List ℕ → Number) (tree : Derivation) → Means (record { names = names; labels = labels; value = value }) tree x → Says names labels value tree x) →
+    (Says : List (List ℕ) → List (List ℕ) → Derivation → T → Type 0) → ((names labels : List (List ℕ)) (tree : Derivation) → Means (record { names = names; labels = labels }) tree x → Says names labels tree x) →
     IsRead limit reader.source.now n Says (walk_of reader.unclosed old) (walk_of reader.unclosed new) (seen_from reader at) (seen_from reader behind) x
 read_of {n = n} {new = new} got Says says = record {
   tree = got.tree;
@@ -32,5 +31,5 @@ read_of {n = n} {new = new} got Says says = record {
     are_sound = got.gives.are_sound;
     leaves = got.gives.leaves;
   };
-  means = λ names labels keeps_names keeps_labels value v. says names labels value got.tree (got.means (record { names = names; labels = labels; value = value }) (record { names = keeps_names; labels = keeps_labels; value = v }));
+  means = λ names labels keeps_names keeps_labels. says names labels got.tree (got.means (record { names = names; labels = labels }) (record { names = keeps_names; labels = keeps_labels }));
 }

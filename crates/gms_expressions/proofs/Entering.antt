@@ -5,12 +5,13 @@ use Rattle.gq_text.specs.Decimal.{MeansNumber}
 use Rattle.gq_text.specs.Literal.{FitsLiteral}
 use Rattle.gms_labels.specs.Labels.{place_of, entered, IsFullFor}
 use Rattle.gms_lex.specs.declared.token.Token.{Token}
-use Rattle.gms_lex.specs.TokenTexts.{token_text}
+use Rattle.gms_lex.specs.TokenTexts.{token_text, unquoted}
 use Rattle.gms_grammar.specs.declared.terminal.Terminal.{Terminal}
 use Rattle.gms_grammar.specs.declared.terminal.Terminal.TheVariants.{Name, Suffix, Text, Number}
 use Rattle.gms_grammar.specs.Grammar.{one, leaf}
 use Rattle.gms_grammar.specs.Terminals.{is, is_among}
 use Rattle.gms_grammar.specs.GamsGrammar.{name, token}
+use Rattle.gms_expressions.proofs.Valued.{number_in_is}
 use Rattle.gms_expressions.specs.declared.fault.SyntaxFault.{SyntaxFault}
 use Rattle.gms_expressions.specs.declared.fault.SyntaxError.TheVariants.{TooManyLabels}
 use Rattle.gms_expressions.specs.declared.fault.SyntaxFaultOrMemory.{SyntaxFaultOrMemory}
@@ -20,7 +21,7 @@ use Rattle.gms_expressions.specs.declared.reader.Tables.{Tables}
 use Rattle.gms_ast.specs.declared.expression.Expr.{Expr}
 use Rattle.gms_ast.specs.Trees.{number as number_node}
 use Rattle.gms_expressions.specs.Nodes.{view}
-use Rattle.gms_expressions.specs.ExpressionTrees.{unquoted, or_0, number_in}
+use Rattle.gms_expressions.specs.ExpressionTrees.{or_0, number_in}
 use Rattle.gms_expressions.specs.Outcomes.{Walk, walk_after, is_name, IsFaulty, deep, out_of_range, many_names, many_labels}
 use Rattle.gms_expressions.specs.Readings.{Gives, Went, Refuses, IsGot, IsName, IsLabel, IsNext, IsMeant, IsValue, IsOutOfRange, seen_from, walk_of}
 use Rattle.gms_labels.specs.declared.fault.LabelFault.{LabelFault}
@@ -125,4 +126,4 @@ number_refused {limit = limit} reader at behind tables there h o = refuses_token
 pub number_got : {F : Type 0} {value : F → Rational} {limit : ℕ} (reader : Reader) (at behind : ℕ) {numeral : Token} (tables : Tables) (v : F) → IsNext (is Number) reader at numeral behind → IsValue limit value (token_text reader.source.now numeral) v →
     (e : Expr F) → view value e ≡ number_node (value v) → IsGot limit (IsMeant value reader.source.now number_in) (token Number) reader at tables tables e behind
 number_got {value = value} reader at behind {numeral = numeral} tables v n within e is = got_by (number_gives reader at behind tables (value v) (exact n) refl within.0 within.1)
-    (λ sense s. record { is = is ∙ ap number_node (sym (s.value (token_text reader.source.now numeral) (value v) within.0)) }) (let g = n.further in omega arith)
+    (λ sense s. record { is = is ∙ ap number_node (sym (number_in_is (token_text reader.source.now numeral) (value v) within.0)) }) (let g = n.further in omega arith)

@@ -2,14 +2,13 @@
 use Rattle.std.proofs.Common.{◌≡◌, ℕ, Bool, true, false, cond, List, [], ◌∷◌, ◌++◌, sym, ◌∙◌, subst, append_assoc, append-nil}
 use Rattle.std.specs.Prelude.{is_some}
 use Rattle.gms_labels.specs.Labels.{place_of, entered}
-use Rattle.gms_lex.specs.TokenTexts.{token_text}
+use Rattle.gms_lex.specs.TokenTexts.{token_text, unquoted}
 use Rattle.gms_grammar.specs.declared.terminal.Terminal.{Terminal}
 use Rattle.gms_grammar.specs.declared.terminal.Terminal.TheVariants.{Text}
 use Rattle.gms_grammar.specs.Grammar.{yield}
 use Rattle.gms_grammar.specs.Terminals.{is}
 use Rattle.gms_grammar.proofs.Rules.{all_keep}
 use Rattle.gms_expressions.specs.declared.reader.Tables.{Tables}
-use Rattle.gms_expressions.specs.ExpressionTrees.{unquoted}
 use Rattle.gms_expressions.specs.Calls.{GoesOn}
 use Rattle.gms_expressions.specs.Outcomes.{Walk, walk_after, is_name}
 use Rattle.gms_expressions.specs.Readings.{Seen, Derivation, GamsPart, Gives, Went, kind_of, walk_of}

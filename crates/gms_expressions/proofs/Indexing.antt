@@ -20,15 +20,13 @@ use Rattle.gms_grammar.specs.LookAhead.{may_begin}
 use Rattle.gms_grammar.specs.GamsGrammar.{Index, IndexList, Lag, productions, token, name, any_of, bracketed}
 use Rattle.gms_grammar.specs.GamsLookAhead.{look_ahead}
 use Rattle.gms_expressions.specs.declared.fault.SyntaxFaultOrMemory.{SyntaxFaultOrMemory}
-use Rattle.gms_expressions.specs.declared.fault.SyntaxFaultOrMemory.TheVariants.{Memory}
 use Rattle.gms_expressions.specs.declared.reader.Reader.{Reader}
 use Rattle.gms_expressions.specs.declared.reader.Tables.{Tables}
 use Rattle.gms_expressions.specs.ExpressionTrees.{index as index_in, indices as indices_in, more_indices, lag as lag_in_tree}
 use Rattle.gms_ast.specs.Numbers.{indices_in_numbers}
 use Rattle.gms_expressions.specs.Readings.{Seen, Derivation, GamsPart, Refuses, Sense, IsSense, IsGot, IsAnswer, IsNext, IsName, IsLabel, IsLag, IsIndex, AreIndices, seen_from, walk_of, kind_of}
 use Rattle.gms_expressions.proofs.TokenKinds.{leads_by_kind, same_test}
-use Rattle.gms_expressions.proofs.Steps.{got_by, Within, within_the, within_second, within_then, within_again, gives_both, gives_the, gives_left, gives_right, gives_none, gives_some, gives_no_more, refuses_the, refuses_right, refuses_second, refuses_some, refuses_again, refuses_memory}
-use Rattle.gms_expressions.proofs.Going.{went_by}
+use Rattle.gms_expressions.proofs.Steps.{got_by, Within, within_the, within_second, within_then, within_again, gives_both, gives_the, gives_left, gives_right, gives_none, gives_some, gives_no_more, refuses_the, refuses_right, refuses_second, refuses_some, refuses_again}
 use Rattle.gms_expressions.proofs.Nexts.{gives_next, leads_next, unled_next, earlier}
 use Rattle.gms_expressions.proofs.Grows.{some_led}
 use Rattle.gms_grammar.proofs.Eithers.{led_given}
@@ -68,7 +66,7 @@ module _ {F : Type 0} (value : F → Number) {limit : ℕ} {reader : Reader} {at
     lagged_got {lag = lag} other got led lags = got_by
         (gives_the Index (gives_right other (some_led (is_among (Name ∷ Suffix ∷ [])) (opt (the Lag)) (seen_from reader at) (sym (led_given got.gives)) refl) (gives_both got.gives (gives_some (leads_lag (seen_from reader next) ∙ led) lags.gives))))
         (λ sense s rest. ap (indices_in_numbers value) (index_tree-lagged n lag rest) ∙ lags.means sense s n (indices_in_numbers value rest)
-        ∙ ap (λ m. lag_in_tree reader.source.now sense.names sense.labels sense.value m lags.tree (indices_in_numbers value rest)) (got.means sense (earlier lags.gives s)).0)
+        ∙ ap (λ m. lag_in_tree reader.source.now sense.names sense.labels m lags.tree (indices_in_numbers value rest)) (got.means sense (earlier lags.gives s)).0)
         (let f = got.further in let g = lags.further in omega arith)
 
     -- the lag of a set is refused
@@ -106,7 +104,7 @@ module _ {F : Type 0} {value : F → Number} {limit : ℕ} {reader : Reader} {st
   indices_start {i = i} got items is = record {
     context = λ b. node (pair got.tree b);
     within = within_then (within_the IndexList) (within_second got.gives);
-    means = λ sense s b rest h. ap (index_in reader.source.now sense.names sense.labels sense.value got.tree) h ∙ sym (got.means sense s rest) ∙ ap (λ xs. indices_in_numbers value (put_before xs rest)) (sym is);
+    means = λ sense s b rest h. ap (index_in reader.source.now sense.names sense.labels got.tree) h ∙ sym (got.means sense s rest) ∙ ap (λ xs. indices_in_numbers value (put_before xs rest)) (sym is);
     further = got.further;
   }
 
@@ -116,7 +114,7 @@ module _ {F : Type 0} {value : F → Number} {limit : ℕ} {reader : Reader} {st
     context = λ b. l.context (more (pair (leaf (next.kind, _)) got.tree) b);
     within = within_then l.within (within_again (leads_next (the Index) next) (gives_both (gives_next new next refl) got.gives));
     means = λ sense s b rest h. l.means sense (earlier (gives_both (gives_next new next refl) got.gives) s) (more (pair (leaf (next.kind, _)) got.tree) b) (index_tree i rest)
-        (ap (index_in reader.source.now sense.names sense.labels sense.value got.tree) h ∙ sym (got.means sense s rest))
+        (ap (index_in reader.source.now sense.names sense.labels got.tree) h ∙ sym (got.means sense s rest))
         ∙ ap (indices_in_numbers value) (sym (put_before_push items i rest)) ∙ ap (λ xs. indices_in_numbers value (put_before xs rest)) (sym is);
     further = (let a = l.further in let f = got.further in let g = next.further in omega arith);
   }
@@ -128,11 +126,6 @@ module _ {F : Type 0} {value : F → Number} {limit : ℕ} {reader : Reader} {st
   pub indices_refuses : {items : List (IndexNode F)} → SomeIndices value limit items reader start old new at → {behind : ℕ} {t : Token} {last : Tables} {e : SyntaxFaultOrMemory} → IsNext (is Comma) reader at t behind →
       Refuses limit reader.source.now (the Index) last (walk_of reader.unclosed new) (seen_from reader behind) e → Refuses limit reader.source.now (the IndexList) last (walk_of reader.unclosed old) (seen_from reader start) e
   indices_refuses l next r = l.within.refuses _ _ (refuses_again (leads_next (the Index) next) (refuses_second (gives_next new next refl) r))
-
-  -- memory was wanting behind another index
-  pub indices_memory : {items : List (IndexNode F)} → SomeIndices value limit items reader start old new at → {behind after : ℕ} {t : Token} {last : Tables} {i : IndexNode F} {e : SyntaxFaultOrMemory} → IsNext (is Comma) reader at t behind →
-      IsGot limit (IsIndex value reader.source.now) (the Index) reader behind new last i after → e ≡ Memory → Refuses limit reader.source.now (the IndexList) last (walk_of reader.unclosed old) (seen_from reader start) e
-  indices_memory l next got is = l.within.refuses _ _ (refuses_memory (went_by got.gives) is)
 
 -- what was read or refused as a part that is there
 pub some_answer : {T : Type 0} (limit : ℕ) {Means : Sense → Derivation → T → Type 0} (p : GamsPart) (reader : Reader) (at : ℕ) (old new : Tables) (r : Result (T × ℕ) SyntaxFaultOrMemory) → leads productions look_ahead p (seen_from reader at) ≡ true →

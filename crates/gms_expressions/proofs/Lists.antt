@@ -26,10 +26,10 @@ use Rattle.gms_expressions.proofs.Chains.{in_sense, parts_before, parts_before_p
 
 -- the names of a list, as a derivation means them
 abbrev pub names_whole : List ℕ → Sense → Derivation → List ℕ
-names_whole source sense tree = names_in source sense.names sense.labels sense.value tree
+names_whole source sense tree = names_in source sense.names sense.labels tree
 
 abbrev pub names_others : List ℕ → Sense → Derivation → List ℕ
-names_others source sense tree = names_behind source sense.names sense.labels sense.value tree
+names_others source sense tree = names_behind source sense.names sense.labels tree
 
 -- some names of a list were read
 pub record Names (limit : ℕ) (items : List ℕ) (reader : Reader) (start : ℕ) (old new : Tables) (at : ℕ) : Type 0 where

@@ -54,7 +54,6 @@ pub earlier : {limit : ℕ} {source : List ℕ} {part : GamsPart} {unclosed : �
 earlier {source = source} {unclosed = unclosed} {old = old} {rest = rest} {tree = tree} g s = record {
   names = λ text n h. s.names text n (subst (λ (w : Walk). place_of w.names text ≡ Some n) (sym g.leaves) (names_kept source (walk_of unclosed old) (yield tree) (kind_of rest) text n h));
   labels = λ text n h. s.labels text n (subst (λ (w : Walk). place_of w.labels text ≡ Some n) (sym g.leaves) (labels_kept source (walk_of unclosed old) (yield tree) (kind_of rest) text n h));
-  value = s.value;
 }
 
 -- the next token, of a kind that is known

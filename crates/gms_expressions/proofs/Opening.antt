@@ -4,7 +4,6 @@ use Rattle.std.proofs.lemmas.List.{get_or_push}
 use Rattle.gms_lex.specs.declared.token.Token.{Token}
 use Rattle.gms_lex.specs.Places.{place_of}
 use Rattle.gms_lex.specs.Tokens.{IsTokens, tokens_of, end_token}
-use Rattle.gq_number.specs.Number.{Number}
 use Rattle.gms_grammar.specs.Grammar.{the}
 use Rattle.gms_grammar.specs.GamsGrammar.{Nonterminal}
 use Rattle.gms_expressions.specs.declared.fault.SyntaxFaultOrMemory.{SyntaxFaultOrMemory}
@@ -31,17 +30,17 @@ ends_at source tokens other h =
     ∙ ap (λ (t : Token). t.at) (get_or_push (tokens_of source 0 h.has.pieces) (end_token source) other (length (tokens_of source 0 h.has.pieces ++ end_token source ∷ []) - 1) (less_one (tokens_of source 0 h.has.pieces) (end_token source)))
 
 -- what a call says of what a reader answers
-abbrev IsSaid : {T : Type 0} → ℕ → Nonterminal → (List ℕ → List (List ℕ) → List (List ℕ) → (List ℕ → Number) → Derivation → T → Type 0) → ℕ → Result (T × ℕ) SyntaxFaultOrMemory → List ℕ → List Token → ℕ → List (List ℕ) → List (List ℕ) → List (List ℕ) → List (List ℕ) → Type 0
+abbrev IsSaid : {T : Type 0} → ℕ → Nonterminal → (List ℕ → List (List ℕ) → List (List ℕ) → Derivation → T → Type 0) → ℕ → Result (T × ℕ) SyntaxFaultOrMemory → List ℕ → List Token → ℕ → List (List ℕ) → List (List ℕ) → List (List ℕ) → List (List ℕ) → Type 0
 IsSaid limit n Says at result source tokens unclosed old_names old_labels new_names new_labels =
     MatchResult result
     (λ r. IsRead limit source n (Says source) (walk_from unclosed old_names old_labels) (walk_from unclosed new_names new_labels) (tokens_from source tokens at) (tokens_from source tokens r.1) r.0)
     (λ e. IsRefusal limit source n (walk_from unclosed old_names old_labels) (tokens_from source tokens at) e)
 
-module _ {T : Type 0} (limit : ℕ) (Means : List ℕ → Sense → Derivation → T → Type 0) (n : Nonterminal) (Says : List ℕ → List (List ℕ) → List (List ℕ) → (List ℕ → Number) → Derivation → T → Type 0)
-    (says : (source : List ℕ) (names labels : List (List ℕ)) (value : List ℕ → Number) (tree : Derivation) (x : T) → Means source (record { names = names; labels = labels; value = value }) tree x → Says source names labels value tree x) where
+module _ {T : Type 0} (limit : ℕ) (Means : List ℕ → Sense → Derivation → T → Type 0) (n : Nonterminal) (Says : List ℕ → List (List ℕ) → List (List ℕ) → Derivation → T → Type 0)
+    (says : (source : List ℕ) (names labels : List (List ℕ)) (tree : Derivation) (x : T) → Means source (record { names = names; labels = labels }) tree x → Says source names labels tree x) where
   said : (reader : Reader) (at : ℕ) (old new : Tables) (result : Result (T × ℕ) SyntaxFaultOrMemory) → IsAnswer limit (Means reader.source.now) (the n) reader at old new result →
       IsSaid limit n Says at result reader.source.now reader.tokens.now reader.unclosed old.names old.labels new.names new.labels
-  said reader at old new (Ok r) got = read_of got (Says reader.source.now) (λ names labels value tree m. says reader.source.now names labels value tree r.0 m)
+  said reader at old new (Ok r) got = read_of got (Says reader.source.now) (λ names labels tree m. says reader.source.now names labels tree r.0 m)
   said reader at old new (Err e) refused = refusal_of e refused
 
   -- what a reader of the tokens of a source answers, from tables taken from their places and given back

@@ -83,7 +83,7 @@ module _ {F : Type 0} {value : F → Number} {limit : ℕ} {reader : Reader} {at
       let m = named.means sense (earlier dotted.gives s') in
       ap (λ (t : TargetNode F). reference t.at t.name t.suffix (indices_in_numbers value (indices_of (map index_tree t.indices)))) is
       ∙ ap₂ (λ p k. reference p k found (indices_in_numbers value (indices_of (map index_tree indices.items)))) m.1 m.0
-      ∙ ap₂ (λ f k. reference (token_of named.tree).at (name_in reader.source.now sense.names sense.labels sense.value named.tree) f k) (dotted.means sense s') (indexed.means sense s))
+      ∙ ap₂ (λ f k. reference (token_of named.tree).at (name_in reader.source.now sense.names sense.labels named.tree) f k) (dotted.means sense s') (indexed.means sense s))
       (let f = named.further in let g = dotted.further in let h = indexed.further in omega arith)
 
   -- a reference

@@ -3,7 +3,7 @@ use Rattle.gms_grammar.specs.Grammar.{right, node}
 use Rattle.gms_expressions.specs.Readings.{Meaning}
 
 abbrev pub in_node : {X : Type 0} → Meaning X → Meaning X
-in_node meaning source names labels value tree = meaning source names labels value (node tree)
+in_node meaning source names labels tree = meaning source names labels (node tree)
 
 abbrev pub in_right : {X : Type 0} → Meaning X → Meaning X
-in_right meaning source names labels value tree = meaning source names labels value (right tree)
+in_right meaning source names labels tree = meaning source names labels (right tree)

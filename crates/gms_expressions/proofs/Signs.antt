@@ -12,13 +12,12 @@ use Rattle.gms_grammar.specs.Reading.{leads}
 use Rattle.gms_grammar.specs.GamsLookAhead.{look_ahead}
 use Rattle.gms_grammar.specs.Grammar.{one, the, ◌·◌, ◌∣◌, opt, leaf, pair, left, right, node}
 use Rattle.gms_grammar.specs.GamsGrammar.{Nonterminal, productions, token}
-use Rattle.gms_expressions.specs.declared.fault.SyntaxFaultOrMemory.{SyntaxFaultOrMemory}
 use Rattle.gms_expressions.specs.declared.reader.Reader.{Reader}
 use Rattle.gms_expressions.specs.declared.reader.Tables.{Tables}
 use Rattle.gms_expressions.specs.ExpressionTrees.{with_sign, negated_by}
 use Rattle.gms_expressions.specs.Nodes.{view}
-use Rattle.gms_expressions.specs.Readings.{GamsPart, Meaning, Refuses, Sense, IsGot, IsMeant, IsSigned, IsNegated, IsNext, seen_from, walk_of}
-use Rattle.gms_expressions.proofs.Steps.{got_by, gives_both, gives_the, gives_left, gives_right, refuses_second}
+use Rattle.gms_expressions.specs.Readings.{GamsPart, Meaning, Sense, IsGot, IsMeant, IsSigned, IsNegated, IsNext, seen_from}
+use Rattle.gms_expressions.proofs.Steps.{got_by, gives_both, gives_the, gives_left, gives_right}
 use Rattle.gms_expressions.proofs.TokenKinds.{is_plain, implies}
 use Rattle.gms_expressions.proofs.Nexts.{gives_next}
 use Rattle.gms_expressions.proofs.Chains.{in_sense}
@@ -46,15 +45,6 @@ module _ {F : Type 0} {value : F → Number} {limit : ℕ} {reader : Reader} {at
       IsGot limit (IsMeant value reader.source.now whole) (opt (token Not) · sub) reader at old new e next
   negated_got s got is shape = got_by (gives_both (s.gives limit old) got.gives) (λ sense k. record { is = is ∙ sym (s.means (view value operand)) ∙ ap (negated_by s.tree) (got.means sense k).is ∙ sym (shape sense) })
       (let f = got.further in let g = s.further in omega arith)
-
-module _ {limit : ℕ} {reader : Reader} {at start : ℕ} {sub : GamsPart} {last : Tables} {e : SyntaxFaultOrMemory} where
-  pub signed_refuses : {minus : Bool} (tables : Tables) → IsSigned reader at minus start → Refuses limit reader.source.now sub last (walk_of reader.unclosed tables) (seen_from reader start) e →
-      Refuses limit reader.source.now (opt (token Sign) · sub) last (walk_of reader.unclosed tables) (seen_from reader at) e
-  signed_refuses tables s r = refuses_second (s.gives limit tables) r
-
-  pub negated_refuses : {not : Bool} (tables : Tables) → IsNegated reader at not start → Refuses limit reader.source.now sub last (walk_of reader.unclosed tables) (seen_from reader start) e →
-      Refuses limit reader.source.now (opt (token Not) · sub) last (walk_of reader.unclosed tables) (seen_from reader at) e
-  negated_refuses tables s r = refuses_second (s.gives limit tables) r
 
 module _ {F : Type 0} {value : F → Number} {limit : ℕ} {reader : Reader} {at : ℕ} {old new : Tables} {inner whole : Meaning (Syntax Number)} {e : Expr F} {next : ℕ} where
   -- what was read of a production is a nonterminal's

@@ -1,19 +1,18 @@
 -- How names and labels are spelled: they are of ASCII, and short.
-use Rattle.std.proofs.Common.{◌≡◌, ℕ, ◌-◌, ◌≤◌, Bool, true, false, cond, ltb, List, [], ◌∷◌, length, drop, refl, sym, ap, ◌∙◌, arith, length-take}
+use Rattle.std.proofs.Common.{◌≡◌, ℕ, ◌≤◌, Bool, true, false, cond, ltb, List, [], ◌∷◌, length, refl, sym, ap, ◌∙◌, arith}
 use Rattle.std.proofs.lemmas.Bool.{ltb-false, eqb-true}
 use Rattle.std.specs.Str.{IsAscii}
-use Rattle.std.proofs.lemmas.Str.{IsAscii-take, IsAscii-drop}
 use Rattle.gms_lexemes.specs.declared.kind.Kind.{Kind}
 use Rattle.gms_lexemes.specs.declared.kind.Kind.TheVariants as kind
 use Rattle.gms_lexemes.specs.declared.kind.Sym.{Sym}
 use Rattle.gms_lexemes.specs.declared.kind.Sym.TheVariants as sym_kind
 use Rattle.gms_lex.specs.declared.token.Token.{Token}
-use Rattle.gms_lex.specs.TokenTexts.{IsSpelled, token_text}
+use Rattle.gms_lex.specs.TokenTexts.{IsSpelled, token_text, unquoted}
+use Rattle.gms_lex.proofs.UnquotedLemmas.{unquoted-le, unquoted_ascii, unquoted_short}
 use Rattle.gms_grammar.specs.declared.terminal.Terminal.{Terminal}
 use Rattle.gms_grammar.specs.declared.terminal.Terminal.TheVariants.{Name, Suffix, Text, LongText}
 use Rattle.gms_grammar.specs.Terminals.{is, is_among, number_of}
 use Rattle.gms_expressions.specs.Words.{terminal_of, terminal_of_symbol}
-use Rattle.gms_expressions.specs.ExpressionTrees.{unquoted}
 use Rattle.gms_expressions.specs.declared.reader.Reader.{Reader}
 use Rattle.gms_expressions.specs.Readings.{IsNext}
 use Rattle.gms_expressions.proofs.TokenKinds.{same_number}
@@ -31,13 +30,9 @@ text_named false h = cc
 
 pub named_spelled : (k : Kind) (text : List ℕ) → is_named (terminal_of k text) ≡ true → IsSpelled k text → IsAscii text × (length text ≤ 63)
 named_spelled kind.Word text h s = s
-named_spelled kind.Label text h s = cc
-named_spelled kind.Number text h s = cc
 named_spelled kind.Text text h s = absurd (text_named (ltb 65 (length text)) h)
 named_spelled (kind.Symbol symbol) text h s = absurd (symbol_named symbol h)
-named_spelled kind.Break text h s = cc
-named_spelled kind.TableLine text h s = cc
-named_spelled kind.End text h s = cc
+named_spelled _ text h s = cc
 
 symbol_text : (s : Sym) → terminal_of_symbol s ≡ Text → ⊥
 symbol_text sym_kind.EqE h = cc
@@ -47,22 +42,15 @@ short_text : (b : Bool) → cond b LongText Text ≡ Text → b ≡ false
 short_text true h = cc
 short_text false h = refl
 
-text_spelled : (k : Kind) (text : List ℕ) → terminal_of k text ≡ Text → IsSpelled k text → IsAscii text × (length text ≤ 65)
-text_spelled kind.Word text h s = (s.0, (let l = s.1 in omega arith))
-text_spelled kind.Label text h s = cc
-text_spelled kind.Number text h s = cc
-text_spelled kind.Text text h s = (s, ltb-false 65 (length text) (short_text (ltb 65 (length text)) h))
+text_spelled : (k : Kind) (text : List ℕ) → terminal_of k text ≡ Text → IsSpelled k text → IsAscii text × (length (unquoted text) ≤ 63)
+text_spelled kind.Word text h s = (s.0, omega (arith, s.1, unquoted-le text))
+text_spelled kind.Text text h s = (s.0, unquoted_short text 63 s.1 (ltb-false 65 (length text) (short_text (ltb 65 (length text)) h)))
 text_spelled (kind.Symbol symbol) text h s = absurd (symbol_text symbol h)
-text_spelled kind.Break text h s = cc
-text_spelled kind.TableLine text h s = cc
-text_spelled kind.End text h s = cc
+text_spelled _ text h s = cc
 
 -- a name is of ASCII and has at most 63 bytes
 pub name_spelled : {reader : Reader} {at behind : ℕ} {t : Token} → IsNext is_named reader at t behind → IsAscii (token_text reader.source.now t) × (length (token_text reader.source.now t) ≤ 63)
 name_spelled {reader = reader} {t = t} n = named_spelled t.kind (token_text reader.source.now t) (ap is_named (sym n.kind_is) ∙ n.passes) n.placed.spelled
-
-unquoted_short : (text : List ℕ) → length text ≤ 65 → length (unquoted text) ≤ 63
-unquoted_short text short = omega (arith, length-take (length text - 2) (drop 1 text))
 
 -- a label is of ASCII and has at most 63 bytes, its marks not counted
 pub label_spelled : {reader : Reader} {at behind : ℕ} {t : Token} → IsNext (is Text) reader at t behind → IsAscii (unquoted (token_text reader.source.now t)) × (length (unquoted (token_text reader.source.now t)) ≤ 63)
@@ -70,4 +58,4 @@ label_spelled {reader = reader} {t = t} n =
     let text = token_text reader.source.now t in
     let k : Text ≡ n.kind = same_number Text n.kind (eqb-true (number_of Text) (number_of n.kind) n.passes) in
     let s = text_spelled t.kind text (sym n.kind_is ∙ sym k) n.placed.spelled in
-    (IsAscii-take (drop 1 text) (length text - 2) (IsAscii-drop text 1 s.0), unquoted_short text s.1)
+    (unquoted_ascii text s.0, s.1)

@@ -14,14 +14,13 @@ use Rattle.gms_grammar.specs.GamsLookAhead.{look_ahead}
 use Rattle.gms_expressions.specs.declared.reader.Reader.{Reader}
 use Rattle.gms_expressions.specs.declared.reader.Tables.{Tables}
 use Rattle.gms_expressions.specs.declared.fault.SyntaxFaultOrMemory.{SyntaxFaultOrMemory}
-use Rattle.gms_expressions.specs.declared.fault.SyntaxFaultOrMemory.TheVariants.{Memory}
 use Rattle.gms_expressions.specs.ExpressionTrees.{or_alone, with_sign, place_in, sum_of, terms, product_of, guarded_of, guards, primary, condition}
 use Rattle.gms_expressions.specs.Outcomes.{next_place}
 use Rattle.gms_expressions.specs.Nodes.{view}
-use Rattle.gms_expressions.specs.Readings.{Seen, Derivation, GamsPart, Gives, IsGot, IsMeant, IsSigned, Refuses, seen_from, walk_of, kind_of}
+use Rattle.gms_expressions.specs.Readings.{Seen, IsGot, IsMeant, IsSigned, Refuses, seen_from, walk_of, kind_of}
 use Rattle.gms_expressions.proofs.TokenKinds.{leads_by_kind, same_test}
 use Rattle.gms_expressions.proofs.Steps.{within_the, within_second, within_then, gives_both}
-use Rattle.gms_expressions.proofs.Loops.{Looping, loop_on, loop_got, loop_refuses, loop_memory}
+use Rattle.gms_expressions.proofs.Loops.{Looping, loop_on, loop_got, loop_refuses}
 use Rattle.gms_expressions.proofs.Chains.{ChainFirst, in_sense, place_read, parts_before, parts_before_push, parts_before_all, or_some}
 
 module _ {F : Type 0} {value : F → Number} {limit : ℕ} {reader : Reader} {at : ℕ} {old new : Tables} where
@@ -93,8 +92,3 @@ module _ {F : Type 0} {value : F → Number} {limit : ℕ} {reader : Reader} {st
 pub guards_refuses : {limit : ℕ} {operand : Syntax Number} {views : List (Mark × Syntax Number)} {reader : Reader} {start : ℕ} {old new last : Tables} {at : ℕ} {e : SyntaxFaultOrMemory} → Guards limit operand views reader start old new at → leads productions look_ahead (token Dollar) (seen_from reader at) ≡ true →
     Refuses limit reader.source.now (the Condition) last (walk_of reader.unclosed new) (seen_from reader at) e → Refuses limit reader.source.now (the Guarded) last (walk_of reader.unclosed old) (seen_from reader start) e
 guards_refuses {reader = reader} {at = at} l led r = loop_refuses l.looping (leads_condition (seen_from reader at) ∙ led) r
-
--- memory was wanting behind another condition
-pub guards_memory : {limit : ℕ} {operand : Syntax Number} {views : List (Mark × Syntax Number)} {reader : Reader} {start : ℕ} {old new last : Tables} {at : ℕ} {e : SyntaxFaultOrMemory} → Guards limit operand views reader start old new at → {p : GamsPart} {ts rest : List Seen} {tree : Derivation} →
-    Gives limit reader.source.now p (walk_of reader.unclosed new) ts tree (walk_of reader.unclosed last) rest → e ≡ Memory → Refuses limit reader.source.now (the Guarded) last (walk_of reader.unclosed old) (seen_from reader start) e
-guards_memory l g h = loop_memory l.looping g h

@@ -4,8 +4,7 @@ use Rattle.std.proofs.lemmas.Bool.{not-true}
 use Rattle.gms_labels.specs.Labels.{place_of, entered}
 use Rattle.gms_labels.proofs.Places.{place_of-entered_kept}
 use Rattle.gms_lex.specs.declared.token.Token.{Token}
-use Rattle.gms_lex.specs.TokenTexts.{token_text}
-use Rattle.gms_expressions.specs.ExpressionTrees.{unquoted}
+use Rattle.gms_lex.specs.TokenTexts.{token_text, unquoted}
 use Rattle.gms_grammar.specs.declared.terminal.Terminal.{Terminal}
 use Rattle.gms_grammar.specs.declared.terminal.Terminal.TheVariants.{LeftParen, RightParen, Name, Suffix, Text, Dot}
 use Rattle.gms_grammar.specs.Terminals.{is, is_among}

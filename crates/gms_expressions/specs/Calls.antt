@@ -1,7 +1,6 @@
 -- What the calls for parts of expressions answer.
 use Rattle.std.specs.Prelude.{◌≡◌, ℕ, false, List, ◌++◌, drop, Some}
 use Rattle.gms_labels.specs.Labels.{place_of}
-use Rattle.gq_number.specs.Number.{Number}
 use Rattle.gms_lex.specs.declared.token.Token.{Token}
 use Rattle.gms_grammar.specs.declared.terminal.Terminal.{Terminal}
 use Rattle.gms_grammar.specs.Grammar.{Tree}
@@ -9,7 +8,6 @@ use Rattle.gms_grammar.specs.GamsGrammar.{Nonterminal}
 use Rattle.gms_expressions.specs.declared.fault.SyntaxFaultOrMemory.{SyntaxFaultOrMemory}
 use Rattle.gms_expressions.specs.declared.fault.SyntaxFaultOrMemory.TheVariants.{Fault, Memory}
 use Rattle.gms_expressions.specs.Outcomes.{Walk, seen, IsPart, IsRefused}
-use Rattle.gms_expressions.specs.Valuations.{IsValuation}
 
 -- so many parentheses are open before a part, and these are the names and the labels
 abbrev pub walk_from : ℕ → List (List ℕ) → List (List ℕ) → Walk
@@ -28,11 +26,11 @@ abbrev pub Keeps : List (List ℕ) → List (List ℕ) → Type 0
 Keeps texts later = (text : List ℕ) (n : ℕ) → place_of texts text ≡ Some n → place_of later text ≡ Some n
 
 -- The longest part was read, and this is what its derivation means, by these names and labels and by any later ones that keep their
--- places, whatever value each text of a number has.
-pub record IsRead {T : Type 0} (limit : ℕ) (source : List ℕ) (n : Nonterminal) (Means : List (List ℕ) → List (List ℕ) → (List ℕ → Number) → Tree (Terminal × Token) → T → Type 0) (before after : Walk) (tokens rest : List (Terminal × Token)) (part : T) : Type 0 where
+-- places.
+pub record IsRead {T : Type 0} (limit : ℕ) (source : List ℕ) (n : Nonterminal) (Means : List (List ℕ) → List (List ℕ) → Tree (Terminal × Token) → T → Type 0) (before after : Walk) (tokens rest : List (Terminal × Token)) (part : T) : Type 0 where
   pub tree : Tree (Terminal × Token)
   pub is_part : IsPart limit source n before after tokens rest tree
-  pub means : (names labels : List (List ℕ)) → Keeps after.names names → Keeps after.labels labels → (value : List ℕ → Number) → IsValuation value → Means names labels value tree part
+  pub means : (names labels : List (List ℕ)) → Keeps after.names names → Keeps after.labels labels → Means names labels tree part
 
 -- an answer in place of a part: its first fault, or want of memory
 abbrev pub IsRefusal : ℕ → List ℕ → Nonterminal → Walk → List (Terminal × Token) → SyntaxFaultOrMemory → Type 0

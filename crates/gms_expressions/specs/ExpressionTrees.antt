@@ -1,5 +1,5 @@
 -- The tree that the derivation of an expression means (GAMS User's Guide, "Data Manipulation", expressions, and "Equations").
-use Rattle.std.specs.Prelude.{ℕ, ◌-◌, Bool, true, false, if◌then◌else◌, List, [], ◌∷◌, length, take, drop, Option, Some, None, codes}
+use Rattle.std.specs.Prelude.{ℕ, Bool, true, false, if◌then◌else◌, List, [], ◌∷◌, Option, Some, None, codes}
 use Rattle.std.specs.Str.{str_eq_ignore_ascii_case}
 use Rattle.gms_labels.specs.declared.place.Place.{Place}
 use Rattle.gms_labels.specs.Labels.{place_of}
@@ -7,7 +7,7 @@ use Rattle.gms_lexemes.specs.declared.kind.Sym.TheVariants as sym
 use Rattle.gms_lexemes.specs.declared.kind.Kind.{Kind}
 use Rattle.gms_lexemes.specs.declared.kind.Kind.TheVariants as kind
 use Rattle.gms_lex.specs.declared.token.Token.{Token}
-use Rattle.gms_lex.specs.TokenTexts.{token_text}
+use Rattle.gms_lex.specs.TokenTexts.{token_text, unquoted}
 use Rattle.gms_ast.specs.declared.expression.Suffix.{Suffix}
 use Rattle.gms_ast.specs.declared.expression.Suffix.TheVariants as suffix
 use Rattle.gms_ast.specs.declared.expression.FoldOp.{FoldOp}
@@ -21,6 +21,8 @@ use Rattle.gms_ast.specs.declared.expression.RelOp.TheVariants as rel_op
 use Rattle.gms_ast.specs.Trees.{plain, placed, signed, related, chosen, Tree as Syntax, number, plus_infinity, not_available, yes, no, reference, place_in_set, size_of_set, call, fold_over, negated, sum, product, power, relation, not_so, all_of, one_of, guarded, Parts, no_part, part, Indices, no_index, label, set, lagged, Control, over, over_where}
 use Rattle.gms_grammar.specs.declared.terminal.Terminal.{Terminal}
 use Rattle.gms_grammar.specs.declared.terminal.Terminal.TheVariants as terminal
+use Rattle.gq_number.specs.Number.{Number}
+use Rattle.gms_expressions.specs.Valuations.{number_in as number_meant}
 use Rattle.gms_grammar.specs.Grammar.{Tree, leaf, pair, left, right, none, some, more, node, yield}
 
 -- a word is this one, letter case ignored
@@ -73,10 +75,6 @@ is_minus _ = false
 abbrev pub is_slash : Kind → Bool
 is_slash (kind.Symbol sym.Slash) = true
 is_slash _ = false
-
--- the label between the marks of a quoted token
-abbrev pub unquoted : List ℕ → List ℕ
-unquoted text = take (length text - 2) (drop 1 text)
 
 -- a number, or 0
 abbrev pub or_0 : Option ℕ → ℕ
@@ -144,9 +142,9 @@ constant_of terminal.NotAvailable text value = not_available
 constant_of terminal.YesNo text value = if is_word text (codes "yes") then yes else no
 constant_of _ text value = number value
 
--- In a source with these names and labels, where texts of numbers have these values. Each clause reads as the production of the part
+-- In a source with these names and labels. Each clause reads as the production of the part
 -- does; what is no tree of its part means `no`.
-module _ {N : Type 0} (source : List ℕ) (names labels : List (List ℕ)) (value : List ℕ → N) where
+module _ (source : List ℕ) (names labels : List (List ℕ)) where
   -- the bytes of the token of a leaf
   abbrev pub text_in : Tree (Terminal × Token) → List ℕ
   text_in tree = token_text source (token_of tree)
@@ -181,114 +179,114 @@ module _ {N : Type 0} (source : List ℕ) (names labels : List (List ℕ)) (valu
   sets_in _ = []
 
   -- `ord` or `card` of a set
-  abbrev pub set_call : Tree (Terminal × Token) → Syntax N
+  abbrev pub set_call : Tree (Terminal × Token) → Syntax Number
   set_call (pair word (pair _ (pair name _))) =
       if is_word (text_in word) (codes "ord") then place_in_set (token_of word).at (name_in name) else size_of_set (token_of word).at (name_in name)
   set_call _ = no
 
   -- a number
-  abbrev pub number_in : Tree (Terminal × Token) → Syntax N
-  number_in tree = number (value (text_in tree))
+  abbrev pub number_in : Tree (Terminal × Token) → Syntax Number
+  number_in tree = number (number_meant (text_in tree))
 
   -- a constant
-  abbrev pub constant_in : Tree (Terminal × Token) → Syntax N
-  constant_in tree = constant_of (terminal_in tree) (text_in tree) (value (text_in tree))
+  abbrev pub constant_in : Tree (Terminal × Token) → Syntax Number
+  constant_in tree = constant_of (terminal_in tree) (text_in tree) (number_meant (text_in tree))
 
   -- a name alone, as a reference to a scalar
-  abbrev pub scalar : Tree (Terminal × Token) → Syntax N
+  abbrev pub scalar : Tree (Terminal × Token) → Syntax Number
   scalar tree = reference (token_of tree).at (name_in tree) suffix.None no_index
 
   abbrev mutual
     -- an expression: parts joined by `or` and `xor`
-    pub expression : Tree (Terminal × Token) → Syntax N
+    pub expression : Tree (Terminal × Token) → Syntax Number
     expression (node (pair first others)) = or_alone (conjunction first) (λ rest. one_of (part (chosen false) (conjunction first) rest)) (choices others)
     expression _ = no
 
-    pub choices : Tree (Terminal × Token) → Parts N
+    pub choices : Tree (Terminal × Token) → Parts Number
     choices (more (pair word tree) others) = part (chosen (is_word (text_in word) (codes "xor"))) (conjunction tree) (choices others)
     choices _ = no_part
 
     -- parts joined by `and`
-    pub conjunction : Tree (Terminal × Token) → Syntax N
+    pub conjunction : Tree (Terminal × Token) → Syntax Number
     conjunction (node (pair first others)) = or_alone (negation first) (λ rest. all_of (part plain (negation first) rest)) (conjuncts others)
     conjunction _ = no
 
-    pub conjuncts : Tree (Terminal × Token) → Parts N
+    pub conjuncts : Tree (Terminal × Token) → Parts Number
     conjuncts (more (pair _ tree) others) = part plain (negation tree) (conjuncts others)
     conjuncts _ = no_part
 
     -- a comparison, perhaps with `not`
-    pub negation : Tree (Terminal × Token) → Syntax N
+    pub negation : Tree (Terminal × Token) → Syntax Number
     negation (node (pair word tree)) = negated_by word (comparison tree)
     negation _ = no
 
     -- sums with relations between them
-    pub comparison : Tree (Terminal × Token) → Syntax N
+    pub comparison : Tree (Terminal × Token) → Syntax Number
     comparison (node (pair first others)) = or_alone (sum_of first) (λ rest. relation (part (related rel_op.Eq) (sum_of first) rest)) (relations others)
     comparison _ = no
 
-    pub relations : Tree (Terminal × Token) → Parts N
+    pub relations : Tree (Terminal × Token) → Parts Number
     relations (more (pair word tree) others) = part (related (relation_of (token_of word).kind (text_in word))) (sum_of tree) (relations others)
     relations _ = no_part
 
     -- a sum: the first part perhaps with a sign
-    pub sum_of : Tree (Terminal × Token) → Syntax N
+    pub sum_of : Tree (Terminal × Token) → Syntax Number
     sum_of (node (pair sign (pair first others))) =
         or_alone (with_sign sign (product_of first)) (λ rest. sum (part (signed (place_in (pair sign first)) false) (with_sign sign (product_of first)) rest)) (terms others)
     sum_of _ = no
 
-    pub terms : Tree (Terminal × Token) → Parts N
+    pub terms : Tree (Terminal × Token) → Parts Number
     terms (more (pair sign tree) others) = part (signed (place_in tree) (is_minus (token_of sign).kind)) (product_of tree) (terms others)
     terms _ = no_part
 
     -- a product: behind `*` and `/` a sign belongs to the factor
-    pub product_of : Tree (Terminal × Token) → Syntax N
+    pub product_of : Tree (Terminal × Token) → Syntax Number
     product_of (node (pair first others)) = or_alone (power_of first) (λ rest. product (part (signed (place_in first) false) (power_of first) rest)) (factors others)
     product_of _ = no
 
-    pub factors : Tree (Terminal × Token) → Parts N
+    pub factors : Tree (Terminal × Token) → Parts Number
     factors (more (pair operator tree) others) = part (signed (place_in tree) (is_slash (token_of operator).kind)) (signed_power tree) (factors others)
     factors _ = no_part
 
     -- a power, perhaps with a sign
-    pub signed_power : Tree (Terminal × Token) → Syntax N
+    pub signed_power : Tree (Terminal × Token) → Syntax Number
     signed_power (pair sign tree) = with_sign sign (power_of tree)
     signed_power _ = no
 
     -- a power: behind `**` a sign belongs to the exponent
-    pub power_of : Tree (Terminal × Token) → Syntax N
+    pub power_of : Tree (Terminal × Token) → Syntax Number
     power_of (node (pair first others)) = or_alone (guarded_of first) (λ rest. power (part (placed (place_in first)) (guarded_of first) rest)) (exponents others)
     power_of _ = no
 
-    pub exponents : Tree (Terminal × Token) → Parts N
+    pub exponents : Tree (Terminal × Token) → Parts Number
     exponents (more (pair _ tree) others) = part (placed (place_in tree)) (signed_guarded tree) (exponents others)
     exponents _ = no_part
 
     -- an operand under conditions, perhaps with a sign
-    pub signed_guarded : Tree (Terminal × Token) → Syntax N
+    pub signed_guarded : Tree (Terminal × Token) → Syntax Number
     signed_guarded (pair sign tree) = with_sign sign (guarded_of tree)
     signed_guarded _ = no
 
     -- an operand under conditions
-    pub guarded_of : Tree (Terminal × Token) → Syntax N
+    pub guarded_of : Tree (Terminal × Token) → Syntax Number
     guarded_of (node (pair operand others)) = or_alone (primary operand) (guarded (primary operand)) (guards others)
     guarded_of _ = no
 
-    pub guards : Tree (Terminal × Token) → Parts N
+    pub guards : Tree (Terminal × Token) → Parts Number
     guards (more tree others) = part plain (condition tree) (guards others)
     guards _ = no_part
 
     -- what stands behind a `$`
-    pub condition : Tree (Terminal × Token) → Syntax N
+    pub condition : Tree (Terminal × Token) → Syntax Number
     condition (node (pair _ tree)) = negated_primary tree
     condition _ = no
 
-    pub negated_primary : Tree (Terminal × Token) → Syntax N
+    pub negated_primary : Tree (Terminal × Token) → Syntax Number
     negated_primary (pair word tree) = negated_by word (primary tree)
     negated_primary _ = no
 
     -- an operand: a constant, a reference, a call, a fold, or an expression in parentheses
-    pub primary : Tree (Terminal × Token) → Syntax N
+    pub primary : Tree (Terminal × Token) → Syntax Number
     primary (node (left tree)) = constant_in tree
     primary (node (right (left tree))) = target tree
     primary (node (right (right (left tree)))) = call_of tree
@@ -296,74 +294,74 @@ module _ {N : Type 0} (source : List ℕ) (names labels : List (List ℕ)) (valu
     primary (node (right (right (right (right tree))))) = bracketed_expression tree
     primary _ = no
 
-    pub bracketed_expression : Tree (Terminal × Token) → Syntax N
+    pub bracketed_expression : Tree (Terminal × Token) → Syntax Number
     bracketed_expression (pair _ (pair tree _)) = expression tree
     bracketed_expression _ = no
 
     -- a call of a function, or of `ord` or `card`
-    pub call_of : Tree (Terminal × Token) → Syntax N
+    pub call_of : Tree (Terminal × Token) → Syntax Number
     call_of (node (left tree)) = function_call tree
     call_of (node (right tree)) = set_call tree
     call_of _ = no
 
-    pub function_call : Tree (Terminal × Token) → Syntax N
+    pub function_call : Tree (Terminal × Token) → Syntax Number
     function_call (pair word tree) = call (token_of word).at (function_of (text_in word)) (bracketed_arguments tree)
     function_call _ = no
 
-    pub bracketed_arguments : Tree (Terminal × Token) → Parts N
+    pub bracketed_arguments : Tree (Terminal × Token) → Parts Number
     bracketed_arguments (pair _ (pair list _)) = arguments list
     bracketed_arguments _ = no_part
 
-    pub arguments : Tree (Terminal × Token) → Parts N
+    pub arguments : Tree (Terminal × Token) → Parts Number
     arguments (node (pair first others)) = part plain (expression first) (more_arguments others)
     arguments _ = no_part
 
-    pub more_arguments : Tree (Terminal × Token) → Parts N
+    pub more_arguments : Tree (Terminal × Token) → Parts Number
     more_arguments (more (pair _ tree) others) = part plain (expression tree) (more_arguments others)
     more_arguments _ = no_part
 
     -- a fold
-    pub fold_of : Tree (Terminal × Token) → Syntax N
+    pub fold_of : Tree (Terminal × Token) → Syntax Number
     fold_of (node (pair word (pair _ (pair (pair sets (pair _ body)) _)))) =
         fold_over (token_of word).at (fold_op_of (text_in word)) (control sets) (expression body)
     fold_of _ = no
 
     -- a reference, or what is assigned
-    pub target : Tree (Terminal × Token) → Syntax N
+    pub target : Tree (Terminal × Token) → Syntax Number
     target (node (pair name (pair dotted bracketed))) = reference (token_of name).at (name_in name) (suffix_in dotted) (optional_indices bracketed)
     target _ = no
 
-    pub optional_indices : Tree (Terminal × Token) → Indices N
+    pub optional_indices : Tree (Terminal × Token) → Indices Number
     optional_indices (some (pair _ (pair list _))) = indices list
     optional_indices _ = no_index
 
-    pub indices : Tree (Terminal × Token) → Indices N
+    pub indices : Tree (Terminal × Token) → Indices Number
     indices (node (pair first others)) = index first (more_indices others)
     indices _ = no_index
 
-    pub more_indices : Tree (Terminal × Token) → Indices N
+    pub more_indices : Tree (Terminal × Token) → Indices Number
     more_indices (more (pair _ tree) others) = index tree (more_indices others)
     more_indices _ = no_index
 
     -- an index before others: a label, or a set, perhaps with a lag
-    pub index : Tree (Terminal × Token) → Indices N → Indices N
+    pub index : Tree (Terminal × Token) → Indices Number → Indices Number
     index (node (left text)) rest = label (label_in text) rest
     index (node (right (pair name none))) rest = set (name_in name) rest
     index (node (right (pair name (some tree)))) rest = lag (name_in name) tree rest
     index _ rest = rest
 
-    pub lag : ℕ → Tree (Terminal × Token) → Indices N → Indices N
+    pub lag : ℕ → Tree (Terminal × Token) → Indices Number → Indices Number
     lag name (node (pair sign amount)) rest = lagged name (lag_op_of (token_of sign).kind) (place_in amount) (lag_amount amount) rest
     lag name _ rest = rest
 
-    pub lag_amount : Tree (Terminal × Token) → Syntax N
+    pub lag_amount : Tree (Terminal × Token) → Syntax Number
     lag_amount (node (left tree)) = number_in tree
     lag_amount (node (right (left tree))) = scalar tree
     lag_amount (node (right (right tree))) = bracketed_expression tree
     lag_amount _ = no
 
     -- the sets of a fold or a loop, and the condition
-    pub control : Tree (Terminal × Token) → Control N
+    pub control : Tree (Terminal × Token) → Control Number
     control (node (pair sets none)) = over (sets_in sets)
     control (node (pair sets (some tree))) = over_where (sets_in sets) (condition tree)
     control _ = over []

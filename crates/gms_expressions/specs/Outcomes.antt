@@ -5,7 +5,7 @@ use Rattle.gms_labels.specs.declared.place.Place.{Place}
 use Rattle.gms_labels.specs.Labels.{entered, IsFullFor}
 use Rattle.gms_lex.specs.declared.token.Token.{Token}
 use Rattle.gms_lex.specs.Places.{place_of}
-use Rattle.gms_lex.specs.TokenTexts.{token_text}
+use Rattle.gms_lex.specs.TokenTexts.{token_text, unquoted}
 use Rattle.gq_number.specs.Number.{Number}
 use Rattle.gq_text.specs.Literal.{FitsLiteral}
 use Rattle.gq_text.specs.Decimal.{MeansNumber}
@@ -22,7 +22,6 @@ use Rattle.gms_expressions.specs.declared.fault.SyntaxFault.{SyntaxFault}
 use Rattle.gms_expressions.specs.declared.fault.SyntaxFaultOrMemory.{SyntaxFaultOrMemory}
 use Rattle.gms_expressions.specs.declared.fault.SyntaxFaultOrMemory.TheVariants.{Fault}
 use Rattle.gms_expressions.specs.Words.{terminal_of}
-use Rattle.gms_expressions.specs.ExpressionTrees.{unquoted}
 
 -- the tokens of a source as the grammar sees them
 abbrev pub seen : List ℕ → List Token → List (Terminal × Token)

@@ -40,7 +40,6 @@ use Rattle.gms_expressions.specs.Words.{terminal_of}
 use Rattle.gms_expressions.specs.Outcomes.{Walk, syntax_rule, seen, unexpected}
 use Rattle.gms_expressions.specs.Calls.{GoesOn}
 use Rattle.gms_ast.specs.Numbers.{indices_in_numbers, control_in_numbers}
-use Rattle.gms_expressions.specs.Valuations.{IsValuation}
 use Rattle.gms_expressions.specs.Nodes.{view, plain_views}
 
 -- a token as the grammar sees it
@@ -68,17 +67,15 @@ pub record Refuses (limit : ℕ) (source : List ℕ) (part : GamsPart) (tables :
   pub why : rules.Refuses syntax_rule (limit, source) part walk tokens refusal
   pub went : Went walk tables
 
--- the names, the labels and the numbers that the words of a program have in the end
+-- the names and the labels that the words of a program have in the end
 pub record Sense : Type 0 where
   pub names : List (List ℕ)
   pub labels : List (List ℕ)
-  pub value : List ℕ → Number
 
 -- the sense is one of a program of which these are the tables so far
 pub record IsSense (tables : Tables) (sense : Sense) : Type 0 where
   pub names : (text : List ℕ) (n : ℕ) → place_of tables.names text ≡ Some n → place_of sense.names text ≡ Some n
   pub labels : (text : List ℕ) (n : ℕ) → place_of tables.labels text ≡ Some n → place_of sense.labels text ≡ Some n
-  pub value : IsValuation sense.value
 
 -- the tokens from a place on
 abbrev pub seen_from : Reader → ℕ → List Seen
@@ -101,13 +98,13 @@ IsAnswer limit Means part reader at old new result =
     MatchResult result (λ r. IsGot limit Means part reader at old new r.0 r.1)
     (λ e. Refuses limit reader.source.now part new (walk_of reader.unclosed old) (seen_from reader at) e)
 
--- what a derivation means in a source, by its names, its labels and the numbers of its texts
+-- what a derivation means in a source, by its names and its labels
 abbrev pub Meaning : Type 0 → Type 0
-Meaning X = List ℕ → List (List ℕ) → List (List ℕ) → (List ℕ → Number) → Derivation → X
+Meaning X = List ℕ → List (List ℕ) → List (List ℕ) → Derivation → X
 
 -- an expression is what a derivation means
 pub record IsMeant {F : Type 0} (value : F → Number) (source : List ℕ) (meaning : Meaning (Syntax Number)) (sense : Sense) (tree : Derivation) (e : Expr F) : Type 0 where
-  pub is : view value e ≡ meaning source sense.names sense.labels sense.value tree
+  pub is : view value e ≡ meaning source sense.names sense.labels tree
 
 -- an expression was read at a place, or was refused
 abbrev pub IsExpression : {F : Type 0} → ℕ → (F → Number) → Meaning (Syntax Number) → GamsPart → Reader → ℕ → Tables → Tables → Result (Expr F × ℕ) SyntaxFaultOrMemory → Type 0
@@ -183,23 +180,23 @@ pub record IsNegated (reader : Reader) (at : ℕ) (not : Bool) (behind : ℕ) : 
 
 -- a suffix, where there is one
 abbrev pub IsSuffix : List ℕ → Sense → Derivation → Suffix → Type 0
-IsSuffix source sense tree suffix = suffix ≡ suffix_in source sense.names sense.labels sense.value tree
+IsSuffix source sense tree suffix = suffix ≡ suffix_in source sense.names sense.labels tree
 
 -- the number of a name, and its place
 abbrev pub IsName : List ℕ → Sense → Derivation → ℕ × Place → Type 0
-IsName source sense tree name = (name.0 ≡ name_in source sense.names sense.labels sense.value tree) × (name.1 ≡ (token_of tree).at)
+IsName source sense tree name = (name.0 ≡ name_in source sense.names sense.labels tree) × (name.1 ≡ (token_of tree).at)
 
 -- the number of a label
 abbrev pub IsLabel : List ℕ → Sense → Derivation → ℕ → Type 0
-IsLabel source sense tree label = label ≡ label_in source sense.names sense.labels sense.value tree
+IsLabel source sense tree label = label ≡ label_in source sense.names sense.labels tree
 
 -- the numbers of the names of a list
 abbrev pub AreNames : List ℕ → Sense → Derivation → Vec ℕ Global → Type 0
-AreNames source sense tree names = names.items ≡ names_in source sense.names sense.labels sense.value tree
+AreNames source sense tree names = names.items ≡ names_in source sense.names sense.labels tree
 
 -- the numbers of the sets of a control
 abbrev pub AreSets : List ℕ → Sense → Derivation → Vec ℕ Global → Type 0
-AreSets source sense tree sets = sets.items ≡ sets_in source sense.names sense.labels sense.value tree
+AreSets source sense tree sets = sets.items ≡ sets_in source sense.names sense.labels tree
 
 -- the value of a number, which is within its range
 abbrev pub IsValue : {F : Type 0} → ℕ → (F → Number) → List ℕ → F → Type 0
@@ -212,28 +209,28 @@ pub record IsOutOfRange (limit : ℕ) (source : List ℕ) (token : Token) (refus
 
 -- the arguments of a call
 abbrev pub AreArguments : {F : Type 0} → (F → Number) → List ℕ → Sense → Derivation → Vec (Expr F) Global → Type 0
-AreArguments value source sense tree args = parts_of (plain_views value args.items) ≡ bracketed_arguments source sense.names sense.labels sense.value tree
+AreArguments value source sense tree args = parts_of (plain_views value args.items) ≡ bracketed_arguments source sense.names sense.labels tree
 
 -- a control
 abbrev pub IsControl : {F : Type 0} → (F → Number) → List ℕ → Sense → Derivation → ControlNode F → Type 0
-IsControl value source sense tree sets = control_in_numbers value (control_tree sets) ≡ control source sense.names sense.labels sense.value tree
+IsControl value source sense tree sets = control_in_numbers value (control_tree sets) ≡ control source sense.names sense.labels tree
 
 -- what a reference refers to
 abbrev pub IsTarget : {F : Type 0} → (F → Number) → List ℕ → Sense → Derivation → TargetNode F → Type 0
 IsTarget value source sense tree target =
-    reference target.at target.name target.suffix (indices_in_numbers value (indices_of (map index_tree target.indices))) ≡ target_of source sense.names sense.labels sense.value tree
+    reference target.at target.name target.suffix (indices_in_numbers value (indices_of (map index_tree target.indices))) ≡ target_of source sense.names sense.labels tree
 
 -- the indices of a reference
 abbrev pub AreIndices : {F : Type 0} → (F → Number) → List ℕ → Sense → Derivation → Vec (IndexNode F) Global → Type 0
-AreIndices value source sense tree indices = indices_in_numbers value (indices_of (map index_tree indices.items)) ≡ optional_indices source sense.names sense.labels sense.value tree
+AreIndices value source sense tree indices = indices_in_numbers value (indices_of (map index_tree indices.items)) ≡ optional_indices source sense.names sense.labels tree
 
 -- an index, before any others
 abbrev pub IsIndex : {F : Type 0} → (F → Number) → List ℕ → Sense → Derivation → IndexNode F → Type 0
-IsIndex {F} value source sense tree index = (rest : Indices F) → indices_in_numbers value (index_tree index rest) ≡ index_of source sense.names sense.labels sense.value tree (indices_in_numbers value rest)
+IsIndex {F} value source sense tree index = (rest : Indices F) → indices_in_numbers value (index_tree index rest) ≡ index_of source sense.names sense.labels tree (indices_in_numbers value rest)
 
 -- a lag of a name, before other indices
 abbrev pub IsLag : {F : Type 0} → (F → Number) → List ℕ → Sense → Derivation → LagOp × Place × Box (Expr F) Global → Type 0
-IsLag value source sense tree lag = (name : ℕ) (rest : Indices Number) → lagged name lag.0 lag.1 (view value lag.2.value) rest ≡ lag_of source sense.names sense.labels sense.value name tree rest
+IsLag value source sense tree lag = (name : ℕ) (rest : Indices Number) → lagged name lag.0 lag.1 (view value lag.2.value) rest ≡ lag_of source sense.names sense.labels name tree rest
 
 -- the nonterminal of what is read by itself inside parentheses
 abbrev pub nonterminal_of : Inner → Nonterminal
@@ -242,8 +239,8 @@ nonterminal_of inner_part.Condition = Condition
 
 -- what its derivation means
 abbrev pub meaning_of : Inner → Meaning (Syntax Number)
-meaning_of inner_part.Expression source names labels value tree = expression source names labels value tree
-meaning_of inner_part.Condition source names labels value tree = condition source names labels value tree
+meaning_of inner_part.Expression source names labels tree = expression source names labels tree
+meaning_of inner_part.Condition source names labels tree = condition source names labels tree
 
 -- What is asked of the function that reads inside parentheses: it may be called where so many are open, or more, and reads what it says.
 pub record CanReadFrom {F M : Type 0} (limit : ℕ) (value : F → Number) (least : ℕ) (reader : Reader) (pre : Reader → MutBor Tables → ℕ → Inner → M → Type 0)

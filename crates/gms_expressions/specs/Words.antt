@@ -1,35 +1,12 @@
 -- What a token is to the grammar (GAMS User's Guide, "Language Items", reserved words).
 use Rattle.std.specs.Prelude.{ℕ, nat_lt, if◌then◌else◌, List, [], ◌∷◌, length, Option, Some, None, codes}
-use Rattle.gms_lines.specs.ControlWords.{is_among}
 use Rattle.gms_lexemes.specs.declared.kind.Sym.{Sym}
 use Rattle.gms_lexemes.specs.declared.kind.Sym.TheVariants as sym
 use Rattle.gms_lexemes.specs.declared.kind.Kind.{Kind}
 use Rattle.gms_lexemes.specs.declared.kind.Kind.TheVariants as kind
 use Rattle.gms_grammar.specs.declared.terminal.Terminal.{Terminal}
-use Rattle.gms_grammar.specs.declared.terminal.Terminal.TheVariants.{Abort, Alias, Display, Equation, Loop, Model, Option as OptionWord, Parameter, Scalar, Set, Solve, Table, Variable, VariableType, Suffix, Function, OrdCard, FoldOp, Infinity, NotAvailable, YesNo, Not, And, Or, RelationWord, All, Using, Direction, Reserved, NotInProfile, Name, Sense, Power, DotDot, Relation, Circular, Sign, Star, Slash, Equals, LeftParen, RightParen, Comma, Semicolon, Dot, Dollar, Label, Number, Text, LongText, Break, TableLine, End}
-
--- the words of a kind
-abbrev pub Words : Type 0
-Words = Terminal × List (List ℕ)
-
--- the words that begin statements
-abbrev pub statement_words : List Words
-statement_words =
-    (Abort, codes "abort" ∷ []) ∷
-    (Alias, codes "alias" ∷ []) ∷
-    (Display, codes "display" ∷ []) ∷
-    (Equation, codes "equation" ∷ codes "equations" ∷ []) ∷
-    (Loop, codes "loop" ∷ []) ∷
-    (Model, codes "model" ∷ codes "models" ∷ []) ∷
-    (OptionWord, codes "option" ∷ codes "options" ∷ []) ∷
-    (Parameter, codes "parameter" ∷ codes "parameters" ∷ []) ∷
-    (Scalar, codes "scalar" ∷ codes "scalars" ∷ []) ∷
-    (Set, codes "set" ∷ codes "sets" ∷ []) ∷
-    (Solve, codes "solve" ∷ []) ∷
-    (Table, codes "table" ∷ []) ∷
-    (Variable, codes "variable" ∷ codes "variables" ∷ []) ∷
-    (VariableType, codes "free" ∷ codes "positive" ∷ codes "negative" ∷ codes "binary" ∷ codes "integer" ∷ codes "sos1" ∷ codes "sos2" ∷ []) ∷
-    []
+use Rattle.gms_grammar.specs.declared.terminal.Terminal.TheVariants.{Suffix, Function, OrdCard, FoldOp, Infinity, NotAvailable, YesNo, Not, And, Or, RelationWord, All, Using, Direction, Reserved, NotInProfile, Name, Sense, Power, DotDot, Relation, Circular, Sign, Star, Slash, Equals, LeftParen, RightParen, Comma, Semicolon, Dot, Dollar, Label, Number, Text, LongText, Break, TableLine, End}
+use Rattle.gms_grammar.specs.Keywords.{Words, statement_words, kind_among}
 
 -- the words of expressions
 abbrev pub expression_words : List Words
@@ -56,11 +33,6 @@ other_words =
     (Reserved, codes "lp" ∷ []) ∷
     (NotInProfile, codes "if" ∷ codes "while" ∷ codes "for" ∷ codes "put" ∷ codes "file" ∷ codes "acronym" ∷ codes "eps" ∷ codes "undf" ∷ []) ∷
     []
-
--- the kind of the words among which a word is, letter case ignored
-abbrev pub kind_among : List ℕ → List Words → Option Terminal
-kind_among word [] = None
-kind_among word (words ∷ others) = if is_among word words.1 then Some words.0 else kind_among word others
 
 -- a kind, or a name where there is none
 abbrev pub or_name : Option Terminal → Terminal

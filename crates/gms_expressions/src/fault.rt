@@ -9,7 +9,7 @@ use gms_labels::{LabelFault, Place};
 use std::alloc::{AllocError, AllocFailed};
 
 /// A syntax error, by its cause.
-#[derive(Clone, Copy, PartialEq, Eq)]
+#[derive(Clone, Copy)]
 pub enum SyntaxError {
     /// The tokens before it begin a part, and with it they begin none.
     Expected,

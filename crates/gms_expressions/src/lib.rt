@@ -19,5 +19,5 @@ pub use fault::{SyntaxError, SyntaxFault, SyntaxFaultOrMemory};
 pub use laws::valuation_laws;
 pub use read::{control, expression, primary, target};
 pub use reader::MOST_OPEN;
-pub use spelling::suffix_of;
+pub use spelling::{is_minus, suffix_of};
 pub use word::{bytes_of, terminal_of};

@@ -7,9 +7,9 @@ ghost use Rattle.gms_expressions.specs.Readings.{IsReady, IsAnswer, IsName, IsLa
 
 use crate::fault::SyntaxFaultOrMemory;
 use crate::reader::{Read, Reader, Tables};
-use crate::spelling::unquoted;
 use gms_grammar::Terminal;
 use gms_labels::Place;
+use gms_lex::unquoted;
 
 impl<'s> Reader<'s> {
     /// The number of the name that stands here, and its place.

@@ -79,7 +79,7 @@ pub fn expression<F: ExactField>(
     requires few { unclosed ≤ 100 }
     ensures read { MatchResult result
         (λ r. IsRead F.limit source.now Expression
-        (λ all_names all_labels value tree part. in_numbers F.value (tree_of part) ≡ trees.expression source.now all_names all_labels value tree)
+        (λ all_names all_labels tree part. in_numbers F.value (tree_of part) ≡ trees.expression source.now all_names all_labels tree)
         (walk_from unclosed names.old labels.old) (walk_from unclosed names.new labels.new)
         (tokens_from source.now tokens.now from) (tokens_from source.now tokens.now r.1) r.0)
         (λ e. IsRefusal F.limit source.now Expression (walk_from unclosed names.old labels.old) (tokens_from source.now tokens.now from) e) }
@@ -113,7 +113,7 @@ pub fn primary<F: ExactField>(
     requires few { unclosed ≤ 100 }
     ensures read { MatchResult result
         (λ r. IsRead F.limit source.now Primary
-        (λ all_names all_labels value tree part. in_numbers F.value (tree_of part) ≡ trees.primary source.now all_names all_labels value tree)
+        (λ all_names all_labels tree part. in_numbers F.value (tree_of part) ≡ trees.primary source.now all_names all_labels tree)
         (walk_from unclosed names.old labels.old) (walk_from unclosed names.new labels.new)
         (tokens_from source.now tokens.now from) (tokens_from source.now tokens.now r.1) r.0)
         (λ e. IsRefusal F.limit source.now Primary (walk_from unclosed names.old labels.old) (tokens_from source.now tokens.now from) e) }
@@ -146,7 +146,7 @@ pub fn control<F: ExactField>(
     requires few { unclosed ≤ 100 }
     ensures read { MatchResult result
         (λ r. IsRead F.limit source.now ControlPart
-        (λ all_names all_labels value tree part. control_in_numbers F.value (control_tree part) ≡ trees.control source.now all_names all_labels value tree)
+        (λ all_names all_labels tree part. control_in_numbers F.value (control_tree part) ≡ trees.control source.now all_names all_labels tree)
         (walk_from unclosed names.old labels.old) (walk_from unclosed names.new labels.new)
         (tokens_from source.now tokens.now from) (tokens_from source.now tokens.now r.1) r.0)
         (λ e. IsRefusal F.limit source.now ControlPart (walk_from unclosed names.old labels.old) (tokens_from source.now tokens.now from) e) }
@@ -179,7 +179,7 @@ pub fn target<F: ExactField>(
     requires few { unclosed ≤ 100 }
     ensures read { MatchResult result
         (λ r. IsRead F.limit source.now TargetPart
-        (λ all_names all_labels value tree part. reference part.at part.name part.suffix (indices_in_numbers F.value (indices_of (map index_tree part.indices))) ≡ trees.target source.now all_names all_labels value tree)
+        (λ all_names all_labels tree part. reference part.at part.name part.suffix (indices_in_numbers F.value (indices_of (map index_tree part.indices))) ≡ trees.target source.now all_names all_labels tree)
         (walk_from unclosed names.old labels.old) (walk_from unclosed names.new labels.new)
         (tokens_from source.now tokens.now from) (tokens_from source.now tokens.now r.1) r.0)
         (λ e. IsRefusal F.limit source.now TargetPart (walk_from unclosed names.old labels.old) (tokens_from source.now tokens.now from) e) }

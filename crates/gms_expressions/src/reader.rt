@@ -46,20 +46,6 @@ pub(crate) struct Reader<'s> {
     pub(crate) unclosed: u32,
 }
 
-/// Whether two kinds are the same.
-fn is(kind: Terminal, other: Terminal) -> bool
-    ensures { result ≡ is kind other }
-{
-    kind == other
-}
-
-/// Whether a kind is among some.
-fn is_among(kinds: &[Terminal], kind: Terminal) -> bool
-    ensures { result ≡ is_among kinds.now kind }
-{
-    kinds.iter().any(|other| is(kind, *other))
-}
-
 impl<'s> Reader<'s> {
     /// The bytes of a token.
     pub(crate) fn text(&self, token: Token) -> &'s [u8]
@@ -119,7 +105,7 @@ impl<'s> Reader<'s> {
             (λ r. IsNext (is kind) self.now at r.0 r.1) }
     {
         let token = self.token(at)?;
-        if is(kind, self.next(at)) {
+        if kind.is(self.next(at)) {
             return Some((token, at + 1));
         }
         None
@@ -133,7 +119,7 @@ impl<'s> Reader<'s> {
             (λ r. IsNext (is_among kinds.now) self.now at r.0 r.1) }
     {
         let token = self.token(at)?;
-        if is_among(kinds, self.next(at)) {
+        if self.next(at).is_among(kinds) {
             return Some((token, at + 1));
         }
         None

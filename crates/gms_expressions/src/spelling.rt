@@ -1,7 +1,7 @@
 //! What words and symbols of expressions mean.
 ghost use Rattle.std.specs.Prelude.{◌≡◌, List};
 ghost use Rattle.std.specs.Prelude.{codes};
-ghost use Rattle.gms_expressions.specs.ExpressionTrees.{is_word, suffix_of, fold_op_of, function_of, relation_of_word, relation_of, lag_op_of, is_minus, is_slash, unquoted};
+ghost use Rattle.gms_expressions.specs.ExpressionTrees.{is_word, suffix_of, fold_op_of, function_of, relation_of_word, relation_of, lag_op_of, is_minus, is_slash};
 
 use gms_ast::{FoldOp, Function, LagOp, RelOp, Suffix};
 use gms_lexemes::{Kind, Sym};
@@ -126,7 +126,7 @@ pub(crate) fn lag_op_of(kind: Kind) -> LagOp
 }
 
 /// Whether a token is `-`.
-pub(crate) fn is_minus(kind: Kind) -> bool
+pub fn is_minus(kind: Kind) -> bool
     ensures { result ≡ is_minus kind }
 {
     matches!(kind, Kind::Symbol(Sym::Minus))
@@ -158,14 +158,4 @@ pub(crate) fn is_ord(word: &[u8]) -> bool
     ensures { result ≡ is_word word.now (codes "ord") }
 {
     word.eq_ignore_ascii_case(b"ord")
-}
-
-/// The bytes between the marks of a quoted token.
-pub(crate) fn unquoted(text: &[u8]) -> &[u8]
-    ensures { result.now ≡ unquoted text.now }
-{
-    match text {
-        [_, inner @ .., _] => inner,
-        _ => &[],
-    }
 }

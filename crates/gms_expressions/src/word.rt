@@ -1,33 +1,16 @@
 //! What a token is to the grammar.
 ghost use Rattle.std.specs.Prelude.{◌≡◌, ◌≤◌, length};
-ghost use Rattle.gms_expressions.specs.Words.{statement_words, expression_words, other_words, kind_among, terminal_of_word, terminal_of_symbol, terminal_of_text, terminal_of};
+ghost use Rattle.gms_grammar.specs.Keywords.{kind_among};
+ghost use Rattle.gms_expressions.specs.Words.{expression_words, other_words, terminal_of_word, terminal_of_symbol, terminal_of_text, terminal_of};
 ghost use Rattle.gms_lex.specs.TokenTexts.{token_text};
 
-use gms_grammar::Terminal;
+use gms_grammar::{Terminal, statement_word};
 use gms_lex::Token;
 use gms_lexemes::{Kind, Sym};
 use gms_lines::is_among;
 
 /// How many bytes a quoted label has at most, with its marks.
 const MOST_QUOTED_BYTES: usize = 65;
-
-const EQUATION_WORDS: [&str; 2] = ["equation", "equations"];
-
-const MODEL_WORDS: [&str; 2] = ["model", "models"];
-
-const OPTION_WORDS: [&str; 2] = ["option", "options"];
-
-const PARAMETER_WORDS: [&str; 2] = ["parameter", "parameters"];
-
-const SCALAR_WORDS: [&str; 2] = ["scalar", "scalars"];
-
-const SET_WORDS: [&str; 2] = ["set", "sets"];
-
-const VARIABLE_WORDS: [&str; 2] = ["variable", "variables"];
-
-const VARIABLE_TYPE_WORDS: [&str; 7] = [
-    "free", "positive", "negative", "binary", "integer", "sos1", "sos2",
-];
 
 const SUFFIX_WORDS: [&str; 7] = ["lo", "up", "l", "m", "fx", "modelstat", "solvestat"];
 
@@ -51,43 +34,6 @@ const DIRECTION_WORDS: [&str; 2] = ["minimizing", "maximizing"];
 const NOT_IN_PROFILE_WORDS: [&str; 8] = [
     "if", "while", "for", "put", "file", "acronym", "eps", "undf",
 ];
-
-/// What a word is among the words that begin statements.
-fn statement_word(word: &[u8]) -> Option<Terminal>
-    ensures { result ≡ kind_among word.now statement_words }
-{
-    if is_among(word, &["abort"]) {
-        Some(Terminal::Abort)
-    } else if is_among(word, &["alias"]) {
-        Some(Terminal::Alias)
-    } else if is_among(word, &["display"]) {
-        Some(Terminal::Display)
-    } else if is_among(word, &EQUATION_WORDS) {
-        Some(Terminal::Equation)
-    } else if is_among(word, &["loop"]) {
-        Some(Terminal::Loop)
-    } else if is_among(word, &MODEL_WORDS) {
-        Some(Terminal::Model)
-    } else if is_among(word, &OPTION_WORDS) {
-        Some(Terminal::Option)
-    } else if is_among(word, &PARAMETER_WORDS) {
-        Some(Terminal::Parameter)
-    } else if is_among(word, &SCALAR_WORDS) {
-        Some(Terminal::Scalar)
-    } else if is_among(word, &SET_WORDS) {
-        Some(Terminal::Set)
-    } else if is_among(word, &["solve"]) {
-        Some(Terminal::Solve)
-    } else if is_among(word, &["table"]) {
-        Some(Terminal::Table)
-    } else if is_among(word, &VARIABLE_WORDS) {
-        Some(Terminal::Variable)
-    } else if is_among(word, &VARIABLE_TYPE_WORDS) {
-        Some(Terminal::VariableType)
-    } else {
-        None
-    }
-}
 
 /// What a word is among the words of expressions.
 fn expression_word(word: &[u8]) -> Option<Terminal>

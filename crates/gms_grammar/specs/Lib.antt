@@ -2,6 +2,7 @@ pub mod Grammar
 pub mod LookAhead
 pub mod Reading
 pub mod Terminals
+pub mod Keywords
 pub mod GamsGrammar
 pub mod GamsLookAhead
 pub mod PlainGrammar

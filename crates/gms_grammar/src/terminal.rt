@@ -1,7 +1,9 @@
 //! The kinds of tokens that the grammar tells apart.
+ghost use Rattle.std.specs.Prelude.{◌≡◌};
+ghost use Rattle.gms_grammar.specs.Terminals.{is, is_among};
 
 /// A kind of tokens, as productions speak of it (GAMS User's Guide, "Language Items", reserved words and delimiters).
-#[derive(Clone, Copy, Debug, PartialEq, Eq)]
+#[derive(Clone, Copy, PartialEq, Eq)]
 pub enum Terminal {
     /// `abort`.
     Abort,
@@ -113,4 +115,20 @@ pub enum Terminal {
     FaultyNumber,
     /// A `(` with 100 open before it; it stands nowhere.
     DeepParen,
+}
+
+impl Terminal {
+    /// Whether two kinds are the same.
+    pub fn is(self, other: Terminal) -> bool
+        ensures { result ≡ is self other }
+    {
+        self == other
+    }
+
+    /// Whether a kind is among some.
+    pub fn is_among(self, kinds: &[Terminal]) -> bool
+        ensures { result ≡ is_among kinds.now self }
+    {
+        kinds.iter().any(|other| self.is(*other))
+    }
 }

@@ -13,3 +13,4 @@ pub mod NumberLemmas
 pub mod SymbolLemmas
 pub mod LongestLemmas
 pub mod ApartLemmas
+pub mod UnquotedLemmas

@@ -7,7 +7,7 @@ use Rattle.std.specs.List.{prefix_len}
 use Rattle.std.specs.Str.{IsAscii}
 use Rattle.std.specs.Char.{is_ascii_alphabetic, is_ascii_alphanumeric}
 use Rattle.gms_lines.specs.Lines.{begins, before, is_blank, is_line_end, content}
-use Rattle.gms_lines.proofs.LineLemmas.{true_or_false, below_or, before-le-length}
+use Rattle.gms_lines.proofs.LineLemmas.{below_or, before-le-length}
 use Rattle.gms_lexemes.specs.declared.kind.Kind.{Kind}
 use Rattle.gms_lexemes.specs.declared.kind.Kind.TheVariants.{Word, Label, Text, TableLine}
 use Rattle.gms_lexemes.specs.declared.kind.Sym.{Sym}
@@ -30,8 +30,9 @@ use Rattle.gms_lex.specs.declared.mode.LineEnds.TheVariants.{Skipped, EndItem, E
 use Rattle.gms_lex.specs.Keywords.{begins_statement}
 use Rattle.gms_lex.specs.Pieces.{passes, ends_or_begins, space_length, line_ends, line_end, is_item_mark, is_element_mark, behind_name, behind_domain, begins_value_dot, element_tail, behind_label, in_list, token_at, table_piece, plain_piece, piece_at}
 use Rattle.gms_lex.specs.TokenTexts.{unquoted, IsSpelled}
-use Rattle.gms_lex.proofs.LineTextLemmas.{IsSolidByte, IsSolid, length-take_most, length-take_all}
+use Rattle.gms_lex.proofs.LineTextLemmas.{IsSolidByte, IsSolid, length-take_most}
 use Rattle.gms_lex.proofs.TableLemmas.{IsTableText}
+use Rattle.gms_lex.proofs.UnquotedLemmas.{unquoted-le}
 
 -- a token whose text names something, so many bytes of a text, stands on one line and is spelled as its kind; nothing is said of others
 abbrev pub IsNamed : Piece → ℕ → List ℕ → Type 0
@@ -107,14 +108,6 @@ word_named text some =
     let n = prefix_len is_name_byte text in
     let solid = run_solid is_name_byte name_byte text some in
     if_named text (nat_lt longest_label n) _ _ (λ _. tt) (λ h. let le : n ≤ longest_label = grind (arith, nat_tests, h) in (solid, (solid.ascii, omega (arith, length-take_most n text))))
-
--- a text that does not begin with a quotation mark is its own without marks
-unquoted-le : (text : List ℕ) → length (unquoted text) ≤ length text
-unquoted-le [] = omega arith
-unquoted-le (b ∷ text) = elim (true_or_false (is_quote b)) [
-  | inl h ↦ subst (λ t. length t ≤ suc (length text)) (sym (ap (λ v. if v then take (length text - 1) text else b ∷ text) h)) (omega (arith, length-take_all (length text - 1) text))
-  | inr h ↦ subst (λ t. length t ≤ suc (length text)) (sym (ap (λ v. if v then take (length text - 1) text else b ∷ text) h)) (omega arith)
-]
 
 -- an unquoted label
 label_named : (text : List ℕ) → 0 < prefix_len is_label_byte text → IsNamedRead text (bounded Label (prefix_len is_label_byte text))
@@ -193,7 +186,7 @@ quoted_text_named (mark ∷ text) quote =
     (λ _. tt)
     (λ closed. if_named (mark ∷ text) (nat_lt plain inner) _ _
     (λ _. tt)
-    (λ h. let solid = quoted_solid mark text quote (not_false _ closed) (no_more plain inner h) in subst (λ t. IsSolid t × IsAscii t) (sym (quoted_front mark text inner)) (solid, solid.ascii)))
+    (λ h. let solid = quoted_solid mark text quote (not_false _ closed) (no_more plain inner h) in subst (λ t. IsSolid t × (IsAscii t × (begins is_quote t ≡ true))) (sym (quoted_front mark text inner)) (solid, (solid.ascii, quote))))
 
 -- a quoted label
 quoted_label_named : (text : List ℕ) → begins is_quote text ≡ true → IsNamedRead text (quoted (Token Label) text)

@@ -1,42 +1,29 @@
--- The words that begin statements (GAMS User's Guide, "GAMS Programs" and "Language Items", reserved words).
-use Rattle.std.specs.Prelude.{ℕ, Bool, not, ◌&&◌, if◌then◌else◌, List, [], ◌∷◌, take, drop, Option, Some, None, is_some, codes}
+-- What the words that begin statements tell of the tokens behind them (GAMS User's Guide, "GAMS Programs").
+use Rattle.std.specs.Prelude.{ℕ, Bool, not, ◌&&◌, List, take, drop, Option, option_map, is_some}
 use Rattle.std.specs.List.{prefix_len}
-use Rattle.gms_lines.specs.ControlWords.{is_among}
 use Rattle.gms_lexemes.specs.Bytes.{is_label_byte}
 use Rattle.gms_lexemes.specs.Numbers.{begins_dot}
+use Rattle.gms_grammar.specs.declared.terminal.Terminal.{Terminal}
+use Rattle.gms_grammar.specs.declared.terminal.Terminal.TheVariants as terminal
+use Rattle.gms_grammar.specs.Keywords.{statement_words, kind_among}
 use Rattle.gms_lex.specs.declared.keyword.Shape.TheVariants.{Set, Parameter, Scalar, Model}
 use Rattle.gms_lex.specs.declared.keyword.Keyword.{Keyword}
 use Rattle.gms_lex.specs.declared.keyword.Keyword.TheVariants.{Declarer, Table, Other}
 
--- the words that declare sets, and those whose items are written like sets
-abbrev pub set_words : List (List ℕ)
-set_words = codes "set" ∷ codes "sets" ∷ codes "variable" ∷ codes "variables" ∷ codes "equation" ∷ codes "equations" ∷ []
-
--- the words that declare parameters
-abbrev pub parameter_words : List (List ℕ)
-parameter_words = codes "parameter" ∷ codes "parameters" ∷ []
-
--- the words that declare scalars
-abbrev pub scalar_words : List (List ℕ)
-scalar_words = codes "scalar" ∷ codes "scalars" ∷ []
-
--- the words that declare models
-abbrev pub model_words : List (List ℕ)
-model_words = codes "model" ∷ codes "models" ∷ []
-
--- the word that declares a table
-abbrev pub table_words : List (List ℕ)
-table_words = codes "table" ∷ []
-
--- the other words that begin statements; those of kinds of variables stand before `variable`
-abbrev pub other_words : List (List ℕ)
-other_words =
-    codes "abort" ∷ codes "alias" ∷ codes "binary" ∷ codes "display" ∷ codes "free" ∷ codes "integer" ∷ codes "loop" ∷ codes "negative" ∷ codes "option" ∷ codes "options" ∷ codes "positive" ∷ codes "solve" ∷ codes "sos1" ∷ codes "sos2" ∷ []
+-- What follows a word that begins a statement: the items of sets, variables and equations are written alike.
+abbrev pub keyword_as : Terminal → Keyword
+keyword_as terminal.Set = Declarer Set
+keyword_as terminal.Variable = Declarer Set
+keyword_as terminal.Equation = Declarer Set
+keyword_as terminal.Parameter = Declarer Parameter
+keyword_as terminal.Scalar = Declarer Scalar
+keyword_as terminal.Model = Declarer Model
+keyword_as terminal.Table = Table
+keyword_as _ = Other
 
 -- the statement keyword that a word is, letter case ignored
 unfoldable pub keyword_of : List ℕ → Option Keyword
-keyword_of word =
-    if is_among word set_words then Some (Declarer Set) else (if is_among word parameter_words then Some (Declarer Parameter) else (if is_among word scalar_words then Some (Declarer Scalar) else (if is_among word model_words then Some (Declarer Model) else (if is_among word table_words then Some Table else (if is_among word other_words then Some Other else None)))))
+keyword_of text = option_map keyword_as (kind_among text statement_words)
 
 -- A text begins with an unquoted statement keyword: the longest run of a label's bytes is one, and no dot makes it part of a
 -- label.

@@ -1,6 +1,7 @@
 -- The texts of tokens: where they stand in the source, and how words and labels are spelled.
-use Rattle.std.specs.Prelude.{◌≡◌, ℕ, ◌-◌, ◌≤◌, if◌then◌else◌, List, [], ◌∷◌, length, take, drop}
+use Rattle.std.specs.Prelude.{◌≡◌, ℕ, ◌-◌, ◌≤◌, true, if◌then◌else◌, List, [], ◌∷◌, length, take, drop}
 use Rattle.std.specs.Str.{IsAscii}
+use Rattle.gms_lines.specs.Lines.{begins}
 use Rattle.gms_lines.specs.LineFaults.{longest_line}
 use Rattle.gms_lexemes.specs.declared.kind.Kind.{Kind}
 use Rattle.gms_lexemes.specs.declared.kind.Kind.TheVariants.{Word, Label, Number, Text, Symbol, Break, TableLine, End}
@@ -18,12 +19,12 @@ abbrev pub unquoted : List ℕ → List ℕ
 unquoted [] = []
 unquoted (b ∷ text) = if is_quote b then take (length text - 1) text else b ∷ text
 
--- Words, labels, quoted texts and lines of tables are of ASCII. Words and labels have at most 63 bytes, quotation marks not counted,
--- and a line of a table has no more than any line.
+-- Words, labels, quoted texts and lines of tables are of ASCII. Words and labels have at most 63 bytes, quotation marks not counted;
+-- a quoted text begins with its mark; a line of a table has no more bytes than any line.
 abbrev pub IsSpelled : Kind → List ℕ → Type 0
 IsSpelled Word text = IsAscii text × (length text ≤ longest_label)
 IsSpelled Label text = IsAscii text × (length (unquoted text) ≤ longest_label)
-IsSpelled Text text = IsAscii text
+IsSpelled Text text = IsAscii text × (begins is_quote text ≡ true)
 IsSpelled Number text = Unit {0}
 IsSpelled (Symbol symbol) text = Unit {0}
 IsSpelled Break text = Unit {0}

@@ -7,7 +7,7 @@ use gms_lines::LexError;
 use std::alloc::{AllocError, AllocFailed};
 
 /// A lexical error and its place.
-#[derive(Clone, Copy, Debug, PartialEq, Eq)]
+#[derive(Clone, Copy)]
 pub struct LexFault {
     /// The error.
     pub error: LexError,
@@ -16,7 +16,7 @@ pub struct LexFault {
 }
 
 /// A lexical fault of a source, or want of memory.
-#[derive(Clone, Copy, Debug, PartialEq, Eq)]
+#[derive(Clone, Copy)]
 pub enum LexFaultOrMemory {
     /// A growth found no memory.
     Memory,

@@ -34,7 +34,8 @@ pub fn token_laws()
 {}
 
 /// Each token takes bytes of its source and stands at the place of the first. Words, labels, quoted texts and lines of tables are of
-/// ASCII. Words and labels have at most 63 bytes, quotation marks not counted, and a line of a table has no more than any line.
+/// ASCII. Words and labels have at most 63 bytes, quotation marks not counted; a quoted text begins with its mark; a line of a table
+/// has no more bytes than any line.
 pub fn token_texts()
     ensures { (source : List ℕ) (tokens : List Token) → IsTokens source tokens → All (IsPlaced source) tokens }
 {}

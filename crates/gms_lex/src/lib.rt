@@ -17,4 +17,4 @@ pub use gms_lexemes::{Kind, Sym};
 pub use gms_lines::LexError;
 pub use laws::{token_laws, token_texts};
 pub use lexer::{MOST_BYTES, lex};
-pub use token::Token;
+pub use token::{Token, unquoted};

@@ -5,7 +5,7 @@ ghost use Rattle.gms_lex.specs.Pieces.{element_line_ends, list_line_ends, line_e
 use crate::keyword::Shape;
 
 /// Where in an element of a list the next token stands.
-#[derive(Clone, Copy, Debug, PartialEq, Eq)]
+#[derive(Clone, Copy)]
 pub enum Stage {
     /// An element is due: the list has begun, or a comma or a line end has ended the one before.
     Fresh,
@@ -18,7 +18,7 @@ pub enum Stage {
 }
 
 /// Where in a statement the next token stands.
-#[derive(Clone, Copy, Debug, PartialEq, Eq)]
+#[derive(Clone, Copy)]
 pub enum Mode {
     /// Outside declarations.
     Code,
@@ -53,7 +53,7 @@ pub enum Mode {
 }
 
 /// What a line end means.
-#[derive(Clone, Copy, Debug, PartialEq, Eq)]
+#[derive(Clone, Copy)]
 pub enum LineEnds {
     /// Nothing.
     Skipped,

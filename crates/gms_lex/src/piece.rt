@@ -75,7 +75,7 @@ fn goes_on(ends: LineEnds, text: &[u8]) -> bool
 fn line_end(ends: LineEnds, text: &[u8]) -> Result<Lexeme, Misread>
     ensures { result ≡ line_end ends text.now }
 {
-    if ends == LineEnds::Skipped {
+    if matches!(ends, LineEnds::Skipped) {
         return lexeme(Piece::LineEnd, line_end_length(text));
     }
     let space = space_length(text);

@@ -1,9 +1,12 @@
-//! Tokens and where they stand.
+//! Tokens, where they stand, and their texts.
+ghost use Rattle.std.specs.Prelude.{◌≡◌};
+ghost use Rattle.gms_lex.specs.TokenTexts.{unquoted};
+
 use gms_labels::Place;
 use gms_lexemes::Kind;
 
 /// A token: what it is, which bytes of the source it takes, and its place.
-#[derive(Clone, Copy, Debug, PartialEq, Eq)]
+#[derive(Clone, Copy)]
 pub struct Token {
     /// What it is.
     pub kind: Kind,
@@ -13,4 +16,15 @@ pub struct Token {
     pub end: u32,
     /// The place of its first byte.
     pub at: Place,
+}
+
+/// The bytes of a quoted token without its marks; those of any other as they are (GAMS User's Guide, "Language Items", quoted labels
+/// and texts).
+pub fn unquoted(text: &[u8]) -> &[u8]
+    ensures { result.now ≡ unquoted text.now }
+{
+    match text.split_first() {
+        Some((b'"' | b'\'', rest)) => &rest[..rest.len().saturating_sub(1)],
+        _ => text,
+    }
 }

@@ -3,7 +3,7 @@ ghost use Rattle.std.specs.Prelude.{◌≡◌};
 ghost use Rattle.gms_lexemes.specs.Symbols.{written};
 
 /// A symbol of the language (GAMS User's Guide, "Language Items").
-#[derive(Clone, Copy, Debug, PartialEq, Eq)]
+#[derive(Clone, Copy)]
 pub enum Sym {
     /// `=e=`
     EqE,
@@ -90,7 +90,7 @@ impl Sym {
 }
 
 /// What a token is.
-#[derive(Clone, Copy, Debug, PartialEq, Eq)]
+#[derive(Clone, Copy)]
 pub enum Kind {
     /// A name or a keyword: a letter, then letters, digits and `_`.
     Word,

@@ -3,7 +3,7 @@ use crate::kind::Kind;
 use gms_lines::LexError;
 
 /// What stands first in a text.
-#[derive(Clone, Copy, Debug, PartialEq, Eq)]
+#[derive(Clone, Copy)]
 pub enum Piece {
     /// Blanks.
     Gap,
@@ -16,7 +16,7 @@ pub enum Piece {
 }
 
 /// What stands first in a text, and how many bytes it takes.
-#[derive(Clone, Copy, Debug, PartialEq, Eq)]
+#[derive(Clone, Copy)]
 pub struct Lexeme {
     /// What it is.
     pub piece: Piece,
@@ -25,7 +25,7 @@ pub struct Lexeme {
 }
 
 /// Why nothing stands first in a text.
-#[derive(Clone, Copy, Debug, PartialEq, Eq)]
+#[derive(Clone, Copy)]
 pub struct Misread {
     /// The error.
     pub error: LexError,

@@ -5,7 +5,7 @@ use Rattle.std.proofs.lemmas.List.{map-id}
 use Rattle.gq_number.specs.Number.{Number as Rational}
 use Rattle.gms_labels.specs.Labels.{entered}
 use Rattle.gms_lex.specs.declared.token.Token.{Token}
-use Rattle.gms_lex.specs.TokenTexts.{token_text}
+use Rattle.gms_lex.specs.TokenTexts.{token_text, unquoted}
 use Rattle.gms_ast.specs.declared.word.Word.{Word}
 use Rattle.gms_ast.specs.declared.word.Named.{Named}
 use Rattle.gms_ast.specs.declared.expression.Expr.{Expr}
@@ -32,8 +32,9 @@ use Rattle.gms_grammar.specs.GamsGrammar.{Attribute, Condition, Shown, ShownList
 use Rattle.gms_grammar.specs.GamsLookAhead.{look_ahead}
 use Rattle.gms_grammar.proofs.Basics.{and_both, and_second, or_right}
 use Rattle.gms_grammar.proofs.Checks.{left_and}
-use Rattle.gms_expressions.specs.ExpressionTrees.{unquoted, suffix_of, first_in, second_in}
+use Rattle.gms_expressions.specs.ExpressionTrees.{suffix_of, first_in, second_in}
 use Rattle.gms_expressions.specs.Outcomes.{open_after}
+use Rattle.gms_expressions.proofs.Valued.{number_in_is}
 use Rattle.gms_expressions.proofs.TokenKinds.{also, same_test}
 use Rattle.gms_parse.specs.declared.fault.SourceFault.{SourceFault}
 use Rattle.gms_parse.specs.declared.fault.SourceFaultOrMemory.{SourceFaultOrMemory}
@@ -207,8 +208,8 @@ pub symbol_refused : {limit : ℕ} {source : List ℕ} {w v : Walk} {ts us : Lis
     Refuses limit source (the Shown) w ts e
 symbol_refused {ts = ts} unled g r = refuses_the Shown (refuses_right unled (led_first (is_among (Name ∷ Suffix ∷ [])) (opt (the Attribute)) ts (led_given g)) (refuses_second g r))
 
-shows_meant : (source : List ℕ) (sense : Sense) (tree : Derivation) (xs : List Show) → AreAll (IsShown source) sense tree xs → xs ≡ listed_in (shown_in source sense.names sense.labels sense.value) tree
-shows_meant source sense tree xs h = sym (map-id xs) ∙ all_meant (IsShown source) (λ x. x) (shown_in source sense.names sense.labels sense.value) sense (λ t x k. k) tree xs h
+shows_meant : (source : List ℕ) (sense : Sense) (tree : Derivation) (xs : List Show) → AreAll (IsShown source) sense tree xs → xs ≡ listed_in (shown_in source sense.names sense.labels) tree
+shows_meant source sense tree xs h = sym (map-id xs) ∙ all_meant (IsShown source) (λ x. x) (shown_in source sense.names sense.labels) sense (λ t x k. k) tree xs h
 
 -- all that is shown
 pub shown_list_got : {limit : ℕ} {reader : Reader} {at next : ℕ} {new : Tables} {w : Walk} {items : List Show} → IsGot limit (AreAll (IsShown reader.source.now)) (Stays reader new w) (list_of (is Comma) (the Shown)) reader at new w items next →
@@ -250,7 +251,7 @@ display_got value {t = t} {items = items} n got = got_by (gives_the DisplayState
 
 -- what an abort shows, where it shows anything
 abbrev pub ArePerhapsShown : List ℕ → Sense → Derivation → List Show → Type 0
-ArePerhapsShown source sense tree shows = shows ≡ optional_in [] (shown_list source sense.names sense.labels sense.value) tree
+ArePerhapsShown source sense tree shows = shows ≡ optional_in [] (shown_list source sense.names sense.labels) tree
 
 leads_shown : (ts : List Seen) → leads productions look_ahead (the ShownList) ts ≡ leads productions look_ahead (any_of (Text ∷ LongText ∷ Name ∷ Suffix ∷ [])) ts
 leads_shown ts = leads_alike (the ShownList) (any_of (Text ∷ LongText ∷ Name ∷ Suffix ∷ [])) ts refl refl (same_test (may_begin look_ahead (the ShownList)) (is_among (Text ∷ LongText ∷ Name ∷ Suffix ∷ [])) refl)
@@ -297,7 +298,7 @@ module _ {F : Type 0} (value : F → Rational) {limit : ℕ} {reader : Reader} {
       IsGot limit (IsSetting value reader.source.now) (Stays reader tables w) (the Setting) reader at tables w (option, setting.Number t.at v) next
   setting_number {next} {t} {v} n is = got_by (gives_the Setting (gives_both o.gives (gives_both (gives_exact q refl) (gives_left (led_next n) (number_gives (value v) n refl is.0 is.1)))))
       (stays_then equals_stays (number_stays next equals_stays.has))
-      (λ sense m. ap₂ (λ (a : Word) (b : SettingNode Rational). (a, b)) (o.means sense m) (ap (λ x. setting.Number t.at x) (sym (m.value (token_text reader.source.now t) (value v) is.0))))
+      (λ sense m. ap₂ (λ (a : Word) (b : SettingNode Rational). (a, b)) (o.means sense m) (ap (λ x. setting.Number t.at x) (sym (number_in_is (token_text reader.source.now t) (value v) is.0))))
       (let a = o.further in let b = q.further in let c = n.further in omega arith)
 
   pub setting_number_refused : {next : ℕ} {t : Token} {refusal : SourceFaultOrMemory} → IsNext (is Number) reader start t next → IsTooLarge limit reader.source.now t refusal → Refuses limit reader.source.now (the Setting) w (seen_from reader at) refusal
@@ -323,7 +324,7 @@ pub options_got : {F : Type 0} (value : F → Rational) {limit : ℕ} {reader : 
     IsGot limit (AreAll (IsSetting value reader.source.now)) (Stays reader tables (past reader w Option t start)) (list_of (is Comma) (the Setting)) reader start tables (past reader w Option t start) settings next →
     IsGot limit (IsAct value reader.source.now option_act) (Ends reader tables) (the OptionStatement) reader at tables w (act.Options settings) next
 options_got value {reader = reader} {t = t} {settings = settings} n got = got_by (gives_the OptionStatement (gives_both (gives_exact n refl) got.gives)) (record { holds = got.leaves.has.holds; tableless = ap (is Table) got.leaves.keyword })
-    (λ sense m. view-Options value settings ∙ ap sets_options (all_meant (IsSetting value reader.source.now) (λ pair. (pair.0, setting_in value pair.1)) (setting_of reader.source.now sense.names sense.labels sense.value) sense (λ tree x k. k) got.tree settings (got.means sense m)))
+    (λ sense m. view-Options value settings ∙ ap sets_options (all_meant (IsSetting value reader.source.now) (λ pair. (pair.0, setting_in value pair.1)) (setting_of reader.source.now sense.names sense.labels) sense (λ tree x k. k) got.tree settings (got.means sense m)))
     (let a = n.further in let b = got.further in omega arith)
 
 -- ---- a part behind two others

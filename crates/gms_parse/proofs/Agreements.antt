@@ -1,13 +1,12 @@
 -- The tokens of an expression leave the same names, labels and parentheses, and have the same faults, whether they are looked at as those
 -- of an expression or as those of a program.
-use Rattle.std.proofs.Common.{◌≡◌, ℕ, ◌<◌, Bool, true, false, not, ◌&&◌, ◌||◌, ◌==◌, cond, List, [], ◌∷◌, ◌++◌, refl, sym, ap, ap₂, ◌∙◌, subst, arith}
+use Rattle.std.proofs.Common.{◌≡◌, ℕ, ◌<◌, Bool, true, false, not, ◌&&◌, ◌||◌, ◌==◌, cond, List, [], ◌∷◌, refl, sym, ap, ap₂, ◌∙◌, subst, arith}
 use Rattle.gms_labels.specs.Labels.{entered, IsFullFor}
-use Rattle.gms_lex.specs.TokenTexts.{token_text}
+use Rattle.gms_lex.specs.TokenTexts.{token_text, unquoted}
 use Rattle.gms_grammar.specs.declared.terminal.Terminal.{Terminal}
 use Rattle.gms_grammar.specs.declared.terminal.Terminal.TheVariants.{Name, Suffix, Function, OrdCard, FoldOp, Infinity, NotAvailable, YesNo, Not, And, Or, RelationWord, Number, Text, Power, Relation, Circular, Sign, Star, Slash, Equals, LeftParen, RightParen, Comma, Dot, Dollar, Using, Display, Abort, Option, Table, Label, TableLine}
 use Rattle.gms_grammar.specs.Terminals.{is, is_among}
 use Rattle.gms_grammar.specs.Rules as rules
-use Rattle.gms_expressions.specs.ExpressionTrees.{unquoted}
 use Rattle.gms_expressions.specs.declared.fault.SyntaxFault.{SyntaxFault}
 use Rattle.gms_expressions.specs.Outcomes as inner
 use Rattle.gms_expressions.proofs.TokenKinds.{also}
@@ -21,6 +20,7 @@ use Rattle.std.proofs.lemmas.Bool.{not-true, eqb-true}
 use Rattle.gms_grammar.proofs.Basics.{not_true}
 use Rattle.gms_parse.proofs.TokenKinds.{same_kind, begins}
 use Rattle.gms_parse.proofs.Walks.{room_for_none}
+use Rattle.gms_parse.proofs.Ranges.{full_of, lacks_append}
 use Rattle.gms_parse.proofs.Alphabet.{AllPass}
 use Rattle.gms_parse.proofs.Depths.{TextsAbove}
 
@@ -86,18 +86,6 @@ same_new source w t ahead h d =
 
 -- ---- labels that are full
 
--- one text finds no room, or none does
-lone : (labels : List (List ℕ)) (text : List ℕ) (before : List (List ℕ)) (other : List ℕ) (behind : List (List ℕ)) → text ∷ [] ≡ before ++ other ∷ behind → IsFullFor (all_entered labels before) other → IsFullFor labels text
-lone labels text [] other behind e f = let same : other ≡ text = cc in subst (λ (x : List ℕ). IsFullFor labels x) same f
-lone labels text (x ∷ []) other behind e f = cc
-lone labels text (x ∷ (y ∷ before)) other behind e f = cc
-
-pub full_of : (labels : List (List ℕ)) (text : List ℕ) → LacksRoom labels (text ∷ []) → IsFullFor labels text
-full_of labels text l = lone labels text l.before l.text l.behind l.parts l.full
-
-pub lacks_of : (labels : List (List ℕ)) (text : List ℕ) → IsFullFor labels text → LacksRoom labels (text ∷ [])
-lacks_of labels text f = record { before = []; text = text; behind = []; parts = refl; full = f }
-
 entered_by : (b : Bool) (labels : List (List ℕ)) (text : List ℕ) → all_entered labels (cond b (text ∷ []) []) ≡ cond b (entered labels text) labels
 entered_by true labels text = refl
 entered_by false labels text = refl
@@ -140,7 +128,7 @@ module _ (limit : ℕ) (source : List ℕ) where
       let text : List ℕ = unquoted (token_text source t.1) in
       let there : is Text t.0 ≡ true = ap (is Text) e in
       let new_are : new_labels source w t ahead ≡ text ∷ [] = same_new source w t ahead h d ∙ ap (λ b. cond b (text ∷ []) []) there in
-      many_labels (ap (is TableLine) e) (subst (λ (ls : List (List ℕ)). LacksRoom w.labels ls) (sym new_are) (lacks_of w.labels text (subst (λ (ls : List (List ℕ)). IsFullFor ls text) (sym a.labels) k)))
+      many_labels (ap (is TableLine) e) (subst (λ (ls : List (List ℕ)). LacksRoom w.labels ls) (sym new_are) (lacks_append w.labels [] text [] (subst (λ (ls : List (List ℕ)). IsFullFor ls text) (sym a.labels) k)))
 
   -- a sound token leaves walks that agree
   agrees_on : (w : Walk) (x : inner.Walk) (t : Seen) (ahead : Terminal) → is_inner t.0 ≡ true → (t.0 ≡ Text → w.level < w.open_count) → Agrees w x →

@@ -94,7 +94,7 @@ assignment_got value {reader = reader} t c r = got_by (gives_the Assignment (giv
     (λ sense s.
     let s2 = earlier r.gives c.leaves.stays.has.holds r.leaves.has.holds s in
     let s1 = earlier c.gives t.leaves.stays.has.holds c.leaves.stays.has.holds s2 in
-    r.means sense s ∙ ap₂ (λ x y. assigned reader.source.now sense.names sense.labels sense.value x y (second_in r.tree)) (t.means sense s1) (c.means sense s2))
+    r.means sense s ∙ ap₂ (λ x y. assigned reader.source.now sense.names sense.labels x y (second_in r.tree)) (t.means sense s1) (c.means sense s2))
     (let x = t.further in let y = c.further in let z = r.further in omega arith)
 
 -- ---- lags

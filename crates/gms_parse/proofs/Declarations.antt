@@ -93,7 +93,7 @@ pub variables_got : {F : Type 0} (value : F → Rational) {limit : ℕ} {reader 
     (k : IsGot limit (IsVariableType reader.source.now) (Holds reader old) (opt (token VariableType)) reader at old w kind middle) → IsGot limit (IsDeclaration value reader.source.now kind form.Plain) (Ends reader new) (token Variable · the PlainItems) reader middle new k.behind act next →
     IsGot limit (IsAct value reader.source.now variable_act) (Ends reader new) (the VariableStatement) reader at new w act next
 variables_got value {reader = reader} k got = got_by (gives_the VariableStatement (gives_both k.gives got.gives)) got.leaves
-    (λ sense s. got.means sense s ∙ ap (λ kind. declares kind (items_in (item_meaning form.Plain reader.source.now sense.names sense.labels sense.value) (second_in got.tree))) (k.means sense (earlier got.gives k.leaves got.leaves.holds s)))
+    (λ sense s. got.means sense s ∙ ap (λ kind. declares kind (items_in (item_meaning form.Plain reader.source.now sense.names sense.labels) (second_in got.tree))) (k.means sense (earlier got.gives k.leaves got.leaves.holds s)))
     (let a = k.further in let b = got.further in omega arith)
 
 pub variables_refused : {limit : ℕ} {source : List ℕ} {w v : Walk} {ts between : List Seen} {a : Derivation} {e : SourceFaultOrMemory} → Gives limit source (opt (token VariableType)) w ts a v between → Refuses limit source (token Variable · the PlainItems) v between e → Refuses limit source (the VariableStatement) w ts e

@@ -32,10 +32,10 @@ data_production : (list : ListOf) → productions (item_part (form_of list)) ≡
 data_production list_of_kind.Elements = refl
 data_production list_of_kind.Entries = refl
 
-data_meant : (list : ListOf) (source : List ℕ) (names labels : List (List ℕ)) (value : List ℕ → Rational) (a b d : Derivation) →
-    record { named = named_in source names labels value a; domain = optional_domain source names labels value b; items = optional_in [] (λ tree. list_meaning list source labels value (between tree)) d } ≡ item_meaning (form_of list) source names labels value (node (pair a (pair b d)))
-data_meant list_of_kind.Elements source names labels value a b d = refl
-data_meant list_of_kind.Entries source names labels value a b d = refl
+data_meant : (list : ListOf) (source : List ℕ) (names labels : List (List ℕ)) (a b d : Derivation) →
+    record { named = named_in source names labels a; domain = optional_domain source names labels b; items = optional_in [] (λ tree. list_meaning list source labels (between tree)) d } ≡ item_meaning (form_of list) source names labels (node (pair a (pair b d)))
+data_meant list_of_kind.Elements source names labels a b d = refl
+data_meant list_of_kind.Entries source names labels a b d = refl
 
 pub refuses_data : (list : ListOf) {limit : ℕ} {source : List ℕ} {w : Walk} {ts : List Seen} {e : SourceFaultOrMemory} → Refuses limit source (data_part list) w ts e → Refuses limit source (the (item_part (form_of list))) w ts e
 refuses_data list {limit} {source} {w} {ts} {e} r = refuses_the (item_part (form_of list)) (subst (λ (p : GamsPart). Refuses limit source p w ts e) (sym (data_production list)) r)
@@ -51,8 +51,8 @@ data_got value list {reader = reader} {items = items} decl shown n d l = got_by 
     (λ sense s.
     let s2 = earlier l.gives d.leaves.has.holds l.leaves.has.holds s in
     let s1 = earlier d.gives n.leaves.has.holds d.leaves.has.holds s2 in
-    shown ∙ ap (λ (x : Named × List (Maybe Named)). record { named = x.0; domain = x.1; items = map (item_in value) items.items }) (ap₂ (λ a b. (a, b)) (n.means sense s1) (d.means sense s2)) ∙ ap (λ (ys : List (Item Rational)). record { named = named_in reader.source.now sense.names sense.labels sense.value n.tree; domain = optional_domain reader.source.now sense.names sense.labels sense.value d.tree; items = ys }) (l.means sense s)
-    ∙ data_meant list reader.source.now sense.names sense.labels sense.value n.tree d.tree l.tree)
+    shown ∙ ap (λ (x : Named × List (Maybe Named)). record { named = x.0; domain = x.1; items = map (item_in value) items.items }) (ap₂ (λ a b. (a, b)) (n.means sense s1) (d.means sense s2)) ∙ ap (λ (ys : List (Item Rational)). record { named = named_in reader.source.now sense.names sense.labels n.tree; domain = optional_domain reader.source.now sense.names sense.labels d.tree; items = ys }) (l.means sense s)
+    ∙ data_meant list reader.source.now sense.names sense.labels n.tree d.tree l.tree)
     (let a = n.further in let b = d.further in let c = l.further in omega arith)
 
 -- ---- scalars

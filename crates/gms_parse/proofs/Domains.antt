@@ -47,8 +47,8 @@ pub position_refused : {limit : ℕ} {source : List ℕ} {w : Walk} {ts : List S
 position_refused unled r = refuses_the DomainPosition (refuses_other unled r)
 
 -- positions as they are meant
-pub positions_meant : (source : List ℕ) (sense : Sense) (tree : Derivation) (xs : List (Maybe Named)) → AreAll (IsPosition source) sense tree xs → xs ≡ listed_in (position_in source sense.names sense.labels sense.value) tree
-positions_meant source sense tree xs h = sym (map-id xs) ∙ all_meant (IsPosition source) (λ x. x) (position_in source sense.names sense.labels sense.value) sense (λ t x k. k) tree xs h
+pub positions_meant : (source : List ℕ) (sense : Sense) (tree : Derivation) (xs : List (Maybe Named)) → AreAll (IsPosition source) sense tree xs → xs ≡ listed_in (position_in source sense.names sense.labels) tree
+positions_meant source sense tree xs h = sym (map-id xs) ∙ all_meant (IsPosition source) (λ x. x) (position_in source sense.names sense.labels) sense (λ t x k. k) tree xs h
 
 -- ---- the name of a table
 

@@ -1,7 +1,6 @@
 -- Elements of lists: positions with ranges, joined by dots.
 use Rattle.std.proofs.Common.{◌≡◌, ℕ, ◌≤◌, Bool, true, false, ◌||◌, List, [], ◌∷◌, ◌++◌, map, refl, sym, ap, ◌∙◌, arith, append_assoc}
 use Rattle.std.proofs.lemmas.List.{append-nil}
-use Rattle.gq_number.specs.Number.{neg_ℚ}
 use Rattle.gms_lex.specs.declared.token.Token.{Token}
 use Rattle.gms_grammar.specs.declared.terminal.Terminal.TheVariants.{Label, Comma, LeftParen, RightParen}
 use Rattle.gms_grammar.specs.Grammar.{the, ◌·◌, ◌∣◌, many, leaf, pair, none, more}
@@ -26,10 +25,10 @@ use Rattle.gms_parse.proofs.Nexts.{past, exact, opened, leads_next, gives_exact,
 
 -- the labels of ranges, and whether one of them is none
 abbrev pub labels_of : List ℕ → Sense → List Derivation → List ℕ
-labels_of source sense ranges = joined (map (labels_in_range source sense.labels sense.value neg_ℚ) ranges)
+labels_of source sense ranges = joined (map (labels_in_range source sense.labels) ranges)
 
 abbrev pub bad_of : List ℕ → Sense → List Derivation → Bool
-bad_of source sense ranges = any_true (map (is_bad_range source sense.labels sense.value neg_ℚ) ranges)
+bad_of source sense ranges = any_true (map (is_bad_range source sense.labels) ranges)
 
 abbrev pub first_ranges : Derivation → List Derivation
 first_ranges tree = listed_in (λ range. range) tree
@@ -58,8 +57,8 @@ module _ {limit : ℕ} {reader : Reader} {start : ℕ} {w : Walk} where
     behind = got.behind;
     within = within_second got.gives;
     stays = got.leaves;
-    labels = λ sense s b. ap (λ u. u ++ labels_of reader.source.now sense (other_ranges b)) (sym ((got.means sense s).0 ∙ ap (λ u. u ++ labels_in_range reader.source.now sense.labels sense.value neg_ℚ got.tree) none_yet));
-    bad = λ sense s b. ap (λ c. c || bad_of reader.source.now sense (other_ranges b)) (sym ((got.means sense s).1 ∙ ap (λ c. c || is_bad_range reader.source.now sense.labels sense.value neg_ℚ got.tree) sound_yet));
+    labels = λ sense s b. ap (λ u. u ++ labels_of reader.source.now sense (other_ranges b)) (sym ((got.means sense s).0 ∙ ap (λ u. u ++ labels_in_range reader.source.now sense.labels got.tree) none_yet));
+    bad = λ sense s b. ap (λ c. c || bad_of reader.source.now sense (other_ranges b)) (sym ((got.means sense s).1 ∙ ap (λ c. c || is_bad_range reader.source.now sense.labels got.tree) sound_yet));
     further = got.further;
   }
 
@@ -78,11 +77,11 @@ module _ {limit : ℕ} {reader : Reader} {start : ℕ} {w : Walk} where
           stays = stays_then comma_stays got.leaves;
           labels = λ sense s b.
               l.labels sense (earlier g l.stays.has.holds got.leaves.has.holds s) (more (pair (leaf (Comma, t)) got.tree) b)
-              ∙ sym (append_assoc part.labels.items (labels_in_range reader.source.now sense.labels sense.value neg_ℚ got.tree) (labels_of reader.source.now sense (other_ranges b)))
+              ∙ sym (append_assoc part.labels.items (labels_in_range reader.source.now sense.labels got.tree) (labels_of reader.source.now sense (other_ranges b)))
               ∙ ap (λ u. u ++ labels_of reader.source.now sense (other_ranges b)) (sym (got.means sense s).0);
           bad = λ sense s b.
               l.bad sense (earlier g l.stays.has.holds got.leaves.has.holds s) (more (pair (leaf (Comma, t)) got.tree) b)
-              ∙ or_assoc part.bad_range (is_bad_range reader.source.now sense.labels sense.value neg_ℚ got.tree) (bad_of reader.source.now sense (other_ranges b))
+              ∙ or_assoc part.bad_range (is_bad_range reader.source.now sense.labels got.tree) (bad_of reader.source.now sense (other_ranges b))
               ∙ ap (λ c. c || bad_of reader.source.now sense (other_ranges b)) (sym (got.means sense s).1);
           further = (let a = l.further in let f = got.further in let g = n.further in omega arith);
         }
@@ -104,11 +103,8 @@ no_paren ts h = unled_next (is LeftParen) (the RangeList · token RightParen) ts
 leads_range : (ts : List Seen) → leads productions look_ahead (the Range) ts ≡ leads productions look_ahead (token Label) ts
 leads_range ts = leads_alike (the Range) (token Label) ts refl refl (same_test (may_begin look_ahead (the Range)) (is Label) refl)
 
-range_label : {ts rest : List Seen} {tree : Derivation} → Reads productions look_ahead (productions Range) ts (read tree rest) → leads productions look_ahead (token Label) ts ≡ true
-range_label (both (taken h) s) = h
-
 range_read : {ts rest : List Seen} {tree : Derivation} → Reads productions look_ahead (the Range) ts (read tree rest) → leads productions look_ahead (token Label) ts ≡ true
-range_read (entered r) = range_label r
+range_read (entered (both (taken h) s)) = h
 
 range_reads : {limit : ℕ} {source : List ℕ} {w v : Walk} {ts rest : List Seen} {tree : Derivation} → Gives limit source (the Range) w ts tree v rest → leads productions look_ahead (the Range) ts ≡ true
 range_reads {ts = ts} g = leads_range ts ∙ range_read g.reads
@@ -118,8 +114,8 @@ pub lone_got : {limit : ℕ} {reader : Reader} {at next : ℕ} {new : Tables} {w
     IsGot limit (IsPart reader.source.now) (Stays reader new w) (the ElementPart) reader at new w part next
 lone_got {reader = reader} was part none_yet sound_yet got = got_by (gives_the ElementPart (gives_left (range_reads got.gives) got.gives)) got.leaves
     (λ sense s. (
-      (got.means sense s).0 ∙ ap (λ u. u ++ labels_in_range reader.source.now sense.labels sense.value neg_ℚ got.tree) none_yet ∙ sym (append-nil (labels_in_range reader.source.now sense.labels sense.value neg_ℚ got.tree)),
-      (got.means sense s).1 ∙ ap (λ c. c || is_bad_range reader.source.now sense.labels sense.value neg_ℚ got.tree) sound_yet ∙ sym (or_none (is_bad_range reader.source.now sense.labels sense.value neg_ℚ got.tree)),
+      (got.means sense s).0 ∙ ap (λ u. u ++ labels_in_range reader.source.now sense.labels got.tree) none_yet ∙ sym (append-nil (labels_in_range reader.source.now sense.labels got.tree)),
+      (got.means sense s).1 ∙ ap (λ c. c || is_bad_range reader.source.now sense.labels got.tree) sound_yet ∙ sym (or_none (is_bad_range reader.source.now sense.labels got.tree)),
     ))
     got.further
 

@@ -30,8 +30,7 @@ use Rattle.gms_lex.specs.Modes.{mode_after}
 use Rattle.gms_lex.specs.Places.{place_of}
 use Rattle.gms_lex.specs.Pieces.{passes, ends_or_begins, space_length, line_ends, line_end, is_item_mark, is_element_mark, behind_name, behind_domain, begins_value_dot, element_tail, behind_label, in_list, token_at, table_piece, plain_piece, piece_at}
 use Rattle.gms_lex.specs.TokenTexts.{token_text}
-use Rattle.gms_lex.specs.Tokens.{IsMadeOf, tokens_of, end_token, IsTokens}
-use Rattle.gms_lex.specs.Tokens.{token_at as token_of_piece}
+use Rattle.gms_lex.specs.Tokens.{IsMadeOf, tokens_of, end_token, IsTokens, token_at as token_of_piece}
 use Rattle.gms_grammar.specs.declared.terminal.Terminal.{Terminal}
 use Rattle.gms_grammar.specs.declared.terminal.Terminal.TheVariants.{End}
 use Rattle.gms_grammar.specs.Grammar.{the, yield, IsTree, Begins}

@@ -1,6 +1,6 @@
 -- Names that are entered, numbers, and signs.
 use Rattle.std.proofs.Common.{◌≡◌, ℕ, ◌≤◌, Bool, true, false, cond, not, ◌&&◌, ◌||◌, List, [], ◌∷◌, refl, sym, ap, ap₂, ◌∙◌, subst, arith, inl, inr}
-use Rattle.gq_number.specs.Number.{Number as Rational, neg_ℚ}
+use Rattle.gq_number.specs.Number.{Number as Rational}
 use Rattle.gq_text.specs.Decimal.{MeansNumber}
 use Rattle.gq_text.specs.Literal.{FitsLiteral}
 use Rattle.gms_labels.specs.Labels.{place_of, entered, IsFullFor}
@@ -100,7 +100,7 @@ name_refused {reader = reader} {t = t} {old = old} n s texts is r = elim r.why [
 
 pub sign_got : {limit : ℕ} {reader : Reader} {at behind : ℕ} {t : Token} {tables : Tables} {w : Walk} (minus : Bool) → IsNext (is Sign) reader at t behind → minus ≡ is_minus t.kind → Has reader tables w →
     IsGot limit IsSign (Stays reader tables w) (opt (token Sign)) reader at tables w minus behind
-sign_got {reader = reader} {behind = behind} {t = t} {w = w} minus n is h = got_by (gives_some (led_next n) (gives_exact n refl)) (plain_stays reader w Sign t behind refl h) (λ sense s v. ap (λ m. cond m (opposed neg_ℚ v) v) (sym is))
+sign_got {reader = reader} {behind = behind} {t = t} {w = w} minus n is h = got_by (gives_some (led_next n) (gives_exact n refl)) (plain_stays reader w Sign t behind refl h) (λ sense s v. ap (λ m. cond m (opposed v) v) (sym is))
     (let g = n.further in omega arith)
 
 pub sign_none : {limit : ℕ} {reader : Reader} {at : ℕ} {tables : Tables} {w : Walk} → leads productions look_ahead (token Sign) (seen_from reader at) ≡ false → Has reader tables w → IsGot limit IsSign (Stays reader tables w) (opt (token Sign)) reader at tables w false at

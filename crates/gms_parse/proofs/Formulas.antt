@@ -1,6 +1,5 @@
 -- Expressions and parts of them, as the crate that reads them says what it read.
 use Rattle.std.proofs.Common.{◌≡◌, ℕ, ◌+◌, ◌-◌, ◌<◌, ◌≤◌, Bool, true, not, ◌||◌, List, [], ◌∷◌, ◌++◌, length, drop, refl, sym, ap, ◌∙◌, subst, inl, inr, arith}
-use Rattle.gq_number.specs.Number.{Number}
 use Rattle.gms_lex.specs.declared.token.Token.{Token}
 use Rattle.gms_grammar.specs.declared.terminal.Terminal.{Terminal}
 use Rattle.gms_grammar.specs.Grammar.{the, yield, IsTree, Derives}
@@ -61,9 +60,9 @@ module _ {reader : Reader} {old : Tables} {w : Walk} (n : Nonterminal) (formula 
   above_tokens tree k = (deep_closes n formula tree k w.level w.open_count s.has.level).above
 
   -- a part that was read
-  pub formula_got : {limit : ℕ} (at : ℕ) {T : Type 0} {Says : List (List ℕ) → List (List ℕ) → (List ℕ → Number) → Derivation → T → Type 0} {new : Tables} {next : ℕ} {x : T} → at < length reader.tokens.now →
+  pub formula_got : {limit : ℕ} (at : ℕ) {T : Type 0} {Says : List (List ℕ) → List (List ℕ) → Derivation → T → Type 0} {new : Tables} {next : ℕ} {x : T} → at < length reader.tokens.now →
       IsRead limit reader.source.now n Says (walk_from reader.unclosed old.names old.labels) (walk_from reader.unclosed new.names new.labels) (seen_from reader at) (seen_from reader next) x →
-      (Means : Sense → Derivation → T → Type 0) → ((sense : Sense) (tree : Derivation) → IsTree productions (the n) tree → Says sense.names sense.labels sense.value tree x → Means sense tree x) → IsGot limit Means (StaysOpen reader new w) (the n) reader at new w x next
+      (Means : Sense → Derivation → T → Type 0) → ((sense : Sense) (tree : Derivation) → IsTree productions (the n) tree → Says sense.names sense.labels tree x → Means sense tree x) → IsGot limit Means (StaysOpen reader new w) (the n) reader at new w x next
   formula_got {limit} at {new = new} {next = next} within r Means says =
       let p = r.is_part in
       let g : Agreed limit reader.source.now w (before reader old) (yield r.tree) (kind_of (seen_from reader next)) = agree limit reader.source.now w (before reader old) (yield r.tree) (kind_of (seen_from reader next)) (inner_tokens r.tree p.is_tree) (above_tokens r.tree p.is_tree) (begin s other) p.are_sound in
@@ -89,7 +88,7 @@ module _ {reader : Reader} {old : Tables} {w : Walk} (n : Nonterminal) (formula 
           };
           undotted = a.dotted ∙ ap (λ (y : inner.Walk). y.dotted) (sym p.leaves);
         };
-        means = λ sense k. says sense r.tree p.is_tree (r.means sense.names sense.labels k.names k.labels sense.value k.value);
+        means = λ sense k. says sense r.tree p.is_tree (r.means sense.names sense.labels k.names k.labels);
         further = ahead_of reader at next (yield r.tree) within p.stops.parts;
       }
     where

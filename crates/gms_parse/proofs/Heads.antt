@@ -140,19 +140,19 @@ behind_name ts h = record {
 record PlainIndex (first : Derivation) (ts between : List Seen) : Type 0 where
   wrap : Derivation → Derivation
   leading : Leading (the HeadIndices) ts (yield first) (the AfterHeadIndex) between wrap
-  act_on : (source : List ℕ) (s : Sense) (target : TargetTree Number) (comma t : Derivation) → act_of_head source s.names s.labels s.value target (wrap (node (left (pair comma t)))) ≡ act_of_head source s.names s.labels s.value target t
-  act_closed : (source : List ℕ) (s : Sense) (target : TargetTree Number) (closing t : Derivation) → act_of_head source s.names s.labels s.value target (wrap (node (right (pair closing t)))) ≡ after_head source s.names s.labels s.value target t
-  indices_on : (source : List ℕ) (s : Sense) (comma t : Derivation) → head_indices source s.names s.labels s.value (wrap (node (left (pair comma t)))) ≡ index source s.names s.labels s.value first (head_indices source s.names s.labels s.value t)
-  indices_closed : (source : List ℕ) (s : Sense) (closing t : Derivation) → head_indices source s.names s.labels s.value (wrap (node (right (pair closing t)))) ≡ index source s.names s.labels s.value first no_index
-  lagless : (source : List ℕ) (s : Sense) (rest : Indices Number) → has_lag (index source s.names s.labels s.value first rest) ≡ has_lag rest
+  act_on : (source : List ℕ) (s : Sense) (target : TargetTree Number) (comma t : Derivation) → act_of_head source s.names s.labels target (wrap (node (left (pair comma t)))) ≡ act_of_head source s.names s.labels target t
+  act_closed : (source : List ℕ) (s : Sense) (target : TargetTree Number) (closing t : Derivation) → act_of_head source s.names s.labels target (wrap (node (right (pair closing t)))) ≡ after_head source s.names s.labels target t
+  indices_on : (source : List ℕ) (s : Sense) (comma t : Derivation) → head_indices source s.names s.labels (wrap (node (left (pair comma t)))) ≡ index source s.names s.labels first (head_indices source s.names s.labels t)
+  indices_closed : (source : List ℕ) (s : Sense) (closing t : Derivation) → head_indices source s.names s.labels (wrap (node (right (pair closing t)))) ≡ index source s.names s.labels first no_index
+  lagless : (source : List ℕ) (s : Sense) (rest : Indices Number) → has_lag (index source s.names s.labels first rest) ≡ has_lag rest
 
 -- an index with a lag, behind which an assignment goes on
 record LaggedIndex (first : Derivation) (ts between : List Seen) : Type 0 where
   wrap : Derivation → Derivation
   leading : Leading (the HeadIndices) ts (yield first) (the AfterLag) between wrap
-  act_is : (source : List ℕ) (s : Sense) (target : TargetTree Number) (others closing t : Derivation) → act_of_head source s.names s.labels s.value target (wrap (node (pair others (pair closing t)))) ≡ after_target source s.names s.labels s.value target t
-  indices_are : (source : List ℕ) (s : Sense) (others t : Derivation) → head_indices source s.names s.labels s.value (wrap (node (pair others t))) ≡ index source s.names s.labels s.value first (more_indices source s.names s.labels s.value others)
-  lagged : (source : List ℕ) (s : Sense) (rest : Indices Number) → has_lag (index source s.names s.labels s.value first rest) ≡ true
+  act_is : (source : List ℕ) (s : Sense) (target : TargetTree Number) (others closing t : Derivation) → act_of_head source s.names s.labels target (wrap (node (pair others (pair closing t)))) ≡ after_target source s.names s.labels target t
+  indices_are : (source : List ℕ) (s : Sense) (others t : Derivation) → head_indices source s.names s.labels (wrap (node (pair others t))) ≡ index source s.names s.labels first (more_indices source s.names s.labels others)
+  lagged : (source : List ℕ) (s : Sense) (rest : Indices Number) → has_lag (index source s.names s.labels first rest) ≡ true
 
 index_goes : {ts between : List Seen} {first : Derivation} → Reads productions look_ahead (the Index) ts (read first between) → PlainIndex first ts between ⊎ LaggedIndex first ts between
 index_goes {ts} (entered (in_left h (taken {token = t} k))) = inl (record {
@@ -189,17 +189,17 @@ record PlainList (first others : Derivation) (ts rest : List Seen) : Type 0 wher
   wrap : Derivation → Derivation
   leading : Leading (the HeadIndices) ts (yield first ++ yield others) (the AfterHeadIndex) rest wrap
   over : leads productions look_ahead (token Comma · the Index) rest ≡ false
-  act_closed : (source : List ℕ) (s : Sense) (target : TargetTree Number) (closing t : Derivation) → act_of_head source s.names s.labels s.value target (wrap (node (right (pair closing t)))) ≡ after_head source s.names s.labels s.value target t
-  indices_are : (source : List ℕ) (s : Sense) (closing t : Derivation) → head_indices source s.names s.labels s.value (wrap (node (right (pair closing t)))) ≡ index source s.names s.labels s.value first (more_indices source s.names s.labels s.value others)
-  lagless : (source : List ℕ) (s : Sense) → has_lag (index source s.names s.labels s.value first (more_indices source s.names s.labels s.value others)) ≡ false
+  act_closed : (source : List ℕ) (s : Sense) (target : TargetTree Number) (closing t : Derivation) → act_of_head source s.names s.labels target (wrap (node (right (pair closing t)))) ≡ after_head source s.names s.labels target t
+  indices_are : (source : List ℕ) (s : Sense) (closing t : Derivation) → head_indices source s.names s.labels (wrap (node (right (pair closing t)))) ≡ index source s.names s.labels first (more_indices source s.names s.labels others)
+  lagless : (source : List ℕ) (s : Sense) → has_lag (index source s.names s.labels first (more_indices source s.names s.labels others)) ≡ false
 
 -- indices of which some has a lag
 record LaggedList (first others : Derivation) (ts rest : List Seen) : Type 0 where
   wrap : Derivation → Derivation
   leading : Leading (the HeadIndices) ts (yield first ++ yield others) (token RightParen · the AfterTarget) rest wrap
-  act_closed : (source : List ℕ) (s : Sense) (target : TargetTree Number) (closing t : Derivation) → act_of_head source s.names s.labels s.value target (wrap (pair closing t)) ≡ after_target source s.names s.labels s.value target t
-  indices_are : (source : List ℕ) (s : Sense) (t : Derivation) → head_indices source s.names s.labels s.value (wrap t) ≡ index source s.names s.labels s.value first (more_indices source s.names s.labels s.value others)
-  lagged : (source : List ℕ) (s : Sense) → has_lag (index source s.names s.labels s.value first (more_indices source s.names s.labels s.value others)) ≡ true
+  act_closed : (source : List ℕ) (s : Sense) (target : TargetTree Number) (closing t : Derivation) → act_of_head source s.names s.labels target (wrap (pair closing t)) ≡ after_target source s.names s.labels target t
+  indices_are : (source : List ℕ) (s : Sense) (t : Derivation) → head_indices source s.names s.labels (wrap t) ≡ index source s.names s.labels first (more_indices source s.names s.labels others)
+  lagged : (source : List ℕ) (s : Sense) → has_lag (index source s.names s.labels first (more_indices source s.names s.labels others)) ≡ true
 
 -- behind an index with a lag others are listed
 lag_goes : {ts between rest : List Seen} (first others : Derivation) → LaggedIndex first ts between → Reads productions look_ahead (many (token Comma · the Index)) between (read others rest) → LaggedList first others ts rest
@@ -208,7 +208,7 @@ lag_goes first others l m = record {
   leading = lead_same (ap (λ v. yield first ++ v) (end_nil (yield others))) (lead_then l.leading (lead_the AfterLag (lead_second m lead_here)));
   act_closed = λ source s target closing b. l.act_is source s target others closing b;
   indices_are = λ source s b. l.indices_are source s others b;
-  lagged = λ source s. l.lagged source s (more_indices source s.names s.labels s.value others);
+  lagged = λ source s. l.lagged source s (more_indices source s.names s.labels others);
 }
 
 -- one more index before others
@@ -219,8 +219,8 @@ before_plain {between = between} {comma = comma} first second others p h c l = r
   leading = lead_then p.leading (lead_the AfterHeadIndex (lead_left (comma_led between h) (lead_second c l.leading)));
   over = l.over;
   act_closed = λ source s target closing b. p.act_on source s target (leaf comma) (l.wrap (node (right (pair closing b)))) ∙ l.act_closed source s target closing b;
-  indices_are = λ source s closing b. p.indices_on source s (leaf comma) (l.wrap (node (right (pair closing b)))) ∙ ap (index source s.names s.labels s.value first) (l.indices_are source s closing b);
-  lagless = λ source s. p.lagless source s (index source s.names s.labels s.value second (more_indices source s.names s.labels s.value others)) ∙ l.lagless source s;
+  indices_are = λ source s closing b. p.indices_on source s (leaf comma) (l.wrap (node (right (pair closing b)))) ∙ ap (index source s.names s.labels first) (l.indices_are source s closing b);
+  lagless = λ source s. p.lagless source s (index source s.names s.labels second (more_indices source s.names s.labels others)) ∙ l.lagless source s;
 }
 
 before_lagged : {ts between us rest : List Seen} {comma : Seen} (first second others : Derivation) → PlainIndex first ts between → leads productions look_ahead (token Comma · the Index) between ≡ true → Reads productions look_ahead (token Comma) between (read (leaf comma) us) →
@@ -229,8 +229,8 @@ before_lagged {between = between} {comma = comma} first second others p h c l = 
   wrap = λ b. p.wrap (node (left (pair (leaf comma) (l.wrap b))));
   leading = lead_then p.leading (lead_the AfterHeadIndex (lead_left (comma_led between h) (lead_second c l.leading)));
   act_closed = λ source s target closing b. p.act_on source s target (leaf comma) (l.wrap (pair closing b)) ∙ l.act_closed source s target closing b;
-  indices_are = λ source s b. p.indices_on source s (leaf comma) (l.wrap b) ∙ ap (index source s.names s.labels s.value first) (l.indices_are source s b);
-  lagged = λ source s. p.lagless source s (index source s.names s.labels s.value second (more_indices source s.names s.labels s.value others)) ∙ l.lagged source s;
+  indices_are = λ source s b. p.indices_on source s (leaf comma) (l.wrap b) ∙ ap (index source s.names s.labels first) (l.indices_are source s b);
+  lagged = λ source s. p.lagless source s (index source s.names s.labels second (more_indices source s.names s.labels others)) ∙ l.lagged source s;
 }
 
 last_plain : {ts rest : List Seen} (first : Derivation) → PlainIndex first ts rest → leads productions look_ahead (token Comma · the Index) rest ≡ false → PlainList first none ts rest
@@ -332,15 +332,15 @@ target_taken (takes_the (takes_second r (takes_second (left_out h) (takes_opt (t
 pub record Headed (tree : Derivation) (ts rest : List Seen) : Type 0 where
   pub wrap : Derivation → Derivation
   pub leading : Leading (the NamedStatement) ts (yield tree) (the AfterHead) rest wrap
-  pub acts : (source : List ℕ) (s : Sense) (b : Derivation) → named_act source s.names s.labels s.value (wrap b) ≡ after_head source s.names s.labels s.value (target_in source s.names s.labels s.value tree) b
-  pub plain : (source : List ℕ) (s : Sense) → is_plain_target (target_in source s.names s.labels s.value tree) ≡ true
+  pub acts : (source : List ℕ) (s : Sense) (b : Derivation) → named_act source s.names s.labels (wrap b) ≡ after_head source s.names s.labels (target_in source s.names s.labels tree) b
+  pub plain : (source : List ℕ) (s : Sense) → is_plain_target (target_in source s.names s.labels tree) ≡ true
 
 -- it goes on as an assignment
 pub record Aimed (tree : Derivation) (ts rest : List Seen) : Type 0 where
   pub wrap : Derivation → Derivation
   pub leading : Leading (the NamedStatement) ts (yield tree) (the AfterTarget) rest wrap
-  pub acts : (source : List ℕ) (s : Sense) (b : Derivation) → named_act source s.names s.labels s.value (wrap b) ≡ after_target source s.names s.labels s.value (target_in source s.names s.labels s.value tree) b
-  pub other : (source : List ℕ) (s : Sense) → is_plain_target (target_in source s.names s.labels s.value tree) ≡ false
+  pub acts : (source : List ℕ) (s : Sense) (b : Derivation) → named_act source s.names s.labels (wrap b) ≡ after_target source s.names s.labels (target_in source s.names s.labels tree) b
+  pub other : (source : List ℕ) (s : Sense) → is_plain_target (target_in source s.names s.labels tree) ≡ false
 
 either_suffixed : (c : Bool) (a b : Suffix) → is_unsuffixed a ≡ false → is_unsuffixed b ≡ false → is_unsuffixed (cond c a b) ≡ false
 either_suffixed true a b h k = h
@@ -353,7 +353,7 @@ suffixed text =
     either_suffixed (is_word text (codes "lo")) _ _ refl (either_suffixed (is_word text (codes "up")) _ _ refl (either_suffixed (is_word text (codes "l")) _ _ refl (either_suffixed (is_word text (codes "m")) _ _ refl (either_suffixed (is_word text (codes "fx")) _ _ refl (either_suffixed (is_word text (codes "modelstat")) _ _ refl refl)))))
 
 -- and so has a reference that goes on with one
-attributed : {ts rest : List Seen} {attribute : Derivation} → Reads productions look_ahead (the Attribute) ts (read attribute rest) → (source : List ℕ) (s : Sense) → is_unsuffixed (suffix_in source s.names s.labels s.value (some attribute)) ≡ false
+attributed : {ts rest : List Seen} {attribute : Derivation} → Reads productions look_ahead (the Attribute) ts (read attribute rest) → (source : List ℕ) (s : Sense) → is_unsuffixed (suffix_in source s.names s.labels (some attribute)) ≡ false
 attributed (entered (both {b = word} p q)) source s = suffixed (token_text source (token_of word))
 
 abbrev unconditioned : GamsPart
@@ -397,8 +397,8 @@ headed {us = us} {rest = rest} {opening = opening} {closing = closing} word firs
       (lead_the AfterHeadIndex (lead_right (comma_unled (closing ∷ rest) l.over) (led_first (is RightParen) (the AfterHead) (closing ∷ rest) c) (lead_second (taken c) lead_here)))))))));
   acts = λ source s b.
       let inner = l.wrap (node (right (pair (leaf closing) b))) in
-      l.act_closed source s (target_at source s.names s.labels s.value word suffix.None (head_indices source s.names s.labels s.value inner)) (leaf closing) b
-      ∙ ap (λ is. after_head source s.names s.labels s.value (target_at source s.names s.labels s.value word suffix.None is) b) (l.indices_are source s (leaf closing) b);
+      l.act_closed source s (target_at source s.names s.labels word suffix.None (head_indices source s.names s.labels inner)) (leaf closing) b
+      ∙ ap (λ is. after_head source s.names s.labels (target_at source s.names s.labels word suffix.None is) b) (l.indices_are source s (leaf closing) b);
   plain = λ source s. ap not (l.lagless source s);
 }
 
@@ -409,8 +409,8 @@ aimed {us = us} {rest = rest} {opening = opening} {closing = closing} word first
   leading = lead_the NamedStatement (lead_second r (lead_the AfterName (lead_right (dotted_unled us h) (plain_led us k) (lead_left (paren_led us k) (lead_second o (lead_then l.leading (lead_second (taken c) lead_here)))))));
   acts = λ source s b.
       let inner = l.wrap (pair (leaf closing) b) in
-      l.act_closed source s (target_at source s.names s.labels s.value word suffix.None (head_indices source s.names s.labels s.value inner)) (leaf closing) b
-      ∙ ap (λ is. after_target source s.names s.labels s.value (target_at source s.names s.labels s.value word suffix.None is) b) (l.indices_are source s (pair (leaf closing) b));
+      l.act_closed source s (target_at source s.names s.labels word suffix.None (head_indices source s.names s.labels inner)) (leaf closing) b
+      ∙ ap (λ is. after_target source s.names s.labels (target_at source s.names s.labels word suffix.None is) b) (l.indices_are source s (pair (leaf closing) b));
   other = λ source s. ap not (l.lagged source s);
 }
 

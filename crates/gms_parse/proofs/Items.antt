@@ -2,7 +2,7 @@
 use Rattle.std.proofs.Common.{◌≡◌, ℕ, Bool, true, false, ◌||◌, List, [], ◌∷◌, ◌++◌, map, Some, None, Vec, refl, sym, ap, ap₂, ◌∙◌, subst, arith}
 use Rattle.std.specs.declared.alloc.Global.{Global}
 use Rattle.std.proofs.lemmas.List.{map_push}
-use Rattle.gq_number.specs.Number.{Number as Rational, neg_ℚ}
+use Rattle.gq_number.specs.Number.{Number as Rational}
 use Rattle.gq_extended.specs.declared.extended.Ext.{Ext}
 use Rattle.gms_ast.specs.declared.declaration.Item.{Item}
 use Rattle.gms_ast.specs.StatementView.{extended_in, item_in}
@@ -80,8 +80,8 @@ module _ {limit : ℕ} {reader : Reader} {start : ℕ} {w : Walk} where
       got_by gives got.leaves
       (λ sense s. (
         placed ∙ sym (place_read (the Element) refl gives),
-        parts_are ∙ l.parts_are ∙ all_meant (IsPart reader.source.now) (λ (p : Position). p.labels.items) (labels_in_part reader.source.now sense.labels sense.value neg_ℚ) sense (λ tree x h. h.0) got.tree l.ghost (got.means sense s),
-        bad_is ∙ l.bad_is ∙ ap any_true (all_meant (IsPart reader.source.now) (λ (p : Position). p.bad_range) (has_bad_range reader.source.now sense.labels sense.value neg_ℚ) sense (λ tree x h. h.1) got.tree l.ghost (got.means sense s)),
+        parts_are ∙ l.parts_are ∙ all_meant (IsPart reader.source.now) (λ (p : Position). p.labels.items) (labels_in_part reader.source.now sense.labels) sense (λ tree x h. h.0) got.tree l.ghost (got.means sense s),
+        bad_is ∙ l.bad_is ∙ ap any_true (all_meant (IsPart reader.source.now) (λ (p : Position). p.bad_range) (has_bad_range reader.source.now sense.labels) sense (λ tree x h. h.1) got.tree l.ghost (got.means sense s)),
       ))
       got.further
 
@@ -112,15 +112,12 @@ list_production : (list : ListOf) → productions (list_part list) ≡ list_of s
 list_production list_of_kind.Elements = refl
 list_production list_of_kind.Entries = refl
 
-list_meant : (list : ListOf) (source : List ℕ) (labels : List (List ℕ)) (value : List ℕ → Rational) (tree : Derivation) → listed_in (listed_meaning list source labels value) tree ≡ list_meaning list source labels value (node tree)
-list_meant list_of_kind.Elements source labels value tree = refl
-list_meant list_of_kind.Entries source labels value tree = refl
+list_meant : (list : ListOf) (source : List ℕ) (labels : List (List ℕ)) (tree : Derivation) → listed_in (listed_meaning list source labels) tree ≡ list_meaning list source labels (node tree)
+list_meant list_of_kind.Elements source labels tree = refl
+list_meant list_of_kind.Entries source labels tree = refl
 
 gives_list : (list : ListOf) {limit : ℕ} {source : List ℕ} {w v : Walk} {ts rest : List Seen} {tree : Derivation} → Gives limit source (list_of separators (the (listed_part list))) w ts tree v rest → Gives limit source (the (list_part list)) w ts (node tree) v rest
 gives_list list {limit} {source} {w} {v} {ts} {rest} {tree} g = gives_the (list_part list) (subst (λ (p : GamsPart). Gives limit source p w ts tree v rest) (sym (list_production list)) g)
-
-pub refuses_list : (list : ListOf) {limit : ℕ} {source : List ℕ} {w : Walk} {ts : List Seen} {e : SourceFaultOrMemory} → Refuses limit source (list_of separators (the (listed_part list))) w ts e → Refuses limit source (the (list_part list)) w ts e
-refuses_list list {limit} {source} {w} {ts} {e} r = refuses_the (list_part list) (subst (λ (p : GamsPart). Refuses limit source p w ts e) (sym (list_production list)) r)
 
 pub no_list : {F : Type 0} (value : F → Rational) (list : ListOf) {limit : ℕ} {reader : Reader} {at : ℕ} {tables : Tables} {w : Walk} (items : Vec (Item F) Global) → items.items ≡ [] → leads productions look_ahead (token Slash) (seen_from reader at) ≡ false → Has reader tables w →
     IsGot limit (AreListed value reader.source.now list) (Stays reader tables w) (opt (token Slash · the (list_part list) · token Slash)) reader at tables w items at
@@ -129,7 +126,7 @@ no_list value list {reader = reader} {at = at} {w = w} items none_yet unled h = 
 
 module _ (list : ListOf) {limit : ℕ} {reader : Reader} {at behind : ℕ} {t : Token} {old : Tables} {w : Walk} (h : Has reader old w) (n : IsNext (is Slash) reader at t behind) where
   pub list_refused : {e : SourceFaultOrMemory} → Refuses limit reader.source.now (list_of separators (the (listed_part list))) (past reader w Slash t behind) (seen_from reader behind) e → Refuses limit reader.source.now (opt (token Slash · the (list_part list) · token Slash)) w (seen_from reader at) e
-  list_refused r = refuses_some (leads_next (the (list_part list) · token Slash) n) (refuses_second (gives_exact {kind = Slash} n refl) (refuses_first (refuses_list list r)))
+  list_refused {e} r = refuses_some (leads_next (the (list_part list) · token Slash) n) (refuses_second (gives_exact {kind = Slash} n refl) (refuses_first (refuses_the (list_part list) (subst (λ (p : GamsPart). Refuses limit reader.source.now p (past reader w Slash t behind) (seen_from reader behind) e) (sym (list_production list)) r))))
 
   module _ {F : Type 0} (value : F → Rational) {new : Tables} {items : List (Item F)} {next : ℕ} (got : IsGot limit (AreAll (IsListed value reader.source.now list)) (Stays reader new (past reader w Slash t behind)) (list_of separators (the (listed_part list))) reader behind new (past reader w Slash t behind) items next) where
     pub list_unclosed : {e : SourceFaultOrMemory} → IsLacking (is Slash) reader next e → Refuses limit reader.source.now (opt (token Slash · the (list_part list) · token Slash)) w (seen_from reader at) e
@@ -138,5 +135,5 @@ module _ (list : ListOf) {limit : ℕ} {reader : Reader} {at behind : ℕ} {t : 
     pub list_got : {end : Token} {after : ℕ} → IsNext (is Slash) reader next end after → (all : Vec (Item F) Global) → all.items ≡ items → IsGot limit (AreListed value reader.source.now list) (Stays reader new w) (opt (token Slash · the (list_part list) · token Slash)) reader at new w all after
     list_got {end} {after} m all same = got_by (gives_some (leads_next (the (list_part list) · token Slash) n) (gives_both (gives_exact {kind = Slash} n refl) (gives_both (gives_list list got.gives) (gives_exact {kind = Slash} m refl))))
         (stays_then (plain_stays reader w Slash t behind refl h) (stays_then got.leaves (plain_stays reader got.behind Slash end after refl got.leaves.has)))
-        (λ sense s. ap (map (item_in value)) same ∙ all_meant (IsListed value reader.source.now list) (item_in value) (listed_meaning list reader.source.now sense.labels sense.value) sense (λ tree x h. h) got.tree items (got.means sense s) ∙ list_meant list reader.source.now sense.labels sense.value got.tree)
+        (λ sense s. ap (map (item_in value)) same ∙ all_meant (IsListed value reader.source.now list) (item_in value) (listed_meaning list reader.source.now sense.labels) sense (λ tree x h. h) got.tree items (got.means sense s) ∙ list_meant list reader.source.now sense.labels got.tree)
         (let a = n.further in let b = got.further in let c = m.further in omega arith)

@@ -79,7 +79,7 @@ abbrev pub loop_inside : GamsPart
 loop_inside = the Control · token Comma · the LoopBody
 
 abbrev pub IsLooped : {F : Type 0} → (F → Number) → List ℕ → Sense → Derivation → ControlNode F × Vec (Stmt F) Global → Type 0
-IsLooped value source sense tree x = loops (control_in_numbers value (control_tree x.0)) (in_order value (map {B = Statements Number → Statements Number} (statement_view value) x.1.items)) ≡ controlled source sense.names sense.labels sense.value tree
+IsLooped value source sense tree x = loops (control_in_numbers value (control_tree x.0)) (in_order value (map {B = Statements Number → Statements Number} (statement_view value) x.1.items)) ≡ controlled source sense.names sense.labels tree
 
 -- between the parentheses
 module _ {F : Type 0} (value : F → Number) {limit : ℕ} {r : Reader} {start : ℕ} {v : Walk} (looping : v.keyword ≡ Loop) {between : Tables} {sets : ControlNode F} {next : ℕ}
@@ -176,7 +176,7 @@ pub record Bodying {F : Type 0} (limit : ℕ) (value : F → Number) (reader : R
   pub behind : Walk
   pub within : Within limit reader.source.now (the LoopBody) w (seen_from reader start) (opt (token Semicolon · opt (the LoopBody))) behind (seen_from reader at) context
   pub ends : Ends reader new behind
-  pub means : (sense : Sense) → IsSense new sense → (b : Derivation) → loop_body reader.source.now sense.names sense.labels sense.value (context b) ≡ put_before value xs (behind_semicolon reader.source.now sense.names sense.labels sense.value b)
+  pub means : (sense : Sense) → IsSense new sense → (b : Derivation) → loop_body reader.source.now sense.names sense.labels (context b) ≡ put_before value xs (behind_semicolon reader.source.now sense.names sense.labels b)
   pub further : start ≤ at
 
 abbrev pub inner_kinds : List Terminal
@@ -186,7 +186,7 @@ pub leads_body : (ts : List Seen) → leads productions look_ahead (the LoopBody
 leads_body ts = leads_alike (the LoopBody) (any_of inner_kinds) ts refl refl (same_test (may_begin look_ahead (the LoopBody)) (is_among inner_kinds) refl)
 
 module _ {F : Type 0} (value : F → Number) where
-  inner_view : (source : List ℕ) (sense : Sense) (tree : Derivation) (x : Stmt F) (others : Statements Number) → IsInner value source sense tree x → statement (place_in tree) (inner_act source sense.names sense.labels sense.value tree) others ≡ statement_view value x others
+  inner_view : (source : List ℕ) (sense : Sense) (tree : Derivation) (x : Stmt F) (others : Statements Number) → IsInner value source sense tree x → statement (place_in tree) (inner_act source sense.names sense.labels tree) others ≡ statement_view value x others
   inner_view source sense tree x others h = ap₂ (λ p a. statement p a others) (sym h.0) (sym h.1) ∙ sym (view-Stmt value x others)
 
 module _ {F : Type 0} (value : F → Number) {limit : ℕ} {reader : Reader} {start : ℕ} {w : Walk} where
@@ -196,7 +196,7 @@ module _ {F : Type 0} (value : F → Number) {limit : ℕ} {reader : Reader} {st
     behind = got.behind;
     within = within_then (within_the LoopBody) (within_second got.gives);
     ends = got.leaves;
-    means = λ sense s b. inner_view value reader.source.now sense got.tree x (behind_semicolon reader.source.now sense.names sense.labels sense.value b) (got.means sense s) ∙ ap (λ ys. put_before value ys (behind_semicolon reader.source.now sense.names sense.labels sense.value b)) (sym one_more);
+    means = λ sense s b. inner_view value reader.source.now sense got.tree x (behind_semicolon reader.source.now sense.names sense.labels b) (got.means sense s) ∙ ap (λ ys. put_before value ys (behind_semicolon reader.source.now sense.names sense.labels b)) (sym one_more);
     further = got.further;
   }
 
@@ -219,7 +219,7 @@ module _ {F : Type 0} (value : F → Number) {limit : ℕ} {reader : Reader} {st
           within = within_then semicolon_within (within_then (within_some (leads_body (seen_from reader behind) ∙ led)) (within_then (within_the LoopBody) (within_second got.gives)));
           ends = got.leaves;
           means = λ sense s b.
-              let rest = behind_semicolon reader.source.now sense.names sense.labels sense.value b in
+              let rest = behind_semicolon reader.source.now sense.names sense.labels b in
               l.means sense (earlier got.gives (semicolon_ends l.ends.holds n).holds got.leaves.holds s) (some (pair (leaf (Semicolon, t)) (some (node (pair got.tree b)))))
               ∙ ap (put_before value xs) (inner_view value reader.source.now sense got.tree x rest (got.means sense s)) ∙ sym (put_push value xs x rest) ∙ ap (λ ys. put_before value ys rest) (sym one_more);
           further = (let a = l.further in let b = n.further in let c = got.further in omega arith);

@@ -33,8 +33,8 @@ use Rattle.gms_parse.proofs.Itemized.{ItemPart, AreItems}
 
 -- ---- equations
 
-equations_meant : (source : List ℕ) (sense : Sense) (tree : Derivation) (xs : List Named) → AreAll (IsNamed source) sense tree xs → xs ≡ listed_in (named_in source sense.names sense.labels sense.value) tree
-equations_meant source sense tree xs h = sym (map-id xs) ∙ all_meant (IsNamed source) (λ x. x) (named_in source sense.names sense.labels sense.value) sense (λ t x k. k) tree xs h
+equations_meant : (source : List ℕ) (sense : Sense) (tree : Derivation) (xs : List Named) → AreAll (IsNamed source) sense tree xs → xs ≡ listed_in (named_in source sense.names sense.labels) tree
+equations_meant source sense tree xs h = sym (map-id xs) ∙ all_meant (IsNamed source) (λ x. x) (named_in source sense.names sense.labels) sense (λ t x k. k) tree xs h
 
 pub equations_got : {limit : ℕ} {reader : Reader} {at next : ℕ} {new : Tables} {w : Walk} {equations : Vec Named Global} → IsGot limit (AreAll (IsNamed reader.source.now)) (Stays reader new w) (list_of (is_among (Comma ∷ Break ∷ [])) name) reader at new w equations.items next →
     IsGot limit (AreEquations reader.source.now) (Stays reader new w) (separated name) reader at new w equations next
@@ -113,7 +113,7 @@ model_items = record {
 
 -- a model as it is meant
 abbrev pub model_meaning : List ℕ → Sense → Derivation → ModelDecl
-model_meaning source sense = model_in source sense.names sense.labels sense.value
+model_meaning source sense = model_in source sense.names sense.labels
 
 pub models_got : {F : Type 0} (value : F → Rational) {limit : ℕ} {reader : Reader} {at start next : ℕ} {t : Token} {new : Tables} {w : Walk} {models : List ModelDecl} → IsNext (is Model) reader at t start →
     IsGot limit (AreItems (λ x. x) (model_meaning reader.source.now)) (Stays reader new (past reader w Model t start)) (the ModelItems) reader start new (past reader w Model t start) models next →

@@ -16,8 +16,6 @@ use Rattle.gms_grammar.specs.GamsGrammar.{Expression, Condition, Target, NamedSt
 use Rattle.gms_grammar.specs.GamsLookAhead.{look_ahead}
 use Rattle.gms_grammar.proofs.Basics.{both_ways}
 use Rattle.gms_expressions.specs.ExpressionTrees.{second_in}
-use Rattle.gms_expressions.specs.Valuations.{number_in}
-use Rattle.gms_expressions.proofs.Valued.{number_in_is}
 use Rattle.gms_parse.specs.declared.fault.SourceFaultOrMemory.{SourceFaultOrMemory}
 use Rattle.gms_parse.specs.declared.reader.Reader.{Reader}
 use Rattle.gms_parse.specs.declared.reader.Tables.{Tables}
@@ -54,21 +52,18 @@ stuck_pair : {test : Terminal → Bool} {q r : GamsPart} {ts front rest : List S
 stuck_pair {test} {q} {ts = ts} k (first_stuck (refused h)) = in_neither (unled_next test q ts h) k
 stuck_pair {test} {q} {ts = ts} k (second_stuck (taken h) s) = in_left_stuck (led_first test q ts h) (second_stuck (taken h) s)
 
-refuses_equals : {limit : ℕ} {source : List ℕ} {test : Terminal → Bool} {q r : GamsPart} {w : Walk} {ts : List Seen} {e : SourceFaultOrMemory} → leads productions look_ahead r ts ≡ false → Refuses limit source (one test · q) w ts e → Refuses limit source (one test · q ∣ r) w ts e
-refuses_equals k r = by_cause r (λ fault s. stuck_as s (stuck_pair k s.reads)) (λ fault s. wrong_as s (takes_left s.takes))
-
 -- ---- statements
 
--- the tables so far, and what texts of numbers mean
+-- the tables so far
 abbrev pub so_far : Tables → Sense
-so_far tables = record { names = tables.names; labels = tables.labels; value = number_in }
+so_far tables = record { names = tables.names; labels = tables.labels }
 
 pub is_so_far : (tables : Tables) → IsSense tables (so_far tables)
-is_so_far tables = record { names = λ text n h. h; labels = λ text n h. h; value = number_in_is }
+is_so_far tables = record { names = λ text n h. h; labels = λ text n h. h }
 
 module _ {F : Type 0} (value : F → Number) {limit : ℕ} {reader : Reader} {at middle : ℕ} {first : Tables} {w : Walk} {target : TargetNode F} (t : IsGot limit (IsTarget value reader.source.now) (StaysOpen reader first w) (the Target) reader at first w target middle) where
   -- a target that is plain, or is none
-  plain_as : (b : Bool) → ((source : List ℕ) (s : Sense) → is_plain_target (target_in source s.names s.labels s.value t.tree) ≡ b) → is_plain_target (shown_target value target) ≡ b
+  plain_as : (b : Bool) → ((source : List ℕ) (s : Sense) → is_plain_target (target_in source s.names s.labels t.tree) ≡ b) → is_plain_target (shown_target value target) ≡ b
   plain_as b h = ap is_plain_target (t.means (so_far first) (is_so_far first)) ∙ h reader.source.now (so_far first)
 
   pub condition_refused : {e : SourceFaultOrMemory} → Refuses limit reader.source.now (opt (the Condition)) t.behind (seen_from reader middle) e → Refuses limit reader.source.now (the NamedStatement) w (seen_from reader at) e
@@ -80,12 +75,12 @@ module _ {F : Type 0} (value : F → Number) {limit : ℕ} {reader : Reader} {at
   module _ {further : ℕ} {second : Tables} {condition : Maybe (Expr F)} (c : IsGot limit (IsCondition value reader.source.now) (StaysOpen reader second t.behind) (opt (the Condition)) reader middle second t.behind condition further) where
     -- an assignment
     module _ {new : Tables} {act : ActNode F} {next : ℕ} (r : IsGot limit (IsAssigned value reader.source.now target condition) (Stays reader new c.behind) (token Equals · the Expression) reader further new c.behind act next) where
-      both_means : (sense : Sense) → IsSense new sense → assigned reader.source.now sense.names sense.labels sense.value (shown_target value target) (option_map (shown_tree value) condition) (second_in r.tree)
-          ≡ assigned reader.source.now sense.names sense.labels sense.value (target_in reader.source.now sense.names sense.labels sense.value t.tree) (condition_in reader.source.now sense.names sense.labels sense.value c.tree) (second_in r.tree)
+      both_means : (sense : Sense) → IsSense new sense → assigned reader.source.now sense.names sense.labels (shown_target value target) (option_map (shown_tree value) condition) (second_in r.tree)
+          ≡ assigned reader.source.now sense.names sense.labels (target_in reader.source.now sense.names sense.labels t.tree) (condition_in reader.source.now sense.names sense.labels c.tree) (second_in r.tree)
       both_means sense s =
           let s2 = earlier r.gives c.leaves.stays.has.holds r.leaves.has.holds s in
           let s1 = earlier c.gives t.leaves.stays.has.holds c.leaves.stays.has.holds s2 in
-          ap₂ (λ x y. assigned reader.source.now sense.names sense.labels sense.value x y (second_in r.tree)) (t.means sense s1) (c.means sense s2)
+          ap₂ (λ x y. assigned reader.source.now sense.names sense.labels x y (second_in r.tree)) (t.means sense s1) (c.means sense s2)
 
       pub assigned_got : IsGot limit (IsAct value reader.source.now named_act) (Stays reader new w) (the NamedStatement) reader at new w act next
       assigned_got = elim (target_goes t.gives.reads) [ inl h ↦ by_head h | inr a ↦ by_target a ]
@@ -102,7 +97,7 @@ module _ {F : Type 0} (value : F → Number) {limit : ℕ} {reader : Reader} {at
     pub assigned_refused : {e : SourceFaultOrMemory} → (is_plain_target (shown_target value target) ≡ true → leads productions look_ahead (token DotDot) (seen_from reader further) ≡ false) → Refuses limit reader.source.now (token Equals · the Expression) c.behind (seen_from reader further) e →
         Refuses limit reader.source.now (the NamedStatement) w (seen_from reader at) e
     assigned_refused {e} unless r = elim (target_goes t.gives.reads) [
-      | inl h ↦ (within_of t.gives h.leading).refuses e (refuses_the AfterHead (refuses_second c.gives (refuses_equals (unled_next (is DotDot) (the Sides) (seen_from reader further) (unless (plain_as true h.plain))) r)))
+      | inl h ↦ (within_of t.gives h.leading).refuses e (refuses_the AfterHead (refuses_second c.gives (by_cause r (λ fault s. stuck_as s (stuck_pair (unled_next (is DotDot) (the Sides) (seen_from reader further) (unless (plain_as true h.plain))) s.reads)) (λ fault s. wrong_as s (takes_left s.takes)))))
       | inr a ↦ (within_of t.gives a.leading).refuses e (refuses_the AfterTarget (refuses_second c.gives r))
     ]
 
@@ -130,7 +125,7 @@ module _ {F : Type 0} (value : F → Number) {limit : ℕ} {reader : Reader} {at
               let s3 = earlier d.gives (kind_stays DotDot n refl c.leaves.stays.has).has.holds d.leaves.has.holds s in
               let s1 = earlier c.gives t.leaves.stays.has.holds c.leaves.stays.has.holds s3 in
               d.means sense s
-              ∙ ap₂ (λ (x : TargetTree Number) y. defines (record { at = x.at; name = x.name }) x.indices y (sides_in reader.source.now sense.names sense.labels sense.value d.tree)) (t.means sense s1) (c.means sense s3)
+              ∙ ap₂ (λ (x : TargetTree Number) y. defines (record { at = x.at; name = x.name }) x.indices y (sides_in reader.source.now sense.names sense.labels d.tree)) (t.means sense s1) (c.means sense s3)
               ∙ sym (h.acts reader.source.now sense b))
               (let x = t.further in let y = c.further in let z = n.further in let u = d.further in omega arith)
 

@@ -64,7 +64,6 @@ pub earlier : {limit : ℕ} {source : List ℕ} {part : GamsPart} {reader other 
 earlier {source = source} {w = w} {v = v} {rest = rest} {tree = tree} g h k s = record {
   names = λ text n p. s.names text n (subst (λ (x : List (List ℕ)). place_of x text ≡ Some n) k.names (subst (λ (x : Walk). place_of x.names text ≡ Some n) (sym g.leaves) (names_kept source w (yield tree) (kind_of rest) text n (subst (λ (x : List (List ℕ)). place_of x text ≡ Some n) (sym h.names) p))));
   labels = λ text n p. s.labels text n (subst (λ (x : List (List ℕ)). place_of x text ≡ Some n) k.labels (subst (λ (x : Walk). place_of x.labels text ≡ Some n) (sym g.leaves) (labels_kept source w (yield tree) (kind_of rest) text n (subst (λ (x : List (List ℕ)). place_of x text ≡ Some n) (sym h.labels) p))));
-  value = s.value;
 }
 
 module _ (reader : Reader) (w : Walk) (kind : Terminal) (t : Token) (behind : ℕ) where

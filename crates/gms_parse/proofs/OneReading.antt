@@ -16,7 +16,6 @@ use Rattle.gms_grammar.proofs.Language.{gams_unique}
 use Rattle.gms_grammar.specs.Rules as rules
 use Rattle.gms_grammar.proofs.FirstFaults.{no_first, one_refused}
 use Rattle.gms_expressions.specs.Outcomes.{seen}
-use Rattle.gms_expressions.specs.Valuations.{number_in}
 use Rattle.gms_parse.specs.declared.fault.SourceError.TheVariants.{Syntax, Table}
 use Rattle.gms_expressions.specs.declared.fault.SyntaxError.TheVariants.{Depth, Number as OutOfRange, TooManyLabels}
 use Rattle.gms_table.specs.declared.fault.TableError.TheVariants.{NoHeading}
@@ -60,9 +59,9 @@ module _ (limit : ℕ) (source : List ℕ) where
       let labels : one.labels ≡ other.labels = p.labels_are ∙ ap (λ (t : Derivation). (walk_behind source start (yield t) End).labels) trees ∙ sym q.labels_are in
       let statements : one.statements ≡ other.statements =
       p.statements_are
-      ∙ ap (λ (ns : List (List ℕ)). statements_of source ns one.labels number_in p.tree) names
-      ∙ ap (λ (ls : List (List ℕ)). statements_of source other.names ls number_in p.tree) labels
-      ∙ ap (λ (t : Derivation). statements_of source other.names other.labels number_in t) trees
+      ∙ ap (λ (ns : List (List ℕ)). statements_of source ns one.labels p.tree) names
+      ∙ ap (λ (ls : List (List ℕ)). statements_of source other.names ls p.tree) labels
+      ∙ ap (λ (t : Derivation). statements_of source other.names other.labels t) trees
       ∙ sym q.statements_are in
       same_view one other names labels statements
 
@@ -152,10 +151,6 @@ module _ (limit : ℕ) (source : List ℕ) where
   one_faulty : (walk : Walk) (token : Seen) (ahead : Terminal) (one other : SourceFault) → IsFaulty limit source walk token ahead one → IsFaulty limit source walk token ahead other → one ≡ other
   one_faulty walk token ahead one other h k = one_told walk token.0 token.1 one other (tells walk token.0 token.1 ahead h) (tells walk token.0 token.1 ahead k)
 
-  -- tokens have one first fault
-  one_refusal : (tokens : List Seen) (one other : SourceFault) → IsNoProgram limit source tokens one → IsNoProgram limit source tokens other → one ≡ other
-  one_refusal tokens one other f g = one_refused source_rule (limit, source) one_faulty Program start tokens one other f g
-
   -- a source has one first fault
   pub one_fault : (one other : SourceFault) → IsFault limit source one → IsFault limit source other → one ≡ other
   one_fault one other (inl a) (inl b) = a.1 ∙ sym b.1
@@ -176,4 +171,4 @@ module _ (limit : ℕ) (source : List ℕ) where
   one_fault one other (inr (inr a)) (inr (inr b)) =
       let are : Ok a.tokens ≡ Ok b.tokens = means_only source (Ok a.tokens) (Ok b.tokens) a.are_tokens b.are_tokens in
       let same : b.tokens ≡ a.tokens = cc in
-      one_refusal (seen source a.tokens) one other a.refused (subst (λ (ts : List Token). IsNoProgram limit source (seen source ts) other) same b.refused)
+      one_refused source_rule (limit, source) one_faulty Program start (seen source a.tokens) one other a.refused (subst (λ (ts : List Token). IsNoProgram limit source (seen source ts) other) same b.refused)

@@ -27,7 +27,6 @@ use Rattle.gms_expressions.specs.Outcomes.{seen}
 use Rattle.gms_parse.specs.declared.fault.SourceError.TheVariants.{TooLong}
 use Rattle.gms_parse.specs.declared.fault.SourceFault.{SourceFault}
 use Rattle.gms_parse.specs.Faults.{lexical_fault, error_of_table}
-use Rattle.gms_expressions.specs.Valuations.{number_in}
 use Rattle.gms_parse.specs.Programs.{statements_of}
 use Rattle.gms_parse.specs.Tables.{parts_of_tokens, labels_of_lines, IsLineFault, AreTableItems, entries_in, items_given}
 use Rattle.gms_parse.specs.Walks.{Seen, Walk, start, kind_ahead, table_name, lines_with, walk_after, walk_behind, unexpected, source_rule, IsFaulty, in_table, AreSound}
@@ -208,7 +207,7 @@ module _ (limit : ℕ) (source : List ℕ) (none : (fault : SourceFault) → IsF
         let sound : AreSound limit source start (yield tree) End = subst (λ (t : Terminal). AreSound limit source start (yield tree) t) at_end (sound_front limit source (seen source tokens) refused (yield tree) rest stops) in
         let walk = walk_behind source start (yield tree) End in
         record {
-          view = record { names = walk.names; labels = walk.labels; statements = statements_of source walk.names walk.labels number_in tree };
+          view = record { names = walk.names; labels = walk.labels; statements = statements_of source walk.names walk.labels tree };
           has = record {
             short = short;
             tokens = tokens;

@@ -2,16 +2,14 @@
 use Rattle.std.proofs.Common.{◌≡◌, ℕ, zero, suc, get_or, ◌+◌, ◌-◌, ◌<◌, ◌≤◌, Bool, true, false, not, ◌&&◌, ◌||◌, cond, List, [], ◌∷◌, ◌++◌, length, map, take, Some, None, refl, sym, ap, ap₂, ◌∙◌, subst, inl, inr, arith, append_assoc}
 use Rattle.std.specs.Str.{IsAscii}
 use Rattle.std.proofs.lemmas.List.{append-nil, map_push}
-use Rattle.std.proofs.lemmas.Str.{IsAscii-take, IsAscii-drop}
 use Rattle.std.proofs.Math.Seq.{take-suc}
-use Rattle.gq_number.specs.Number.{neg_ℚ}
 use Rattle.gms_labels.specs.Labels.{place_of, entered, IsFullFor}
 use Rattle.gms_labels.proofs.Places.{place_of-entered_kept}
-use Rattle.gms_lexemes.specs.Bytes.{is_quote}
 use Rattle.gms_lexemes.specs.declared.kind.Kind.{Kind}
 use Rattle.gms_lexemes.specs.declared.kind.Kind.TheVariants as token_kind
 use Rattle.gms_lex.specs.declared.token.Token.{Token}
 use Rattle.gms_lex.specs.TokenTexts.{token_text, unquoted, IsSpelled}
+use Rattle.gms_lex.proofs.UnquotedLemmas.{unquoted_ascii}
 use Rattle.gms_set.specs.Ranges.{is_range, members, IsRangeError}
 use Rattle.gms_set.specs.declared.fault.SetFault.{SetFault}
 use Rattle.gms_set.specs.declared.fault.SetFaultOrMemory.{SetFaultOrMemory}
@@ -38,27 +36,15 @@ use Rattle.gms_table.proofs.LabelLemmas.{all_entered-append}
 use Rattle.gms_parse.specs.Walks.{Seen, Walk, last_kind, range_start, range_texts, list_labels, new_labels, LacksRoom, IsFaulty, deep, out_of_range, many_names, many_labels, in_table, without_lines}
 use Rattle.gms_parse.specs.Readings.{Gives, Refuses, Sense, IsSense, IsGot, Has, Holds, Starless, Stays, IsNext, IsLacking, IsEntered, IsNotEntered, seen_from, kind_of}
 use Rattle.gms_parse.specs.Meanings.{IsLabelToken, IsEnteredRange, IsNotEnteredRange, IsAdded, AreThere, text_of_label}
-use Rattle.gms_parse.proofs.TokenKinds.{leads_by_kind}
+use Rattle.gms_parse.proofs.TokenKinds.{leads_by_kind, unled_next}
 use Rattle.gms_parse.proofs.Steps.{got_by, gives_one, gives_both, gives_the, gives_none, gives_some, takes_next, refuses_the, refuses_first, refuses_second, refuses_some, refuses_token, refuses_memory}
 use Rattle.gms_parse.proofs.Nexts.{past, exact, leads_next, gives_exact, refuses_lacking, plain_stays, stays_then}
-use Rattle.gms_parse.proofs.TokenKinds.{unled_next}
 use Rattle.gms_parse.proofs.Walks.{room_for_none}
 
 -- ---- spelling
 
-pub unquoted_ascii : (text : List ℕ) → IsAscii text → IsAscii (unquoted text)
-unquoted_ascii [] h = h
-unquoted_ascii (b ∷ text) h = go (is_quote b)
-  where
-    go : (c : Bool) → IsAscii (cond c (take (length text - 1) text) (b ∷ text))
-    go true = IsAscii-take text (length text - 1) (IsAscii-drop (b ∷ text) 1 h)
-    go false = h
-
-label_spelled_as : (k : Kind) (text : List ℕ) → k ≡ token_kind.Label → IsSpelled k text → IsAscii text × (length (unquoted text) ≤ 63)
-label_spelled_as k text e s = subst (λ (x : Kind). IsSpelled x text) e s
-
 pub label_spelled : {source : List ℕ} {t : Token} → IsLabelToken source t → IsAscii (unquoted (token_text source t)) × (length (unquoted (token_text source t)) ≤ 63)
-label_spelled {source} {t} l = let s = label_spelled_as t.kind (token_text source t) l.is l.placed.spelled in (unquoted_ascii (token_text source t) s.0, s.1)
+label_spelled {source} {t} l = let s : IsSpelled token_kind.Label (token_text source t) = subst (λ (x : Kind). IsSpelled x (token_text source t)) l.is l.placed.spelled in (unquoted_ascii (token_text source t) s.0, s.1)
 
 -- ---- texts that are entered
 
@@ -85,6 +71,13 @@ lacking_more labels (y ∷ texts) text (x ∷ before) other behind e f =
 
 pub lacking_of : (labels texts : List (List ℕ)) (text : List ℕ) → LacksRoom labels (texts ++ text ∷ []) → Lacking labels texts text
 lacking_of labels texts text l = lacking_more labels texts text l.before l.text l.behind l.parts l.full
+
+pub full_of : (labels : List (List ℕ)) (text : List ℕ) → LacksRoom labels (text ∷ []) → IsFullFor labels text
+full_of labels text l = go (lacking_of labels [] text l)
+  where
+    go : Lacking labels [] text → IsFullFor labels text
+    go (earlier_one k) = absurd (room_for_none _ [] refl k)
+    go (this_one f) = f
 
 -- so many texts were entered, and have these numbers
 pub record Entering (old now : List (List ℕ)) (texts : List (List ℕ)) (was numbers : List ℕ) : Type 0 where
@@ -123,7 +116,7 @@ entering_on old now texts was numbers e new text n f more is_more =
     lacks (earlier_one l) = e.room l
     lacks (this_one g) = f.room (subst (λ (z : List (List ℕ)). IsFullFor z text) (sym e.table) g)
 
-lacks_append : (old texts : List (List ℕ)) (text : List ℕ) (more : List (List ℕ)) → IsFullFor (all_entered old texts) text → LacksRoom old (texts ++ text ∷ more)
+pub lacks_append : (old texts : List (List ℕ)) (text : List ℕ) (more : List (List ℕ)) → IsFullFor (all_entered old texts) text → LacksRoom old (texts ++ text ∷ more)
 lacks_append old texts text more f = record { before = texts; text = text; behind = more; parts = refl; full = f }
 
 -- a text finds no room behind others
@@ -174,11 +167,7 @@ label_refuses {w = w} texts n is h lacks e =
     refuses_token (takes_next (exact {kind = Label} n) refl) (many_labels refl (subst (λ (x : List (List ℕ)). LacksRoom w.labels x) (sym is) (subst (λ (ls : List (List ℕ)). LacksRoom ls texts) (sym h.labels) lacks))) e
 
 single_room : (labels : List (List ℕ)) (text : List ℕ) → (IsFullFor labels text → ⊥) → LacksRoom labels (text ∷ []) → ⊥
-single_room labels text room l = go (lacking_of labels [] text l)
-  where
-    go : Lacking labels [] text → ⊥
-    go (earlier_one k) = room_for_none _ [] refl k
-    go (this_one f) = room f
+single_room labels text room l = room (full_of labels text l)
 
 starless_ahead : (ts : List Seen) → leads productions look_ahead (token Star) ts ≡ false → is Star (kind_of ts) ≡ false
 starless_ahead ts h = sym (leads_by_kind (token Star) ts refl) ∙ h
@@ -248,7 +237,7 @@ module _ {reader : Reader} {at : ℕ} {old : Tables} {w : Walk} {first : Token} 
           by_range labels true = refl
           by_range labels false = refl
 
-          places : (sense : Sense) → IsSense new sense → map (λ text. or_0 (place_of new.labels text)) (range_texts reader.source.now from to) ≡ range_labels reader.source.now sense.labels sense.value neg_ℚ from to
+          places : (sense : Sense) → IsSense new sense → map (λ text. or_0 (place_of new.labels text)) (range_texts reader.source.now from to) ≡ range_labels reader.source.now sense.labels from to
           places sense s = in_order sense s (range_texts reader.source.now from to) e.are_there ∙ by_range sense.labels (is_range from to)
 
       pub range_refused : {limit : ℕ} {e : SourceFaultOrMemory} → IsNotEnteredRange reader.source.now old first last e → Refuses limit reader.source.now (the Range) w (seen_from reader at) e

@@ -101,7 +101,7 @@ led_keyword (t ∷ ts) h = also (is_among keyword_kinds) is_keyword refl t.0 h
 -- what the statements so far mean, which were added to those before
 abbrev SegmentMeans : {F : Type 0} → (F → Number) → List ℕ → (Derivation → Derivation) → List (Stmt F) → List (Stmt F) → Sense → Type 0
 SegmentMeans {F} value source context old xs sense =
-    (added : List (Stmt F)) × (xs ≡ old ++ added) × ((b : Derivation) → segment source sense.names sense.labels sense.value (context b) ≡ put_before value added (keyword_statements source sense.names sense.labels sense.value b))
+    (added : List (Stmt F)) × (xs ≡ old ++ added) × ((b : Derivation) → segment source sense.names sense.labels (context b) ≡ put_before value added (keyword_statements source sense.names sense.labels b))
 
 -- so many statements of a segment were read
 pub record Segmenting {F : Type 0} (limit : ℕ) (value : F → Number) (reader : Reader) (start : ℕ) (w : Walk) (old : List (Stmt F)) (new : Tables) (xs : List (Stmt F)) (at : ℕ) : Type 0 where
@@ -119,7 +119,7 @@ module _ {F : Type 0} (value : F → Number) {limit : ℕ} {reader : Reader} {st
     behind = got.behind;
     within = within_then (within_the Segment) (within_second got.gives);
     holds = got.leaves;
-    means = λ sense s. let m = got.means sense s in (m.0, m.1, λ b. sym (m.2 (keyword_statements reader.source.now sense.names sense.labels sense.value b)));
+    means = λ sense s. let m = got.means sense s in (m.0, m.1, λ b. sym (m.2 (keyword_statements reader.source.now sense.names sense.labels b)));
     further = got.further;
   }
 
@@ -144,7 +144,7 @@ module _ {F : Type 0} (value : F → Number) {limit : ℕ} {reader : Reader} {st
               m.0 ++ x ∷ [],
               one_more ∙ ap (λ ys. ys ++ x ∷ []) m.1 ∙ append_assoc old m.0 (x ∷ []),
               λ b.
-                  let rest = keyword_statements reader.source.now sense.names sense.labels sense.value b in
+                  let rest = keyword_statements reader.source.now sense.names sense.labels b in
                   m.2 (more got.tree b)
                   ∙ ap (put_before value m.0) (sym (stated value x rest (placed ∙ sym (place_read (the KeywordStatement) refl got.gives)) (same ∙ got.means sense s)))
                   ∙ sym (put_append value m.0 (x ∷ []) rest),

@@ -14,7 +14,8 @@ use Rattle.gms_grammar.specs.Terminals.{is, is_among, number_of}
 use Rattle.gms_lines.specs.ControlWords.{is_among as is_listed}
 use Rattle.gms_grammar.proofs.Basics.{both_ways}
 use Rattle.gms_grammar.proofs.Checks.{left_and, right_and}
-use Rattle.gms_expressions.specs.Words.{Words, statement_words, expression_words, other_words, kind_among, or_else, or_name, terminal_of, terminal_of_word, terminal_of_symbol}
+use Rattle.gms_grammar.specs.Keywords.{Words, statement_words, kind_among}
+use Rattle.gms_expressions.specs.Words.{expression_words, other_words, or_else, or_name, terminal_of, terminal_of_word, terminal_of_symbol}
 use Rattle.gms_parse.specs.Meanings.{IsLabelToken}
 use Rattle.gms_parse.specs.declared.reader.Reader.{Reader}
 use Rattle.gms_parse.specs.Readings.{IsNext}
@@ -81,13 +82,10 @@ lone_kind _ = kind.Break
 
 only_kind : (k : Kind) (text : List ℕ) → is_lone (terminal_of k text) ≡ true → k ≡ lone_kind (terminal_of k text)
 only_kind kind.Word text h = absurd (both_ways (is_lone (terminal_of_word text)) h (not-true (is_lone (terminal_of_word text)) (word_kind text)))
-only_kind kind.Label text h = refl
 only_kind kind.Number text h = cc
 only_kind kind.Text text h = absurd (both_ways (is_lone (terminal_of kind.Text text)) h (text_many (ltb 65 (length text))))
 only_kind (kind.Symbol symbol) text h = absurd (both_ways (is_lone (terminal_of_symbol symbol)) h (symbol_many symbol))
-only_kind kind.Break text h = refl
-only_kind kind.TableLine text h = refl
-only_kind kind.End text h = refl
+only_kind _ text h = refl
 
 -- what the grammar sees as one of these is a token of that kind
 pub lone_as : (x : Terminal) → is_lone x ≡ true → (k : Kind) (text : List ℕ) → terminal_of k text ≡ x → k ≡ lone_kind x

@@ -14,8 +14,8 @@ abbrev to_target : Target Number → Syntax Number → Target Number
 to_target other (reference at name suffix indices) = record { at = at; name = name; suffix = suffix; indices = indices }
 to_target other _ = other
 
-module _ (source : List ℕ) (names labels : List (List ℕ)) (value : List ℕ → Number) where
-  pub target_is : (target : Target Number) (tree : Derivation) → IsTree productions (the TargetPart) tree → reference target.at target.name target.suffix target.indices ≡ trees.target source names labels value tree → target ≡ target_in source names labels value tree
+module _ (source : List ℕ) (names labels : List (List ℕ)) where
+  pub target_is : (target : Target Number) (tree : Derivation) → IsTree productions (the TargetPart) tree → reference target.at target.name target.suffix target.indices ≡ trees.target source names labels tree → target ≡ target_in source names labels tree
   target_is target (node (pair word (pair dotted indices))) k h = ap (to_target target) h
   target_is target (node (pair word _)) k h = absurd k.1
   target_is target (node _) k h = absurd k

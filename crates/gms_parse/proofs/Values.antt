@@ -1,7 +1,7 @@
 -- Values of data.
 use Rattle.std.proofs.Common.{◌≡◌, ℕ, Bool, true, false, cond, List, [], ◌∷◌, map, Some, Vec, refl, sym, ap, ap₂, ◌∙◌, arith}
 use Rattle.std.specs.declared.alloc.Global.{Global}
-use Rattle.gq_number.specs.Number.{Number as Rational, neg_ℚ}
+use Rattle.gq_number.specs.Number.{Number as Rational}
 use Rattle.gq_extended.specs.declared.extended.Ext.{Ext}
 use Rattle.gq_extended.specs.declared.extended.Ext.TheVariants as ext
 use Rattle.gms_ast.specs.declared.declaration.Item.{Item}
@@ -16,6 +16,7 @@ use Rattle.gms_grammar.specs.Terminals.{is, is_among}
 use Rattle.gms_grammar.specs.GamsGrammar.{Value, productions, token, any_of}
 use Rattle.gms_grammar.specs.GamsLookAhead.{look_ahead}
 use Rattle.gms_grammar.proofs.Basics.{or_left, or_right, or_both, not_true}
+use Rattle.gms_expressions.proofs.Valued.{number_in_is}
 use Rattle.gms_expressions.specs.ExpressionTrees.{second_in}
 use Rattle.gms_expressions.specs.Outcomes.{next_place}
 use Rattle.gms_parse.proofs.TokenKinds.{is_quiet, same_kind, unled_next}
@@ -45,7 +46,7 @@ infinity_got value {reader = reader} {behind = behind} {t = t} {w = w} n h = got
 pub numeral_got : {F : Type 0} (value : F → Rational) {limit : ℕ} {reader : Reader} {at behind : ℕ} {t : Token} {tables : Tables} {w : Walk} (v : F) → IsNext (is Number) reader at t behind → IsValue limit value (token_text reader.source.now t) v → Has reader tables w →
     IsGot limit (IsUnsigned {F = F} value reader.source.now) (Stays reader tables w) (any_of (Number ∷ Infinity ∷ [])) reader at tables w (ext.Number v) behind
 numeral_got value {reader = reader} {behind = behind} {t = t} {w = w} v n within h = got_by (number_gives (value v) n refl within.0 within.1) (number_stays behind h)
-    (λ sense s. ap ext.Number (sym (s.value (token_text reader.source.now t) (value v) within.0))) (let g = n.further in omega arith)
+    (λ sense s. ap ext.Number (sym (number_in_is (token_text reader.source.now t) (value v) within.0))) (let g = n.further in omega arith)
 
 pub neither_led : (ts : List Seen) → leads productions look_ahead (token Infinity) ts ≡ false → leads productions look_ahead (token Number) ts ≡ false → leads productions look_ahead (any_of (Number ∷ Infinity ∷ [])) ts ≡ false
 neither_led [] h k = refl
@@ -76,9 +77,9 @@ stuck_signed {f = f} {g = g} no_first (second_stuck (there h (taken {token = t} 
 -- a value with its sign
 pub value_got : {F : Type 0} (value : F → Rational) {limit : ℕ} {reader : Reader} {at start next : ℕ} {tables : Tables} {w : Walk} {minus : Bool} {v found : Ext F} → leads productions look_ahead (token NotAvailable) (seen_from reader at) ≡ false →
     (s : IsGot limit IsSign (Stays reader tables w) (opt (token Sign)) reader at tables w minus start) → IsGot limit (IsUnsigned value reader.source.now) (Stays reader tables s.behind) (any_of (Number ∷ Infinity ∷ [])) reader start tables s.behind v next →
-    extended_in value found ≡ cond minus (opposed neg_ℚ (extended_in value v)) (extended_in value v) → IsGot limit (IsGiven value reader.source.now) (Stays reader tables w) (the Value) reader at tables w found next
+    extended_in value found ≡ cond minus (opposed (extended_in value v)) (extended_in value v) → IsGot limit (IsGiven value reader.source.now) (Stays reader tables w) (the Value) reader at tables w found next
 value_got value {reader = reader} {v = v} unled s u shown = got_by (gives_the Value (gives_right unled (led_signed s.gives.reads u.gives.reads) (gives_both s.gives u.gives))) (stays_then s.leaves u.leaves)
-    (λ sense m. shown ∙ sym (s.means sense (earlier u.gives s.leaves.has.holds u.leaves.has.holds m) (extended_in value v)) ∙ ap (signed_value neg_ℚ s.tree) (u.means sense m)) (let a = s.further in let b = u.further in omega arith)
+    (λ sense m. shown ∙ sym (s.means sense (earlier u.gives s.leaves.has.holds u.leaves.has.holds m) (extended_in value v)) ∙ ap (signed_value s.tree) (u.means sense m)) (let a = s.further in let b = u.further in omega arith)
 
 pub value_refused : {limit : ℕ} {source : List ℕ} {w v : Walk} {ts between : List Seen} {a : Derivation} {e : SourceFaultOrMemory} → leads productions look_ahead (token NotAvailable) ts ≡ false → Gives limit source (opt (token Sign)) w ts a v between → Refuses limit source (any_of (Number ∷ Infinity ∷ [])) v between e → Refuses limit source (the Value) w ts e
 value_refused unled g r = refuses_the Value (by_cause (refuses_second g r) (λ fault s. stuck_as s (stuck_signed unled s.reads)) (λ fault s. wrong_as s (takes_right s.takes)))

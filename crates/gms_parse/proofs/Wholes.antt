@@ -53,7 +53,7 @@ pub record Whole {F : Type 0} (limit : ℕ) (value : F → Number) (reader : Rea
   pub behind : Walk
   pub within : Within limit reader.source.now (the Program) start (seen_from reader 0) (many (token Semicolon · the Segment)) behind (seen_from reader at) context
   pub holds : Holds reader new behind
-  pub means : (sense : Sense) → IsSense new sense → (b : Derivation) → statements_of reader.source.now sense.names sense.labels sense.value (context b) ≡ put_before value xs (segments reader.source.now sense.names sense.labels sense.value b)
+  pub means : (sense : Sense) → IsSense new sense → (b : Derivation) → statements_of reader.source.now sense.names sense.labels (context b) ≡ put_before value xs (segments reader.source.now sense.names sense.labels b)
 
 -- why a part of the program is refused is why the program is
 pub refuses_whole : {limit : ℕ} {reader : Reader} {e : SourceFaultOrMemory} → Refuses limit reader.source.now (the Program) start (seen_from reader 0) e → RefusesWhole limit reader e
@@ -68,7 +68,7 @@ module _ {F : Type 0} (value : F → Number) {limit : ℕ} {reader : Reader} whe
     holds = got.leaves;
     means = λ sense s b.
         let m = got.means sense s in
-        let rest = segments reader.source.now sense.names sense.labels sense.value b in
+        let rest = segments reader.source.now sense.names sense.labels b in
         ap (λ ys. followed_by ys rest) (sym m.2 ∙ in_order_is value m.0) ∙ followed value m.0 rest ∙ ap (λ ys. put_before value ys rest) (sym (m.1 ∙ ap (λ ys. ys ++ m.0) none_before));
   }
 
@@ -86,7 +86,7 @@ module _ {F : Type 0} (value : F → Number) {limit : ℕ} {reader : Reader} whe
       holds = got.leaves;
       means = λ sense s b.
           let m = got.means sense s in
-          let rest = segments reader.source.now sense.names sense.labels sense.value b in
+          let rest = segments reader.source.now sense.names sense.labels b in
           l.means sense (earlier gives l.holds got.leaves s) (more (pair (leaf (Semicolon, t)) got.tree) b)
           ∙ ap (put_before value xs) (ap (λ ys. followed_by ys rest) (sym m.2 ∙ in_order_is value m.0) ∙ followed value m.0 rest) ∙ sym (put_append value xs m.0 rest) ∙ ap (λ ys. put_before value ys rest) (sym (m.1 ∙ ap (λ ys. ys ++ m.0) was));
     }

@@ -12,6 +12,8 @@ use Rattle.gms_set.specs.Ranges.{is_range, members}
 use Rattle.gq_extended.specs.declared.extended.Ext.{Ext}
 use Rattle.gq_extended.specs.declared.extended.Ext.TheVariants.{Number, PlusInf, MinusInf, Na}
 use Rattle.gms_ast.specs.declared.declaration.Item.{Item}
+use Rattle.gq_number.specs.Number.{Number as Rational, neg_ℚ}
+use Rattle.gms_expressions.specs.Valuations.{number_in}
 use Rattle.gms_expressions.specs.ExpressionTrees.{or_0, token_of, terminal_in, first_in, second_in, inside, is_minus, place_in}
 
 -- what the parts of a repetition mean, in order
@@ -43,19 +45,19 @@ any_true [] = false
 any_true (b ∷ others) = b || any_true others
 
 -- a value with the other sign
-abbrev pub opposed : {N : Type 0} → (N → N) → Ext N → Ext N
-opposed opposite (Number n) = Number (opposite n)
-opposed opposite PlusInf = MinusInf
-opposed opposite MinusInf = PlusInf
-opposed opposite Na = Na
+abbrev pub opposed : Ext Rational → Ext Rational
+opposed (Number n) = Number (neg_ℚ n)
+opposed PlusInf = MinusInf
+opposed MinusInf = PlusInf
+opposed Na = Na
 
 -- a value with the sign that stands before it, where there is one
-abbrev pub signed_value : {N : Type 0} → (N → N) → Tree (Terminal × Token) → Ext N → Ext N
-signed_value opposite (some sign) value = if is_minus (token_of sign).kind then opposed opposite value else value
-signed_value opposite _ value = value
+abbrev pub signed_value : Tree (Terminal × Token) → Ext Rational → Ext Rational
+signed_value (some sign) value = if is_minus (token_of sign).kind then opposed value else value
+signed_value _ value = value
 
--- In a source with these names and labels, where texts of numbers have these values, and numbers these opposites.
-module _ {N : Type 0} (source : List ℕ) (labels : List (List ℕ)) (value : List ℕ → N) (opposite : N → N) where
+-- In a source with these labels.
+module _ (source : List ℕ) (labels : List (List ℕ)) where
   -- the label that a token is
   abbrev pub label_text : Tree (Terminal × Token) → List ℕ
   label_text tree = unquoted (token_text source (token_of tree))
@@ -92,16 +94,16 @@ module _ {N : Type 0} (source : List ℕ) (labels : List (List ℕ)) (value : Li
   has_bad_range tree = any_true (map is_bad_range (ranges_in_part (inside tree)))
 
   -- a value: NA, or a number or an infinity, perhaps with a sign
-  abbrev pub value_of_token : Tree (Terminal × Token) → Ext N
-  value_of_token tree = if is terminal.Infinity (terminal_in tree) then PlusInf else Number (value (token_text source (token_of tree)))
+  abbrev pub value_of_token : Tree (Terminal × Token) → Ext Rational
+  value_of_token tree = if is terminal.Infinity (terminal_in tree) then PlusInf else Number (number_in (token_text source (token_of tree)))
 
-  abbrev pub value_in : Tree (Terminal × Token) → Ext N
+  abbrev pub value_in : Tree (Terminal × Token) → Ext Rational
   value_in (left tree) = Na
-  value_in (right tree) = signed_value opposite (first_in tree) (value_of_token (second_in tree))
+  value_in (right tree) = signed_value (first_in tree) (value_of_token (second_in tree))
   value_in _ = Na
 
   -- the item of data that an element is, with a value or without
-  abbrev pub item_of : Tree (Terminal × Token) → Option (Ext N) → Item N
+  abbrev pub item_of : Tree (Terminal × Token) → Option (Ext Rational) → Item Rational
   item_of element value =
       record {
         at = place_in element;
@@ -111,17 +113,17 @@ module _ {N : Type 0} (source : List ℕ) (labels : List (List ℕ)) (value : Li
       }
 
   -- the item that an entry of a parameter is: an element, perhaps `=`, and a value
-  abbrev pub entry_of : Tree (Terminal × Token) → Item N
+  abbrev pub entry_of : Tree (Terminal × Token) → Item Rational
   entry_of tree = item_of (first_in (inside tree)) (Some (value_in (inside (second_in (second_in (inside tree))))))
 
   -- the items of a set's list
-  abbrev pub elements_in : Tree (Terminal × Token) → List (Item N)
+  abbrev pub elements_in : Tree (Terminal × Token) → List (Item Rational)
   elements_in list = listed_in (λ element. item_of element None) (inside list)
 
   -- the items of a parameter's list
-  abbrev pub entries_in : Tree (Terminal × Token) → List (Item N)
+  abbrev pub entries_in : Tree (Terminal × Token) → List (Item Rational)
   entries_in list = listed_in entry_of (inside list)
 
   -- the item of a scalar: its value, without positions
-  abbrev pub scalar_in : Tree (Terminal × Token) → List (Item N)
+  abbrev pub scalar_in : Tree (Terminal × Token) → List (Item Rational)
   scalar_in tree = record { at = place_in tree; parts = []; value = Some (value_in (inside tree)); bad_range = false } ∷ []

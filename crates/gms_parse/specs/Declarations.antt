@@ -1,7 +1,7 @@
 -- What the derivations of declarations mean: names of a kind, each with its domain and its data; and models with their equations
 -- (GAMS User's Guide, "Sets", "Data Entry", "Variables", "Equations", "Model and Solve Statements").
 use Rattle.std.specs.Prelude.{ℕ, Bool, true, false, if◌then◌else◌, List, [], ◌∷◌, Option, Some, None, codes}
-use Rattle.gq_number.specs.Number.{Number, neg_ℚ}
+use Rattle.gq_number.specs.Number.{Number}
 use Rattle.gms_lex.specs.declared.token.Token.{Token}
 use Rattle.gms_grammar.specs.declared.terminal.Terminal.{Terminal}
 use Rattle.gms_grammar.specs.Grammar.{Tree, pair, left, right, some, node, yield}
@@ -34,11 +34,11 @@ abbrev pub variable_kind : List ℕ → DeclKind
 variable_kind word =
     if is_word word (codes "free") then kind.Free else (if is_word word (codes "positive") then kind.Positive else (if is_word word (codes "negative") then kind.Negative else kind.Discrete))
 
--- In a source with these names and labels, where texts of numbers have these values.
-module _ {N : Type 0} (source : List ℕ) (names labels : List (List ℕ)) (value : List ℕ → N) where
+-- In a source with these names and labels.
+module _ (source : List ℕ) (names labels : List (List ℕ)) where
   -- a name with its place
   abbrev pub named_in : Tree (Terminal × Token) → Named
-  named_in tree = record { at = (token_of tree).at; name = name_in source names labels value tree }
+  named_in tree = record { at = (token_of tree).at; name = name_in source names labels tree }
 
   -- a position of a domain: `*`, or a set
   abbrev pub position_in : Tree (Terminal × Token) → Option Named
@@ -55,7 +55,7 @@ module _ {N : Type 0} (source : List ℕ) (names labels : List (List ℕ)) (valu
   optional_domain tree = optional_in [] domain_in tree
 
   -- a variable or an equation that is declared: its name and its domain
-  abbrev pub plain_in : Tree (Terminal × Token) → Decl N
+  abbrev pub plain_in : Tree (Terminal × Token) → Decl Number
   plain_in item =
       record {
         named = named_in (first_in (inside item));
@@ -83,44 +83,44 @@ module _ {N : Type 0} (source : List ℕ) (names labels : List (List ℕ)) (valu
       }
 
   -- the statement of variables, perhaps with a type before the keyword
-  abbrev pub variable_act : Tree (Terminal × Token) → Act N
+  abbrev pub variable_act : Tree (Terminal × Token) → Act Number
   variable_act statement =
       declares (optional_in kind.Free (λ word. variable_kind (token_text source (token_of word))) (first_in (inside statement))) (items_in plain_in (second_in (second_in (inside statement))))
 
   -- the statement of equations
-  abbrev pub equation_act : Tree (Terminal × Token) → Act N
+  abbrev pub equation_act : Tree (Terminal × Token) → Act Number
   equation_act statement = declares kind.Equation (items_in plain_in (second_in (inside statement)))
 
   -- the statement of models
-  abbrev pub model_act : Tree (Terminal × Token) → Act N
+  abbrev pub model_act : Tree (Terminal × Token) → Act Number
   model_act statement = declares_models (items_in model_in (second_in (inside statement)))
 
 -- The same for data, which are numbers.
-module _ (source : List ℕ) (names labels : List (List ℕ)) (value : List ℕ → Number) where
+module _ (source : List ℕ) (names labels : List (List ℕ)) where
   -- what stands behind the name of a set or a parameter: its domain, and its data between slashes, which mean these items
   abbrev pub data_in : (Tree (Terminal × Token) → List (Item Number)) → Tree (Terminal × Token) → Decl Number
   data_in meaning item =
       record {
-        named = named_in source names labels value (first_in (inside item));
-        domain = optional_domain source names labels value (between (inside item));
+        named = named_in source names labels (first_in (inside item));
+        domain = optional_domain source names labels (between (inside item));
         items = optional_in [] (λ list. meaning (between list)) (second_in (second_in (inside item)));
       }
 
   -- a set that is declared
   abbrev pub set_in : Tree (Terminal × Token) → Decl Number
-  set_in item = data_in (elements_in source labels value neg_ℚ) item
+  set_in item = data_in (elements_in source labels) item
 
   -- a parameter that is declared
   abbrev pub parameter_in : Tree (Terminal × Token) → Decl Number
-  parameter_in item = data_in (entries_in source labels value neg_ℚ) item
+  parameter_in item = data_in (entries_in source labels) item
 
   -- a scalar that is declared: its name, and its value between slashes
   abbrev pub scalar_item_in : Tree (Terminal × Token) → Decl Number
   scalar_item_in item =
       record {
-        named = named_in source names labels value (first_in (inside item));
+        named = named_in source names labels (first_in (inside item));
         domain = [];
-        items = optional_in [] (λ list. scalar_in source labels value neg_ℚ (between list)) (second_in (inside item));
+        items = optional_in [] (λ list. scalar_in source labels (between list)) (second_in (inside item));
       }
 
   -- the statement of sets
@@ -140,7 +140,7 @@ module _ (source : List ℕ) (names labels : List (List ℕ)) (value : List ℕ 
   table_act statement =
       let behind = second_in (inside statement) in
       declares kind.Table (record {
-        named = named_in source names labels value (first_in behind);
-        domain = domain_in source names labels value (between behind);
+        named = named_in source names labels (first_in behind);
+        domain = domain_in source names labels (between behind);
         items = items_given source labels (yield (second_in (second_in behind)));
       } ∷ [])

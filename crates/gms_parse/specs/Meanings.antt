@@ -7,7 +7,7 @@ use Rattle.gms_lexemes.specs.declared.kind.Kind.TheVariants as token_kind
 use Rattle.gms_lex.specs.declared.token.Token.{Token}
 use Rattle.gms_lex.specs.TokenTexts.{token_text, unquoted, IsPlaced}
 use Rattle.gms_set.specs.Ranges.{is_range}
-use Rattle.gq_number.specs.Number.{Number, neg_ℚ}
+use Rattle.gq_number.specs.Number.{Number}
 use Rattle.gq_extended.specs.declared.extended.Ext.{Ext}
 use Rattle.gms_grammar.specs.Grammar.{the, ◌∣◌}
 use Rattle.gms_grammar.specs.GamsGrammar.{Nonterminal, DisplayStatement, OptionStatement, SolveStatement, AbortStatement, LoopStatement, Element, Entry, SetList, ParameterList, SetItem, SetItems, ParameterItem, ParameterItems, ScalarItem, ScalarItems, PlainItem, PlainItems, token}
@@ -59,64 +59,64 @@ module _ (source : List ℕ) (sense : Sense) (tree : Derivation) where
   -- ---- names and words
 
   abbrev pub IsNamed : Named → Type 0
-  IsNamed named = named ≡ named_in source sense.names sense.labels sense.value tree
+  IsNamed named = named ≡ named_in source sense.names sense.labels tree
 
   abbrev pub IsWord : Word → Type 0
-  IsWord word = word ≡ word_in source sense.names sense.labels sense.value tree
+  IsWord word = word ≡ word_in source sense.names sense.labels tree
 
   -- the word behind `using`
   abbrev pub IsMethod : Word → Type 0
-  IsMethod word = word ≡ word_in source sense.names sense.labels sense.value (second_in tree)
+  IsMethod word = word ≡ word_in source sense.names sense.labels (second_in tree)
 
   -- a direction, and what is optimized
   abbrev pub IsObjective : Bool × Named → Type 0
   IsObjective found =
-      (found.0 ≡ is_maximizing (bytes_in source sense.names sense.labels sense.value (first_in tree))) × (found.1 ≡ named_in source sense.names sense.labels sense.value (second_in tree))
+      (found.0 ≡ is_maximizing (bytes_in source sense.names sense.labels (first_in tree))) × (found.1 ≡ named_in source sense.names sense.labels (second_in tree))
 
   abbrev pub IsSuffix : Suffix → Type 0
-  IsSuffix suffix = suffix ≡ suffix_in source sense.names sense.labels sense.value tree
+  IsSuffix suffix = suffix ≡ suffix_in source sense.names sense.labels tree
 
   abbrev pub IsShown : Show → Type 0
-  IsShown show = show ≡ shown_in source sense.names sense.labels sense.value tree
+  IsShown show = show ≡ shown_in source sense.names sense.labels tree
 
   abbrev pub AreShown : List Show → Type 0
-  AreShown shows = shows ≡ shown_list source sense.names sense.labels sense.value tree
+  AreShown shows = shows ≡ shown_list source sense.names sense.labels tree
 
   -- ---- domains and models
 
   abbrev pub IsPosition : Option Named → Type 0
-  IsPosition position = position ≡ position_in source sense.names sense.labels sense.value tree
+  IsPosition position = position ≡ position_in source sense.names sense.labels tree
 
   abbrev pub IsDomain : Vec (Option Named) Global → Type 0
-  IsDomain positions = positions.items ≡ domain_in source sense.names sense.labels sense.value tree
+  IsDomain positions = positions.items ≡ domain_in source sense.names sense.labels tree
 
   abbrev pub IsOptionalDomain : Vec (Option Named) Global → Type 0
-  IsOptionalDomain positions = positions.items ≡ optional_domain source sense.names sense.labels sense.value tree
+  IsOptionalDomain positions = positions.items ≡ optional_domain source sense.names sense.labels tree
 
   abbrev pub AreEquations : Vec Named Global → Type 0
-  AreEquations equations = equations.items ≡ listed_in (named_in source sense.names sense.labels sense.value) tree
+  AreEquations equations = equations.items ≡ listed_in (named_in source sense.names sense.labels) tree
 
   -- whether a model has all equations, and which are named
   abbrev pub IsModelList : Bool × Vec Named Global → Type 0
   IsModelList found =
-      (found.0 ≡ optional_in false (λ list. has_all source sense.names sense.labels sense.value (inside_of (between list))) tree) × (found.1.items ≡ optional_in [] (λ list. equations_in source sense.names sense.labels sense.value (inside_of (between list))) tree)
+      (found.0 ≡ optional_in false (λ list. has_all source sense.names sense.labels (inside_of (between list))) tree) × (found.1.items ≡ optional_in [] (λ list. equations_in source sense.names sense.labels (inside_of (between list))) tree)
 
   abbrev pub IsModel : ModelDecl → Type 0
-  IsModel model = model ≡ model_in source sense.names sense.labels sense.value tree
+  IsModel model = model ≡ model_in source sense.names sense.labels tree
 
   -- ---- elements of data
 
   -- a range that is added to a position that was so before
   abbrev pub IsAdded : Position → Position → Type 0
   IsAdded old new =
-      (new.labels.items ≡ old.labels.items ++ labels_in_range source sense.labels sense.value neg_ℚ tree) × (new.bad_range ≡ (old.bad_range || is_bad_range source sense.labels sense.value neg_ℚ tree))
+      (new.labels.items ≡ old.labels.items ++ labels_in_range source sense.labels tree) × (new.bad_range ≡ (old.bad_range || is_bad_range source sense.labels tree))
 
   abbrev pub IsPart : Position → Type 0
-  IsPart part = (part.labels.items ≡ labels_in_part source sense.labels sense.value neg_ℚ tree) × (part.bad_range ≡ has_bad_range source sense.labels sense.value neg_ℚ tree)
+  IsPart part = (part.labels.items ≡ labels_in_part source sense.labels tree) × (part.bad_range ≡ has_bad_range source sense.labels tree)
 
   abbrev pub IsElement : ElementNode → Type 0
   IsElement element =
-      (element.at ≡ place_in tree) × (element.parts.items ≡ listed_in (labels_in_part source sense.labels sense.value neg_ℚ) (inside_of tree)) × (element.bad_range ≡ any_true (listed_in (has_bad_range source sense.labels sense.value neg_ℚ) (inside_of tree)))
+      (element.at ≡ place_in tree) × (element.parts.items ≡ listed_in (labels_in_part source sense.labels) (inside_of tree)) × (element.bad_range ≡ any_true (listed_in (has_bad_range source sense.labels) (inside_of tree)))
 
 -- a token that is a label
 pub record IsLabelToken (source : List ℕ) (token : Token) : Type 0 where
@@ -146,7 +146,7 @@ pub record IsNotEnteredRange (source : List ℕ) (old : Tables) (first last : To
 
 -- a sign, where there is one
 abbrev pub IsSign : Sense → Derivation → Bool → Type 0
-IsSign sense tree minus = (v : Ext Number) → signed_value neg_ℚ tree v ≡ (if minus then opposed neg_ℚ v else v)
+IsSign sense tree minus = (v : Ext Number) → signed_value tree v ≡ (if minus then opposed v else v)
 
 -- `not`, where it stands
 abbrev pub IsNot : Sense → Derivation → Bool → Type 0
@@ -165,14 +165,14 @@ list_part list.Elements = SetList
 list_part list.Entries = ParameterList
 
 -- what is listed, as it is meant
-abbrev pub listed_meaning : ListOf → List ℕ → List (List ℕ) → (List ℕ → Number) → Derivation → Item Number
-listed_meaning list.Elements source labels value tree = item_of source labels value neg_ℚ tree None
-listed_meaning list.Entries source labels value tree = entry_of source labels value neg_ℚ tree
+abbrev pub listed_meaning : ListOf → List ℕ → List (List ℕ) → Derivation → Item Number
+listed_meaning list.Elements source labels tree = item_of source labels tree None
+listed_meaning list.Entries source labels tree = entry_of source labels tree
 
 -- the items of a list
-abbrev pub list_meaning : ListOf → List ℕ → List (List ℕ) → (List ℕ → Number) → Derivation → List (Item Number)
-list_meaning list.Elements source labels value tree = elements_in source labels value neg_ℚ tree
-list_meaning list.Entries source labels value tree = entries_in source labels value neg_ℚ tree
+abbrev pub list_meaning : ListOf → List ℕ → List (List ℕ) → Derivation → List (Item Number)
+list_meaning list.Elements source labels tree = elements_in source labels tree
+list_meaning list.Entries source labels tree = entries_in source labels tree
 
 -- ---- declarations
 
@@ -200,11 +200,11 @@ items_part form.Scalar = ScalarItems
 items_part form.Plain = PlainItems
 
 -- what is declared, where no table is
-abbrev pub item_meaning : Form → List ℕ → List (List ℕ) → List (List ℕ) → (List ℕ → Number) → Derivation → Decl Number
-item_meaning form.Set source names labels value tree = set_in source names labels value tree
-item_meaning form.Parameter source names labels value tree = parameter_in source names labels value tree
-item_meaning form.Scalar source names labels value tree = scalar_item_in source names labels value tree
-item_meaning form.Plain source names labels value tree = plain_in source names labels value tree
+abbrev pub item_meaning : Form → List ℕ → List (List ℕ) → List (List ℕ) → Derivation → Decl Number
+item_meaning form.Set source names labels tree = set_in source names labels tree
+item_meaning form.Parameter source names labels tree = parameter_in source names labels tree
+item_meaning form.Scalar source names labels tree = scalar_item_in source names labels tree
+item_meaning form.Plain source names labels tree = plain_in source names labels tree
 
 -- the statements that a loop may have besides assignments
 abbrev pub other_statement : GamsPart
@@ -250,63 +250,63 @@ is_plain_target target = is_unsuffixed target.suffix && not (has_lag target.indi
 -- Over the numbers of a field.
 module _ {F : Type 0} (value : F → Number) (source : List ℕ) where
   abbrev pub IsExpression : Sense → Derivation → Expr F → Type 0
-  IsExpression sense tree e = shown_tree value e ≡ expression source sense.names sense.labels sense.value tree
+  IsExpression sense tree e = shown_tree value e ≡ expression source sense.names sense.labels tree
 
   abbrev pub IsOperand : Sense → Derivation → Expr F → Type 0
-  IsOperand sense tree e = shown_tree value e ≡ primary source sense.names sense.labels sense.value tree
+  IsOperand sense tree e = shown_tree value e ≡ primary source sense.names sense.labels tree
 
   abbrev pub IsGuard : Sense → Derivation → Expr F → Type 0
-  IsGuard sense tree e = shown_tree value e ≡ negated_primary source sense.names sense.labels sense.value tree
+  IsGuard sense tree e = shown_tree value e ≡ negated_primary source sense.names sense.labels tree
 
   abbrev pub IsControl : Sense → Derivation → ControlNode F → Type 0
-  IsControl sense tree sets = control_in_numbers value (control_tree sets) ≡ control source sense.names sense.labels sense.value tree
+  IsControl sense tree sets = control_in_numbers value (control_tree sets) ≡ control source sense.names sense.labels tree
 
   abbrev pub IsTarget : Sense → Derivation → TargetNode F → Type 0
-  IsTarget sense tree target = shown_target value target ≡ target_in source sense.names sense.labels sense.value tree
+  IsTarget sense tree target = shown_target value target ≡ target_in source sense.names sense.labels tree
 
   abbrev pub IsCondition : Sense → Derivation → Option (Expr F) → Type 0
-  IsCondition sense tree condition = option_map (shown_tree value) condition ≡ condition_in source sense.names sense.labels sense.value tree
+  IsCondition sense tree condition = option_map (shown_tree value) condition ≡ condition_in source sense.names sense.labels tree
 
   -- the value of an item of data
   abbrev pub IsGiven : Sense → Derivation → Ext F → Type 0
-  IsGiven sense tree v = extended_in value v ≡ value_in source sense.labels sense.value neg_ℚ (inside_of tree)
+  IsGiven sense tree v = extended_in value v ≡ value_in source sense.labels (inside_of tree)
 
   -- the same, without a sign
   abbrev pub IsUnsigned : Sense → Derivation → Ext F → Type 0
-  IsUnsigned sense tree v = extended_in value v ≡ value_of_token source sense.labels sense.value neg_ℚ tree
+  IsUnsigned sense tree v = extended_in value v ≡ value_of_token source sense.labels tree
 
   abbrev pub IsListed : ListOf → Sense → Derivation → Item F → Type 0
-  IsListed list sense tree item = item_in value item ≡ listed_meaning list source sense.labels sense.value tree
+  IsListed list sense tree item = item_in value item ≡ listed_meaning list source sense.labels tree
 
   -- the items of a list, where there is one
   abbrev pub AreListed : ListOf → Sense → Derivation → Vec (Item F) Global → Type 0
-  AreListed list sense tree items = map (item_in value) items.items ≡ optional_in [] (λ tree. list_meaning list source sense.labels sense.value (between tree)) tree
+  AreListed list sense tree items = map (item_in value) items.items ≡ optional_in [] (λ tree. list_meaning list source sense.labels (between tree)) tree
 
   -- the item of a scalar, where it has a value
   abbrev pub IsScalarValue : Sense → Derivation → Vec (Item F) Global → Type 0
-  IsScalarValue sense tree items = map (item_in value) items.items ≡ optional_in [] (λ tree. scalar_in source sense.labels sense.value neg_ℚ (between tree)) tree
+  IsScalarValue sense tree items = map (item_in value) items.items ≡ optional_in [] (λ tree. scalar_in source sense.labels (between tree)) tree
 
   abbrev pub IsDeclared : Form → Sense → Derivation → Decl F → Type 0
-  IsDeclared form sense tree declared = declared_in value declared ≡ item_meaning form source sense.names sense.labels sense.value tree
+  IsDeclared form sense tree declared = declared_in value declared ≡ item_meaning form source sense.names sense.labels tree
 
   abbrev pub AreDeclared : Form → Sense → Derivation → List (Decl F) → Type 0
-  AreDeclared form sense tree declared = map (declared_in value) declared ≡ items_in (item_meaning form source sense.names sense.labels sense.value) tree
+  AreDeclared form sense tree declared = map (declared_in value) declared ≡ items_in (item_meaning form source sense.names sense.labels) tree
 
   -- a keyword and the items behind it, as names of this kind
   abbrev pub IsDeclaration : DeclKind → Form → Sense → Derivation → ActNode F → Type 0
-  IsDeclaration kind form sense tree act = act_view value act ≡ declares kind (items_in (item_meaning form source sense.names sense.labels sense.value) (second_in tree))
+  IsDeclaration kind form sense tree act = act_view value act ≡ declares kind (items_in (item_meaning form source sense.names sense.labels) (second_in tree))
 
   -- a word of options, and what it is set to
   abbrev pub IsSetting : Sense → Derivation → Word × Setting F → Type 0
-  IsSetting sense tree found = (found.0, setting_in value found.1) ≡ setting_of source sense.names sense.labels sense.value tree
+  IsSetting sense tree found = (found.0, setting_in value found.1) ≡ setting_of source sense.names sense.labels tree
 
   -- a statement does what its derivation means
-  abbrev pub IsAct : (List ℕ → List (List ℕ) → List (List ℕ) → (List ℕ → Number) → Derivation → Act Number) → Sense → Derivation → ActNode F → Type 0
-  IsAct meaning sense tree act = act_view value act ≡ meaning source sense.names sense.labels sense.value tree
+  abbrev pub IsAct : (List ℕ → List (List ℕ) → List (List ℕ) → Derivation → Act Number) → Sense → Derivation → ActNode F → Type 0
+  IsAct meaning sense tree act = act_view value act ≡ meaning source sense.names sense.labels tree
 
   -- a right side behind its `=`, and its place
   abbrev pub IsRightSide : Sense → Derivation → Place × Expr F → Type 0
-  IsRightSide sense tree found = (found.0 ≡ place_in (second_in tree)) × (shown_tree value found.1 ≡ expression source sense.names sense.labels sense.value (second_in tree))
+  IsRightSide sense tree found = (found.0 ≡ place_in (second_in tree)) × (shown_tree value found.1 ≡ expression source sense.names sense.labels (second_in tree))
 
   -- how two sides relate, and the right one, with its place
   abbrev pub IsRelated : Sense → Derivation → Side × Place × Expr F → Type 0
@@ -314,34 +314,34 @@ module _ {F : Type 0} (value : F → Number) (source : List ℕ) where
 
   -- the two sides of a definition
   abbrev pub IsRelation : Sense → Derivation → Relation F → Type 0
-  IsRelation sense tree relation = shown_sides value relation ≡ sides_in source sense.names sense.labels sense.value tree
+  IsRelation sense tree relation = shown_sides value relation ≡ sides_in source sense.names sense.labels tree
 
   -- the assignment to a target, under a condition, of a right side behind its `=`
   abbrev pub IsAssigned : TargetNode F → Option (Expr F) → Sense → Derivation → ActNode F → Type 0
   IsAssigned target condition sense tree act =
-      act_view value act ≡ assigns (shown_target value target) (option_map (shown_tree value) condition) (place_in (second_in tree)) (expression source sense.names sense.labels sense.value (second_in tree))
+      act_view value act ≡ assigns (shown_target value target) (option_map (shown_tree value) condition) (place_in (second_in tree)) (expression source sense.names sense.labels (second_in tree))
 
   -- the definition of an equation, under a condition, by two sides
   abbrev pub IsDefined : TargetNode F → Option (Expr F) → Sense → Derivation → ActNode F → Type 0
   IsDefined equation condition sense tree act =
-      act_view value act ≡ defines (record { at = equation.at; name = equation.name }) (shown_indices value equation.indices) (option_map (shown_tree value) condition) (sides_in source sense.names sense.labels sense.value tree)
+      act_view value act ≡ defines (record { at = equation.at; name = equation.name }) (shown_indices value equation.indices) (option_map (shown_tree value) condition) (sides_in source sense.names sense.labels tree)
 
   -- a statement of a loop, at its place
   abbrev pub IsInner : Sense → Derivation → Stmt F → Type 0
-  IsInner sense tree statement = (statement.at ≡ place_in tree) × (act_view value statement.act ≡ inner_act source sense.names sense.labels sense.value tree)
+  IsInner sense tree statement = (statement.at ≡ place_in tree) × (act_view value statement.act ≡ inner_act source sense.names sense.labels tree)
 
   abbrev pub IsBody : Sense → Derivation → Vec (Stmt F) Global → Type 0
-  IsBody sense tree statements = in_order value (map {B = Statements Number → Statements Number} (statement_view value) statements.items) ≡ loop_body source sense.names sense.labels sense.value tree
+  IsBody sense tree statements = in_order value (map {B = Statements Number → Statements Number} (statement_view value) statements.items) ≡ loop_body source sense.names sense.labels tree
 
   -- a statement that begins with a name, where there is one, that was added to these
   abbrev pub IsNamedFirst : Vec (Stmt F) Global → Sense → Derivation → Vec (Stmt F) Global → Type 0
   IsNamedFirst old sense tree new =
-      (added : List (Stmt F)) × (new.items ≡ old.items ++ added) × ((others : Statements Number) → put_before value added others ≡ named_first source sense.names sense.labels sense.value tree others)
+      (added : List (Stmt F)) × (new.items ≡ old.items ++ added) × ((others : Statements Number) → put_before value added others ≡ named_first source sense.names sense.labels tree others)
 
   -- statements that were added to these
   abbrev pub IsSegment : Vec (Stmt F) Global → Sense → Derivation → Vec (Stmt F) Global → Type 0
   IsSegment old sense tree new =
-      (added : List (Stmt F)) × (new.items ≡ old.items ++ added) × (in_order value (map {B = Statements Number → Statements Number} (statement_view value) added) ≡ segment source sense.names sense.labels sense.value tree)
+      (added : List (Stmt F)) × (new.items ≡ old.items ++ added) × (in_order value (map {B = Statements Number → Statements Number} (statement_view value) added) ≡ segment source sense.names sense.labels tree)
 
   abbrev pub AreStatements : Sense → Derivation → Vec (Stmt F) Global → Type 0
-  AreStatements sense tree statements = in_order value (map {B = Statements Number → Statements Number} (statement_view value) statements.items) ≡ statements_of source sense.names sense.labels sense.value tree
+  AreStatements sense tree statements = in_order value (map {B = Statements Number → Statements Number} (statement_view value) statements.items) ≡ statements_of source sense.names sense.labels tree

@@ -3,8 +3,7 @@
 use Rattle.std.specs.Prelude.{◌≡◌, ◌≢◌, ◌⊎◌, ℕ, ◌<◌, ◌≤◌, List, [], ◌∷◌, ◌++◌, length, All}
 use Rattle.gms_lex.specs.declared.token.Token.{Token}
 use Rattle.gms_lex.specs.declared.fault.LexFault.{LexFault}
-use Rattle.gms_lex.specs.Tokens.{IsTokens, most_bytes}
-use Rattle.gms_lex.specs.Tokens.{IsFault as IsLexicalFault}
+use Rattle.gms_lex.specs.Tokens.{IsTokens, most_bytes, IsFault as IsLexicalFault}
 use Rattle.gq_number.specs.Number.{Number}
 use Rattle.gms_grammar.specs.declared.terminal.Terminal.TheVariants as terminal
 use Rattle.gms_grammar.specs.Grammar.{the, Tree, yield, IsTree, Derives}
@@ -12,7 +11,6 @@ use Rattle.gms_grammar.specs.Rules as rules
 use Rattle.gms_grammar.specs.GamsGrammar.{Program, productions}
 use Rattle.gms_ast.specs.declared.program.Program.{Program as ProgramNode}
 use Rattle.gms_expressions.specs.Outcomes.{seen}
-use Rattle.gms_expressions.specs.Valuations.{number_in}
 use Rattle.gms_parse.specs.declared.fault.SourceError.TheVariants.{TooLong}
 use Rattle.gms_parse.specs.declared.fault.SourceFault.{SourceFault}
 use Rattle.gms_parse.specs.declared.fault.SourceFaultOrMemory.{SourceFaultOrMemory}
@@ -66,7 +64,7 @@ module _ (limit : ℕ) (source : List ℕ) where
     pub names_are : names ≡ (walk_behind source start (yield tree) terminal.End).names
     pub labels_are : labels ≡ (walk_behind source start (yield tree) terminal.End).labels
     pub tables : HaveItems labels (yield tree)
-    pub statements_are : statements ≡ statements_of source names labels number_in tree
+    pub statements_are : statements ≡ statements_of source names labels tree
 
   -- The tokens are no program, or a faulty one: this is the first fault. At the front where they cease to begin one it is the next token
   -- that is unexpected; before the end of the source only if the front is no program.

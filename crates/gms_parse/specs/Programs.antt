@@ -9,46 +9,43 @@ use Rattle.gms_ast.specs.StatementTrees.{Act, loops, displays, Statements, no_st
 use Rattle.gms_parse.specs.Declarations.{variable_act, equation_act, model_act, set_act, parameter_act, scalar_act, table_act}
 use Rattle.gms_parse.specs.Statements.{named_act, assignment_act, alias_act, display_act, option_act, solve_act, abort_act}
 
--- In a source with these names and labels, where texts of numbers have these values. What is no tree of its part means nothing that
--- matters.
-module _ {N : Type 0} (source : List ℕ) (names labels : List (List ℕ)) (value : List ℕ → N) where
+-- In a source with these names and labels. What is no tree of its part means nothing that matters.
+module _ (source : List ℕ) (names labels : List (List ℕ)) where
   abbrev mutual
     -- a loop
-    pub loop_act : Tree (Terminal × Token) → Act N
+    pub loop_act : Tree (Terminal × Token) → Act Number
     loop_act (node (pair _ (pair _ (pair tree _)))) = controlled tree
     loop_act _ = displays []
 
     -- its control, and the statements of its body
-    pub controlled : Tree (Terminal × Token) → Act N
-    controlled (pair sets (pair _ body)) = loops (control source names labels value sets) (loop_body body)
+    pub controlled : Tree (Terminal × Token) → Act Number
+    controlled (pair sets (pair _ body)) = loops (control source names labels sets) (loop_body body)
     controlled _ = displays []
 
     -- the statements of a loop's body
-    pub loop_body : Tree (Terminal × Token) → Statements N
+    pub loop_body : Tree (Terminal × Token) → Statements Number
     loop_body (node (pair first others)) = statement (place_in first) (inner_act first) (behind_semicolon others)
     loop_body _ = no_statement
 
-    pub behind_semicolon : Tree (Terminal × Token) → Statements N
+    pub behind_semicolon : Tree (Terminal × Token) → Statements Number
     behind_semicolon (some (pair _ (some tree))) = loop_body tree
     behind_semicolon _ = no_statement
 
     -- a statement in a loop: an assignment, or another
-    pub inner_act : Tree (Terminal × Token) → Act N
-    inner_act (node (left tree)) = assignment_act source names labels value tree
+    pub inner_act : Tree (Terminal × Token) → Act Number
+    inner_act (node (left tree)) = assignment_act source names labels tree
     inner_act (node (right tree)) = display_or_other tree
     inner_act _ = displays []
 
     -- a display, options, a solve, an abort, or a loop
-    pub display_or_other : Tree (Terminal × Token) → Act N
-    display_or_other (left tree) = display_act source names labels value tree
-    display_or_other (right (left tree)) = option_act source names labels value tree
-    display_or_other (right (right (left tree))) = solve_act source names labels value tree
-    display_or_other (right (right (right (left tree)))) = abort_act source names labels value tree
+    pub display_or_other : Tree (Terminal × Token) → Act Number
+    display_or_other (left tree) = display_act source names labels tree
+    display_or_other (right (left tree)) = option_act source names labels tree
+    display_or_other (right (right (left tree))) = solve_act source names labels tree
+    display_or_other (right (right (right (left tree)))) = abort_act source names labels tree
     display_or_other (right (right (right (right tree)))) = loop_act tree
     display_or_other _ = displays []
 
--- The same for statements with data, which are numbers.
-module _ (source : List ℕ) (names labels : List (List ℕ)) (value : List ℕ → Number) where
   -- one of two acts, as the derivation goes
   abbrev pub either : (Tree (Terminal × Token) → Act Number) → (Tree (Terminal × Token) → Act Number) → Tree (Terminal × Token) → Act Number
   either one other (left tree) = one tree
@@ -58,14 +55,14 @@ module _ (source : List ℕ) (names labels : List (List ℕ)) (value : List ℕ 
   -- a statement that begins with a keyword
   abbrev pub keyword_act : Tree (Terminal × Token) → Act Number
   keyword_act (node tree) =
-      either (set_act source names labels value) (
-      either (parameter_act source names labels value) (
-      either (scalar_act source names labels value) (
-      either (table_act source names labels value) (
-      either (variable_act source names labels value) (
-      either (equation_act source names labels value) (
-      either (model_act source names labels value) (
-      either (alias_act source names labels value) (display_or_other source names labels value)))))))) tree
+      either (set_act source names labels) (
+      either (parameter_act source names labels) (
+      either (scalar_act source names labels) (
+      either (table_act source names labels) (
+      either (variable_act source names labels) (
+      either (equation_act source names labels) (
+      either (model_act source names labels) (
+      either (alias_act source names labels) display_or_other))))))) tree
   keyword_act _ = displays []
 
   -- statements that begin with keywords, one after another
@@ -75,7 +72,7 @@ module _ (source : List ℕ) (names labels : List (List ℕ)) (value : List ℕ 
 
   -- a statement that begins with a name, where there is one, before others
   abbrev pub named_first : Tree (Terminal × Token) → Statements Number → Statements Number
-  named_first (some tree) others = statement (place_in tree) (named_act source names labels value tree) others
+  named_first (some tree) others = statement (place_in tree) (named_act source names labels tree) others
   named_first _ others = others
 
   -- what stands between two semicolons

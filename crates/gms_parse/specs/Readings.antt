@@ -20,7 +20,6 @@ use Rattle.gms_grammar.specs.GamsGrammar.{Nonterminal, Program, productions, tok
 use Rattle.gms_grammar.specs.GamsLookAhead.{look_ahead}
 use Rattle.gms_expressions.specs.Words.{terminal_of}
 use Rattle.gms_expressions.specs.Outcomes.{seen}
-use Rattle.gms_expressions.specs.Valuations.{IsValuation}
 use Rattle.gms_parse.specs.declared.fault.SourceError.TheVariants.{Syntax, Table}
 use Rattle.gms_expressions.specs.declared.fault.SyntaxError.TheVariants.{Number as OutOfRange, TooManyLabels}
 use Rattle.gms_table.specs.declared.fault.TableError.TheVariants.{NoHeading}
@@ -61,13 +60,11 @@ Refuses limit source part walk tokens refusal = rules.Refuses source_rule (limit
 pub record Sense : Type 0 where
   pub names : List (List ℕ)
   pub labels : List (List ℕ)
-  pub value : List ℕ → Number
 
 -- the sense is one of a program of which these are the tables so far
 pub record IsSense (tables : Tables) (sense : Sense) : Type 0 where
   pub names : (text : List ℕ) (n : ℕ) → place_of tables.names text ≡ Some n → place_of sense.names text ≡ Some n
   pub labels : (text : List ℕ) (n : ℕ) → place_of tables.labels text ≡ Some n → place_of sense.labels text ≡ Some n
-  pub value : IsValuation sense.value
 
 -- the tokens from a place on
 abbrev pub seen_from : Reader → ℕ → List Seen

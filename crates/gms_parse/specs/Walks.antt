@@ -16,8 +16,7 @@ use Rattle.gms_grammar.specs.Rules.{Rule, left_by}
 pub use Rattle.gms_grammar.specs.Rules.{kind_ahead, kind_of}
 use Rattle.gms_set.specs.Ranges.{is_range, members}
 use Rattle.gms_table.specs.WordLabels.{all_entered}
-use Rattle.gms_expressions.specs.ExpressionTrees.{unquoted as between_marks}
-use Rattle.gms_expressions.specs.Words.{statement_words}
+use Rattle.gms_grammar.specs.Keywords.{statement_words}
 use Rattle.gms_expressions.specs.Outcomes as syntax
 use Rattle.gms_expressions.specs.Outcomes.{open_after}
 use Rattle.gms_parse.specs.Faults.{source_fault}
@@ -111,7 +110,7 @@ module _ (source : List ℕ) where
   -- the labels that a token enters, where one of kind `ahead` stands behind it: the last line of a table enters those of the table
   abbrev pub new_labels : Walk → Seen → Terminal → List (List ℕ)
   new_labels walk token ahead =
-      if is_index walk token.0 then between_marks (token_text source token.1) ∷ [] else (if is terminal.Label token.0 then list_labels (range_start walk.before) ahead token.1 else (if is terminal.TableLine token.0 && not (is terminal.TableLine ahead) then labels_of_lines source (lines_with walk.before token) else []))
+      if is_index walk token.0 then unquoted (token_text source token.1) ∷ [] else (if is terminal.Label token.0 then list_labels (range_start walk.before) ahead token.1 else (if is terminal.TableLine token.0 && not (is terminal.TableLine ahead) then labels_of_lines source (lines_with walk.before token) else []))
 
   -- what a token leaves, where one of kind `ahead` stands behind it
   abbrev pub walk_after : Walk → Seen → Terminal → Walk

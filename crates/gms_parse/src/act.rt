@@ -14,11 +14,11 @@ ghost use Rattle.gms_parse.specs.Meanings.{IsWord, IsMethod, IsObjective, IsSuff
 
 use crate::fault::SourceFaultOrMemory;
 use crate::reader::{Read, Reader, Tables};
-use crate::spelling::{between_marks, is_maximizing};
+use crate::spelling::is_maximizing;
 use gms_ast::{Act, Named, Sequence, Setting, Show, Suffix, Word};
 use gms_expressions::suffix_of;
 use gms_grammar::Terminal;
-use gms_lex::Token;
+use gms_lex::{Token, unquoted};
 use gq_field::ExactField;
 
 /// The kinds of what is shown: texts and names.
@@ -103,7 +103,7 @@ impl<'s> Reader<'s> {
         ensures { (limit : ℕ) → AnswersShown limit (IsShown self.now.source.now) (the Shown) self.now at tables.old tables.new result }
     {
         if let Some((token, next)) = self.take_any_if(&[Terminal::Text, Terminal::LongText], at) {
-            let text = self.copied(token, between_marks(self.text(token)))?;
+            let text = self.copied(token, unquoted(self.text(token)))?;
             return Ok((Show::Text(text), next));
         }
         let (named, next) = self.name(tables, at)?;

@@ -1,6 +1,5 @@
 //! Data between slashes: elements with their labels and ranges, and values.
 ghost use Rattle.std.specs.Prelude.{◌≡◌, ◌<◌, ◌||◌, ℕ, [], ◌∷◌, length, option_map, MatchResult, if◌then◌else◌};
-ghost use Rattle.gq_number.specs.Number.{neg_ℚ};
 ghost use Rattle.gms_ast.specs.StatementView.{extended_in, item_in};
 ghost use Rattle.gms_parse.specs.DataLists.{opposed};
 ghost use Rattle.gms_parse.specs.declared.data.ListOf.TheVariants.{Elements as list_elements, Entries as list_entries};
@@ -19,13 +18,13 @@ use crate::reader::{Read, Reader, Tables};
 use gms_ast::{Item, Sequence};
 use gms_grammar::Terminal;
 use gms_labels::Place;
-use gms_lex::Token;
+use gms_lex::{Token, unquoted};
 use gms_set::{SetFaultOrMemory, range};
 use gq_extended::Ext;
 use gq_field::ExactField;
 
 /// What stands between the slashes of a list.
-#[derive(Clone, Copy, PartialEq, Eq)]
+#[derive(Clone, Copy)]
 pub(crate) enum ListOf {
     /// Elements.
     Elements,
@@ -52,19 +51,9 @@ struct Element {
     bad_range: bool,
 }
 
-/// The text of a label, without quotation marks.
-fn unquoted(text: &[u8]) -> &[u8]
-    ensures { result.now ≡ unquoted text.now }
-{
-    match text.split_first() {
-        Some((b'"' | b'\'', rest)) => &rest[..rest.len().saturating_sub(1)],
-        _ => text,
-    }
-}
-
 /// A value, or the one of the other sign.
 fn signed<F: ExactField>(minus: bool, value: Ext<F>) -> Ext<F>
-    ensures { extended_in F.value result ≡ (if minus then opposed neg_ℚ (extended_in F.value value) else extended_in F.value value) }
+    ensures { extended_in F.value result ≡ (if minus then opposed (extended_in F.value value) else extended_in F.value value) }
 {
     if !minus {
         return value;

@@ -10,7 +10,7 @@ use gms_table::TableError;
 use std::alloc::{AllocError, AllocFailed};
 
 /// A source error, by what finds it.
-#[derive(Clone, Copy, PartialEq, Eq)]
+#[derive(Clone, Copy)]
 pub enum SourceError {
     /// A source of over 1,048,576 bytes.
     TooLong,

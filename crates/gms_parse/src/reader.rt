@@ -16,9 +16,8 @@ ghost use Rattle.gms_parse.specs.Readings.{seen_from, kind_of, unexpected_at, Is
 ghost use Rattle.gms_parse.specs.Meanings.{IsNamed, IsSign};
 
 use crate::fault::{SourceError, SourceFaultOrMemory};
-use crate::spelling::is_minus;
 use gms_ast::Named;
-use gms_expressions::{MOST_OPEN, SyntaxError, bytes_of, terminal_of};
+use gms_expressions::{MOST_OPEN, SyntaxError, bytes_of, is_minus, terminal_of};
 use gms_grammar::Terminal;
 use gms_labels::{LabelFault, Labels, Place};
 use gms_lex::{LexError, Token};
@@ -52,20 +51,6 @@ pub(crate) struct Reader<'s> {
 
 /// The kinds of names: words that are not reserved.
 pub(crate) const NAMES: [Terminal; 2] = [Terminal::Name, Terminal::Suffix];
-
-/// Whether two kinds are the same.
-fn is(kind: Terminal, other: Terminal) -> bool
-    ensures { result ≡ is kind other }
-{
-    kind == other
-}
-
-/// Whether a kind is among some.
-fn is_among(kinds: &[Terminal], kind: Terminal) -> bool
-    ensures { result ≡ is_among kinds.now kind }
-{
-    kinds.iter().any(|other| is(kind, *other))
-}
 
 impl<'s> Reader<'s> {
     /// The bytes of a token.
@@ -126,7 +111,7 @@ impl<'s> Reader<'s> {
             (λ r. IsNext (is kind) self.now at r.0 r.1) }
     {
         let token = self.token(at)?;
-        if is(kind, self.next(at)) {
+        if kind.is(self.next(at)) {
             return Some((token, at + 1));
         }
         None
@@ -140,7 +125,7 @@ impl<'s> Reader<'s> {
             (λ r. IsNext (is_among kinds.now) self.now at r.0 r.1) }
     {
         let token = self.token(at)?;
-        if is_among(kinds, self.next(at)) {
+        if self.next(at).is_among(kinds) {
             return Some((token, at + 1));
         }
         None

@@ -1,6 +1,5 @@
 //! What words and symbols of statements mean.
 ghost use Rattle.std.specs.Prelude.{◌≡◌};
-ghost use Rattle.gms_expressions.specs.ExpressionTrees.{unquoted, is_minus};
 ghost use Rattle.gms_parse.specs.Statements.{is_maximizing, side_of};
 
 use gms_ast::Side;
@@ -23,21 +22,4 @@ pub(crate) fn side_of(kind: Kind) -> Side
         Kind::Symbol(Sym::EqN) => Side::N,
         _ => Side::E,
     }
-}
-
-/// The bytes between the marks of a quoted text.
-pub(crate) fn between_marks(text: &[u8]) -> &[u8]
-    ensures { result.now ≡ unquoted text.now }
-{
-    match text {
-        [_, inner @ .., _] => inner,
-        _ => &[],
-    }
-}
-
-/// Whether a token is `-`.
-pub(crate) fn is_minus(kind: Kind) -> bool
-    ensures { result ≡ is_minus kind }
-{
-    matches!(kind, Kind::Symbol(Sym::Minus))
 }

@@ -1,8 +1,9 @@
 //! How many rows and columns the standard form of the rows of a model has, and that they are not too many.
-ghost use Rattle.std.specs.Prelude.{◌≡◌, ◌≤◌, ◌+◌, ◌-◌, ◌^◌, [], min, sum_by, OnOk};
+ghost use Rattle.std.specs.Prelude.{◌≡◌, ◌≤◌, ◌+◌, [], min, sum_by, OnOk};
 ghost use Rattle.gq_number.specs.Number.{Number};
 ghost use Rattle.lp_core.specs.WellFormed.{rows_of_sense, rows_of_bounds, variables_of_bounds, standard_rows, standard_columns};
 ghost use Rattle.lp_core.specs.declared.program.Lp.{Lp};
+ghost use Rattle.gms_eval.specs.Domain.{most_counted};
 ghost use Rattle.gms_eval.specs.Faults.{nothing};
 ghost use Rattle.gms_eval.specs.Gives.{Gives, Shows};
 ghost use Rattle.gms_rows.specs.ProgramLp.{sized};
@@ -16,7 +17,7 @@ use std::alloc::Global;
 
 /// How many rows the standard form has, or the greatest `usize` where there are more: those of the rows, and one for each column with two bounds.
 fn standard_rows<F: ExactField>(rows: &[FormRow<F>], columns: &[Column<F>]) -> usize
-    ensures { result ≡ min (sum_by (λ row. rows_of_sense row.sense) rows.now + sum_by (λ column. rows_of_bounds column.lower column.upper) columns.now) (2 ^ 64 - 1) }
+    ensures { result ≡ min (sum_by (λ row. rows_of_sense row.sense) rows.now + sum_by (λ column. rows_of_bounds column.lower column.upper) columns.now) most_counted }
 {
     let mut count: usize = 0;
     for row in rows {

@@ -1,8 +1,10 @@
 -- Whether tuples stand in domains, label by label.
-use Rattle.std.proofs.Common.{◌≡◌, ℕ, suc, ◌+◌, ◌<◌, Bool, true, false, ◌&&◌, List, [], ◌∷◌, length, drop, get_or, refl, sym, ap, ap₂, Option, arith}
+use Rattle.std.proofs.Common.{◌≡◌, ◌∙◌, ℕ, zero, suc, ◌+◌, ◌<◌, Bool, true, false, ◌&&◌, ◌||◌, List, [], ◌∷◌, length, drop, get_or, slice_get, refl, sym, ap, ap₂, Option, Some, arith}
 use Rattle.std.specs.Prelude.{nat_lt}
 use Rattle.std.proofs.lemmas.List.Elements.{All-nil}
 use Rattle.std.proofs.lemmas.List.{drop_more}
+use Rattle.gms_tuple.specs.TupleOrder.{same_tuple}
+use Rattle.gms_tuple.specs.TupleSet.{has}
 use Rattle.gms_tuple.proofs.Ordered.{ordered-nil}
 use Rattle.gms_store.specs.State.{Content, undeclared, alias_of, set_of, parameter_of, variable_of, equation_of, model_with, Symbol, State, absent}
 use Rattle.gms_store.specs.Declarations.{is_alias}
@@ -33,6 +35,18 @@ module _ (labels : ℕ) (state : State) where
   pub stands-next : (domain : List (Option ℕ)) (tuple : List ℕ) (k : ℕ) (set : Option ℕ) (label : ℕ) → k < length domain → length domain ≡ length tuple → stands_in labels state (drop k domain) (drop k tuple) ≡ (nat_lt (get_or tuple k label) labels && (stands_at state (get_or domain k set) (get_or tuple k label) && stands_in labels state (drop (k + 1) domain) (drop (k + 1) tuple)))
   stands-next domain tuple k set label within same =
       ap₂ (λ (d : List (Option ℕ)) (t : List ℕ). stands_in labels state d t) (drop_more domain k set within) (drop_more tuple k label (omega (arith, same, within)))
+
+-- what is the same as a member is one
+pub member_at : (xs : List (List ℕ)) (n : ℕ) (x t : List ℕ) → slice_get xs n ≡ Some x → same_tuple x t ≡ true → has xs t ≡ true
+member_at [] n x t at same = absurd cc
+member_at (y ∷ ys) zero x t at same =
+    let e : y ≡ x = cc in
+    ap (λ b. b || has ys t) (ap (λ y. same_tuple y t) e ∙ same)
+member_at (y ∷ ys) (suc n) x t at same = by (same_tuple y t) (member_at ys n x t at same)
+  where
+    by : (b : Bool) → has ys t ≡ true → (b || has ys t) ≡ true
+    by true there = refl
+    by false there = there
 
 -- nothing is given of an alias
 pub alias_well : (limit labels : ℕ) (state : State) (symbol : Symbol) → is_alias symbol.content ≡ true → IsGivenWell limit labels state symbol

@@ -1,11 +1,12 @@
 //! Whether a state is a saved one of what a program declares.
-ghost use Rattle.std.specs.Prelude.{◌≡◌, ◌↔◌, ◌&&◌, nat_le, length, IsTrue, IfOk};
+ghost use Rattle.std.specs.Prelude.{◌≡◌, ◌↔◌, ◌&&◌, true, nat_le, length, IsTrue, IfOk};
 ghost use Rattle.std.specs.List.{list_all};
+ghost use Rattle.gms_tuple.specs.TupleSet.{has};
 ghost use Rattle.gms_store.specs.State.{members_of, symbol_at};
 ghost use Rattle.gms_saved.specs.Validity.{IsGivenWell, are_in_range, are_statuses, is_solver_byte, is_solver_name, stands_at, stands_in};
 
 use gms_store::{Settings, Store};
-use gms_tuple::Tuple;
+use gms_tuple::{Tuple, TupleSet};
 use gq_field::ExactField;
 use std::alloc::{AllocError, Global};
 
@@ -74,7 +75,30 @@ fn stands_at<F: ExactField>(
     };
     let mut tuple = Tuple::new(alloc);
     tuple.push(alloc, label)?;
-    Ok(store.member(set, &tuple))
+    let members = store.members(set);
+    if is_near(members, label, &tuple) {
+        return Ok(true);
+    }
+    Ok(members.contains(&tuple))
+}
+
+/// Whether a tuple is the member that stands as far behind the first as a label comes behind the first one's: so it is where the
+/// tuple is the label alone, and the set has all labels between.
+fn is_near(members: &TupleSet, label: u32, tuple: &Tuple) -> bool
+    ensures { IsTrue result → has members.now tuple.now ≡ true }
+{
+    let count = members.len();
+    if count == 0 {
+        return false;
+    }
+    let Some(first) = members.get(0).as_slice().first() else {
+        return false;
+    };
+    let place = label.saturating_sub(*first) as usize;
+    if place >= count {
+        return false;
+    }
+    members.get(place) == tuple
 }
 
 /// Whether the labels of a tuple are among so many, and each may stand at its position; positions and labels are as many.

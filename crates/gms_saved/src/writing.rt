@@ -29,7 +29,7 @@ fn push_whole(into: &mut Vec<u8>, n: u128) -> Result<(), AllocError>
 {
     let mut digits = Digits::new();
     put_whole(n, &mut digits);
-    push(into, digits.as_str().as_bytes())
+    push(into, digits.as_bytes())
 }
 
 /// Appends a number exactly.
@@ -38,7 +38,7 @@ fn push_exact<F: ExactField>(into: &mut Vec<u8>, x: F) -> Result<(), AllocError>
 {
     let mut digits = Digits::new();
     put_exact(x, &mut digits);
-    push(into, digits.as_str().as_bytes())
+    push(into, digits.as_bytes())
 }
 
 /// Appends the labels of a tuple.
@@ -91,13 +91,14 @@ fn push_attributes<F: ExactField>(into: &mut Vec<u8>, a: Attributes<F>) -> Resul
     push_exact(into, a.marginal)
 }
 
-/// Appends the line of what is given of a name at a tuple.
+/// Appends the line of what is given of a name at a tuple, which is looked for at a place first.
 fn push_entry<F: ExactField>(
     into: &mut Vec<u8>,
     store: &Store<F>,
     name: u32,
     kind: SymbolKind,
     t: &Tuple,
+    place: usize,
 ) -> Result<(), AllocError>
     requires { HasEntries kind (symbol_at store.now name).content }
     ensures { OnOk result (into.new.items ≡ into.old.items ++ entry_line (symbol_at store.now name).content t.now) }
@@ -105,8 +106,8 @@ fn push_entry<F: ExactField>(
     push_tuple(into, t)?;
     match kind {
         SymbolKind::Set => push(into, b".")?,
-        SymbolKind::Parameter => push_value(into, store.value(name, t))?,
-        _ => push_attributes(into, store.attributes(name, t))?,
+        SymbolKind::Parameter => push_value(into, store.value_near(name, t, place))?,
+        _ => push_attributes(into, store.attributes_near(name, t, place))?,
     }
     push(into, b"\n")
 }
@@ -123,7 +124,7 @@ fn push_entries<F: ExactField>(
 {
     let given = store.given(name);
     for place in 0..given.len() {
-        push_entry(into, store, name, kind, given.get(place))?;
+        push_entry(into, store, name, kind, given.get(place), place)?;
     }
     Ok(())
 }

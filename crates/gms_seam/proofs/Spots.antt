@@ -1,10 +1,6 @@
 -- Where in a declaration the next token stands, as far as lists of data go: what the mode is behind tokens of some kinds.
-use Rattle.std.proofs.Common.{◌≡◌, ℕ, ◌==◌, ◌&&◌, ◌||◌, Bool, true, false, nat_lt, if◌then◌else◌, List, [], ◌∷◌, ◌++◌, length, Option, Some, None, refl, sym, ap, ap₂, ◌∙◌, subst, ◌⊎◌, inl, inr}
-use Rattle.std.proofs.lemmas.Slice.Eq.{bytes_eq-Decides}
-use Rattle.std.specs.List.{list_any, list_all}
-use Rattle.std.specs.Str.{bytes_eq, str_eq_ignore_ascii_case, str_to_ascii_lowercase}
+use Rattle.std.proofs.Common.{◌≡◌, ℕ, ◌==◌, Bool, true, false, nat_lt, if◌then◌else◌, List, [], ◌∷◌, length, Option, Some, None, option_map, refl, sym, ap, ◌∙◌, subst, ◌⊎◌, inl, inr}
 use Rattle.gms_lines.specs.ControlWords.{is_among}
-use Rattle.gms_lines.proofs.LineLemmas.{true_or_false}
 use Rattle.gms_lexemes.specs.declared.kind.Sym.{Sym}
 use Rattle.gms_lexemes.specs.declared.kind.Sym.TheVariants.{EqE, Slash as SlashSymbol, RightParen as Close, Comma as CommaSymbol, Semicolon as SemicolonSymbol, Dot as DotSymbol, DotDot as DotDotSymbol, Star as StarSymbol, Power as PowerSymbol}
 use Rattle.gms_lexemes.specs.declared.kind.Kind.{Kind}
@@ -16,11 +12,12 @@ use Rattle.gms_lex.specs.declared.keyword.Keyword.TheVariants as keyword
 use Rattle.gms_lex.specs.declared.mode.Stage.TheVariants.{Fresh, Due, After, Spaced}
 use Rattle.gms_lex.specs.declared.mode.Mode.{Mode}
 use Rattle.gms_lex.specs.declared.mode.Mode.TheVariants as mode
-use Rattle.gms_lex.specs.Keywords.{set_words, parameter_words, scalar_words, model_words, table_words, other_words, keyword_of}
+use Rattle.gms_lex.specs.Keywords.{keyword_as, keyword_of}
 use Rattle.gms_lex.specs.Modes.{list_start, begun_by, behind_element, after_word, after_comma, after_stray_paren, after_token, after_gap, after_line, after_remark}
 use Rattle.gms_grammar.specs.declared.terminal.Terminal.{Terminal}
 use Rattle.gms_grammar.specs.declared.terminal.Terminal.TheVariants as terminal
-use Rattle.gms_expressions.specs.Words.{Words, statement_words, expression_words, other_words as more_words, kind_among, or_name, or_else, terminal_of_word, terminal_of_symbol, terminal_of_text, terminal_of}
+use Rattle.gms_grammar.specs.Keywords.{Words, statement_words, kind_among}
+use Rattle.gms_expressions.specs.Words.{expression_words, other_words, or_name, or_else, terminal_of_word, terminal_of_symbol, terminal_of_text, terminal_of}
 use Rattle.gms_seam.proofs.Flows.{has, within, within_has}
 
 -- ---- places and sorts
@@ -247,91 +244,6 @@ key_sort (Some (keyword.Declarer s)) = declarer
 key_sort (Some keyword.Table) = leaving
 key_sort (Some keyword.Other) = leaving
 
--- whether two sorts are these
-abbrev sort_number : Sort → ℕ
-sort_number declarer = 0
-sort_number leaving = 1
-sort_number word = 2
-sort_number _ = 3
-
--- all words that begin statements
-abbrev all_words : List (List ℕ)
-all_words = set_words ++ (parameter_words ++ (scalar_words ++ (model_words ++ (table_words ++ other_words))))
-
-or_first : (a b : Bool) → (a || b) ≡ false → a ≡ false
-or_first true b h = cc
-or_first false b h = refl
-
-or_second : (a b : Bool) → (a || b) ≡ false → b ≡ false
-or_second true b h = cc
-or_second false b h = h
-
-among_append : (text : List ℕ) (xs ys : List (List ℕ)) → is_among text (xs ++ ys) ≡ (is_among text xs || is_among text ys)
-among_append text [] ys = refl
-among_append text (x ∷ xs) ys = ap (λ v. str_eq_ignore_ascii_case text x || v) (among_append text xs ys) ∙ regroup (str_eq_ignore_ascii_case text x) (is_among text xs) (is_among text ys)
-  where
-    regroup : (a b c : Bool) → (a || (b || c)) ≡ ((a || b) || c)
-    regroup true b c = refl
-    regroup false b c = refl
-
--- the word that a text is, where it is one of some
-found_word : (text : List ℕ) (words : List (List ℕ)) (test : List ℕ → Bool) → is_among text words ≡ true → list_all test words ≡ true → (w : List ℕ) × (str_to_ascii_lowercase text ≡ str_to_ascii_lowercase w) × (test w ≡ true)
-found_word text [] test h all = cc
-found_word text (w ∷ words) test h all = elim (true_or_false (str_eq_ignore_ascii_case text w)) [
-  | inl e ↦ (w, (bytes_eq-Decides (str_to_ascii_lowercase text) (str_to_ascii_lowercase w)).0 e, first (test w) (list_all test words) all)
-  | inr d ↦ found_word text words test (sym (ap (λ v. v || is_among text words) d) ∙ h) (second (test w) (list_all test words) all)
-]
-  where
-    first : (a b : Bool) → (a && b) ≡ true → a ≡ true
-    first true b h = refl
-    first false b h = cc
-
-    second : (a b : Bool) → (a && b) ≡ true → b ≡ true
-    second true b h = h
-    second false b h = cc
-
--- a text that is none of some words is none of others that stand among them
-abbrev stand_among : List (List ℕ) → List (List ℕ) → Bool
-stand_among words all = list_all (λ w. list_any (λ v. bytes_eq w v) all) words
-
-not_among : (text : List ℕ) (words : List (List ℕ)) (w : List ℕ) → is_among text words ≡ false → list_any (λ v. bytes_eq w v) words ≡ true → str_eq_ignore_ascii_case text w ≡ false
-not_among text [] w h k = cc
-not_among text (v ∷ words) w h k = elim (true_or_false (bytes_eq w v)) [
-  | inl e ↦ ap (str_eq_ignore_ascii_case text) ((bytes_eq-Decides w v).0 e) ∙ or_first (str_eq_ignore_ascii_case text v) (is_among text words) h
-  | inr d ↦ not_among text words w (or_second (str_eq_ignore_ascii_case text v) (is_among text words) h) (sym (ap (λ b. b || list_any (λ u. bytes_eq w u) words) d) ∙ k)
-]
-
-none_among : (text : List ℕ) (words all : List (List ℕ)) → is_among text all ≡ false → stand_among words all ≡ true → is_among text words ≡ false
-none_among text [] all h k = refl
-none_among text (w ∷ words) all h k = both (str_eq_ignore_ascii_case text w) (is_among text words) (not_among text all w h (first (list_any (λ v. bytes_eq w v) all) (stand_among words all) k)) (none_among text words all h (second (list_any (λ v. bytes_eq w v) all) (stand_among words all) k))
-  where
-    first : (a b : Bool) → (a && b) ≡ true → a ≡ true
-    first true b h = refl
-    first false b h = cc
-
-    second : (a b : Bool) → (a && b) ≡ true → b ≡ true
-    second true b h = h
-    second false b h = cc
-
-    both : (a b : Bool) → a ≡ false → b ≡ false → (a || b) ≡ false
-    both true b h k = cc
-    both false b h k = k
-
--- no statement begins with a text that is none of these words
-no_statement : (text : List ℕ) (groups : List Words) → is_among text all_words ≡ false → list_all (λ (g : Words). stand_among g.1 all_words) groups ≡ true → kind_among text groups ≡ None
-no_statement text [] h k = refl
-no_statement text (g ∷ groups) h k =
-    ap (λ v. if v then Some g.0 else kind_among text groups) (none_among text g.1 all_words h (first (stand_among g.1 all_words) (list_all (λ (g : Words). stand_among g.1 all_words) groups) k))
-    ∙ no_statement text groups h (second (stand_among g.1 all_words) (list_all (λ (g : Words). stand_among g.1 all_words) groups) k)
-  where
-    first : (a b : Bool) → (a && b) ≡ true → a ≡ true
-    first true b h = refl
-    first false b h = cc
-
-    second : (a b : Bool) → (a && b) ≡ true → b ≡ true
-    second true b h = h
-    second false b h = cc
-
 -- groups of words of one sort
 abbrev AreWords : List Words → Type 0
 AreWords [] = Unit {0}
@@ -349,95 +261,26 @@ else_none : (o : Option Terminal) → or_else o None ≡ o
 else_none None = refl
 else_none (Some t) = refl
 
--- the keyword and the terminal of a text in lower case
-abbrev among_lower : List ℕ → List (List ℕ) → Bool
-among_lower low words = list_any (λ w. bytes_eq low (str_to_ascii_lowercase w)) words
+-- groups of words that begin statements: each is of the sort of its statement
+abbrev AreHeads : List Words → Type 0
+AreHeads [] = Unit {0}
+AreHeads (g ∷ groups) = (sort_of g.0 ≡ key_sort (Some (keyword_as g.0))) × AreHeads groups
 
-key_none : (text : List ℕ) → is_among text all_words ≡ false → keyword_of text ≡ None
-unfolding keyword_of
-key_none text h =
-    let r1 = parts set_words (parameter_words ++ (scalar_words ++ (model_words ++ (table_words ++ other_words)))) h in
-    let r2 = parts parameter_words (scalar_words ++ (model_words ++ (table_words ++ other_words))) r1.1 in
-    let r3 = parts scalar_words (model_words ++ (table_words ++ other_words)) r2.1 in
-    let r4 = parts model_words (table_words ++ other_words) r3.1 in
-    let r5 = parts table_words other_words r4.1 in
-    chain (is_among text set_words) (is_among text parameter_words) (is_among text scalar_words) (is_among text model_words) (is_among text table_words) (is_among text other_words) r1.0 r2.0 r3.0 r4.0 r5.0 r5.1
+head_kind : (text : List ℕ) (groups : List Words) (behind : Option Terminal) → AreHeads groups → sort_of (or_name behind) ≡ word → sort_of (or_name (or_else (kind_among text groups) behind)) ≡ key_sort (option_map keyword_as (kind_among text groups))
+head_kind text [] behind a h = h
+head_kind text (g ∷ groups) behind a h = by (is_among text g.1) (head_kind text groups behind a.1 h)
   where
-    parts : (xs ys : List (List ℕ)) → is_among text (xs ++ ys) ≡ false → (is_among text xs ≡ false) × (is_among text ys ≡ false)
-    parts xs ys h = let e = sym (among_append text xs ys) ∙ h in (or_first (is_among text xs) (is_among text ys) e, or_second (is_among text xs) (is_among text ys) e)
-
-    chain : (a b c d e f : Bool) → a ≡ false → b ≡ false → c ≡ false → d ≡ false → e ≡ false → f ≡ false → (if a then Some (keyword.Declarer shape.Set) else (if b then Some (keyword.Declarer shape.Parameter) else (if c then Some (keyword.Declarer shape.Scalar) else (if d then Some (keyword.Declarer shape.Model) else (if e then Some keyword.Table else (if f then Some keyword.Other else None)))))) ≡ None
-    chain false false false false false false h1 h2 h3 h4 h5 h6 = refl
-    chain true b c d e f h1 h2 h3 h4 h5 h6 = absurd (let z : true ≡ false = h1 in cc)
-    chain a true c d e f h1 h2 h3 h4 h5 h6 = absurd (let z : true ≡ false = h2 in cc)
-    chain a b true d e f h1 h2 h3 h4 h5 h6 = absurd (let z : true ≡ false = h3 in cc)
-    chain a b c true e f h1 h2 h3 h4 h5 h6 = absurd (let z : true ≡ false = h4 in cc)
-    chain a b c d true f h1 h2 h3 h4 h5 h6 = absurd (let z : true ≡ false = h5 in cc)
-    chain a b c d e true h1 h2 h3 h4 h5 h6 = absurd (let z : true ≡ false = h6 in cc)
-
--- what the lower case of a text tells
-abbrev kind_of_lower : List ℕ → List Words → Option Terminal
-kind_of_lower low [] = None
-kind_of_lower low (g ∷ groups) = if among_lower low g.1 then Some g.0 else kind_of_lower low groups
-
-abbrev terminal_of_lower : List ℕ → Terminal
-terminal_of_lower low = or_name (or_else (kind_of_lower low statement_words) (or_else (kind_of_lower low expression_words) (kind_of_lower low more_words)))
-
-abbrev keyword_of_lower : List ℕ → Option Keyword
-keyword_of_lower low =
-    if among_lower low set_words then Some (keyword.Declarer shape.Set) else (if among_lower low parameter_words then Some (keyword.Declarer shape.Parameter) else (if among_lower low scalar_words then Some (keyword.Declarer shape.Scalar) else (if among_lower low model_words then Some (keyword.Declarer shape.Model) else (if among_lower low table_words then Some keyword.Table else (if among_lower low other_words then Some keyword.Other else None)))))
-
-kind_lower : (text : List ℕ) (groups : List Words) → kind_among text groups ≡ kind_of_lower (str_to_ascii_lowercase text) groups
-kind_lower text [] = refl
-kind_lower text (g ∷ groups) = ap (λ o. if is_among text g.1 then Some g.0 else o) (kind_lower text groups)
-
-terminal_lower : (text : List ℕ) → terminal_of_word text ≡ terminal_of_lower (str_to_ascii_lowercase text)
-unfolding terminal_of_word
-terminal_lower text =
-    ap₂ (λ a b. or_name (or_else a b)) (kind_lower text statement_words) (ap₂ or_else (kind_lower text expression_words) (kind_lower text more_words))
-
-keyword_lower : (text : List ℕ) → keyword_of text ≡ keyword_of_lower (str_to_ascii_lowercase text)
-unfolding keyword_of
-keyword_lower text = refl
-
--- of each word that begins a statement both tell the same
-abbrev tells_alike : List ℕ → Bool
-tells_alike w =
-    sort_number (sort_of (terminal_of_lower (str_to_ascii_lowercase w))) == sort_number (key_sort (keyword_of_lower (str_to_ascii_lowercase w))) && nat_lt (sort_number (sort_of (terminal_of_lower (str_to_ascii_lowercase w)))) 3
-
-all_alike : list_all tells_alike all_words ≡ true
-all_alike = refl
-
-number_is : (a b : Sort) → (sort_number a == sort_number b && nat_lt (sort_number a) 3) ≡ true → a ≡ b
-number_is declarer declarer h = refl
-number_is leaving leaving h = refl
-number_is word word h = refl
-number_is declarer _ h = absurd (let e : false ≡ true = h in cc)
-number_is leaving _ h = absurd (let e : false ≡ true = h in cc)
-number_is word _ h = absurd (let e : false ≡ true = h in cc)
-number_is _ declarer h = absurd (let e : false ≡ true = h in cc)
-number_is _ leaving h = absurd (let e : false ≡ true = h in cc)
-number_is _ word h = absurd (let e : false ≡ true = h in cc)
-number_is _ _ h = absurd (let e : false ≡ true = h in cc)
-
--- a word that begins no statement
-no_keyword : (text : List ℕ) → is_among text all_words ≡ false → sort_of (terminal_of_word text) ≡ word
-unfolding terminal_of_word
-no_keyword text f =
-    ap (λ (o : Option Terminal). sort_of (or_name (or_else o (or_else (kind_among text expression_words) (kind_among text more_words))))) (no_statement text statement_words f refl)
-    ∙ word_kind text expression_words (kind_among text more_words) (refl, (refl, (refl, (refl, (refl, (refl, (refl, (refl, (refl, (refl, (refl, tt)))))))))))
-    (ap (λ (o : Option Terminal). sort_of (or_name o)) (sym (else_none (kind_among text more_words))) ∙ word_kind text more_words None (refl, (refl, (refl, (refl, (refl, tt))))) refl)
+    by : (b : Bool) → sort_of (or_name (or_else (kind_among text groups) behind)) ≡ key_sort (option_map keyword_as (kind_among text groups)) → sort_of (or_name (or_else (if b then Some g.0 else kind_among text groups) behind)) ≡ key_sort (option_map keyword_as (if b then Some g.0 else kind_among text groups))
+    by true k = a.0
+    by false k = k
 
 -- a word is of the sort of the statement that it begins
 word_sort : (text : List ℕ) → sort_of (terminal_of_word text) ≡ key_sort (keyword_of text)
-word_sort text = elim (true_or_false (is_among text all_words)) [
-  | inl t ↦
-      let r = found_word text all_words tells_alike t all_alike in
-      ap sort_of (terminal_lower text ∙ ap terminal_of_lower r.1)
-      ∙ number_is (sort_of (terminal_of_lower (str_to_ascii_lowercase r.0))) (key_sort (keyword_of_lower (str_to_ascii_lowercase r.0))) r.2
-      ∙ sym (ap key_sort (keyword_lower text ∙ ap keyword_of_lower r.1))
-  | inr f ↦ no_keyword text f ∙ sym (ap key_sort (key_none text f))
-]
+unfolding terminal_of_word keyword_of
+word_sort text =
+    head_kind text statement_words (or_else (kind_among text expression_words) (kind_among text other_words)) (refl, (refl, (refl, (refl, (refl, (refl, (refl, (refl, (refl, (refl, (refl, (refl, (refl, (refl, tt))))))))))))))
+    (word_kind text expression_words (kind_among text other_words) (refl, (refl, (refl, (refl, (refl, (refl, (refl, (refl, (refl, (refl, (refl, tt)))))))))))
+    (ap (λ (o : Option Terminal). sort_of (or_name o)) (sym (else_none (kind_among text other_words))) ∙ word_kind text other_words None (refl, (refl, (refl, (refl, (refl, tt))))) refl))
 
 begun_leads : (spot : Spot) (current : Mode) (k : Option Keyword) → has same same_is (step spot declarer) item ≡ true → has same same_is (step spot leaving) out ≡ true → Leads spot word current → Leads spot (key_sort k) (begun_by k current)
 begun_leads spot current None h l w = w

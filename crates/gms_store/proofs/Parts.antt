@@ -158,6 +158,10 @@ module _ {X : Type 0} where
       let there : StandsAt behind place t = subst (λ b. StandsAt b place t) read-is at in
       subst IsOrdered (sym (ap keys_of (puts t there) ∙ keys-replaced behind place t o there.1 there.0)) ordered
 
+  -- the tuple that is read at a place stands there
+  pub stands_read : (behind : List (List ℕ × Option X)) (place : ℕ) (t : List ℕ) (e : List ℕ × Option X) → place < length behind → e ≡ get_or behind place e → e.0 ≡ t → StandsAt behind place t
+  stands_read behind place t e within is same = (within, λ d. ap (λ (e : List ℕ × Option X). e.0) (get_or_default behind place d e within ∙ sym is) ∙ same)
+
   -- what is found of a tuple that stands at a place
   find-at : (behind : List (List ℕ × Option X)) (place : ℕ) (t : List ℕ) (d : List ℕ × Option X) → IsOrdered (keys_of behind) → place < length behind → ((d : List ℕ × Option X) → (get_or behind place d).0 ≡ t) → finite.find tuple_cmp t behind ≡ Some (get_or behind place d).1
   find-at [] place t d ordered within at = absurd (omega (arith, within))

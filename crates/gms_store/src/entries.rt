@@ -58,6 +58,13 @@ impl<X: Copy> Entries<X> {
         self.values.get(t)
     }
 
+    /// The value at a tuple, where there is one: found sooner where the tuple has this place among those at which there is a value.
+    pub fn get_near(&self, t: &Tuple, place: usize) -> Option<X>
+        ensures { result ≡ finite.get self.now t.now }
+    {
+        self.values.get_near(t, place)
+    }
+
     /// The tuples at which there is a value.
     pub fn given(&self) -> &TupleSet
         ensures value { result.now ≡ finite.keys self.now }

@@ -210,6 +210,14 @@ impl<F: ExactField> Store<F> {
         self.symbol(name).value(t)
     }
 
+    /// The value of a parameter at a tuple: 0 where none is given. It is found sooner where the tuple has this place among those
+    /// that are given.
+    pub fn value_near(&self, name: u32, t: &Tuple, place: usize) -> Ext<F>
+        ensures { extended F.value result ≡ value_of self.now name t.now }
+    {
+        self.symbol(name).value_near(t, place)
+    }
+
     /// Puts the value of a parameter at a tuple.
     pub fn put(&mut self, alloc: Global, name: u32, t: &Tuple, v: Ext<F>) -> Result<(), AllocError>
         ensures ok { OnOk result (self.new ≡ after_value self.old name t.now (extended F.value v)) }
@@ -228,6 +236,14 @@ impl<F: ExactField> Store<F> {
         ensures { attributes_shown F.value result ≡ attributes_of self.now name t.now }
     {
         self.symbol(name).attributes(t)
+    }
+
+    /// The bounds, the level and the marginal of an element: those of its type where nothing is given. They are found sooner where
+    /// the element has this place among those that are given.
+    pub fn attributes_near(&self, name: u32, t: &Tuple, place: usize) -> Attributes<F>
+        ensures { attributes_shown F.value result ≡ attributes_of self.now name t.now }
+    {
+        self.symbol(name).attributes_near(t, place)
     }
 
     /// The lower bound of an element, `None` where there is no finite one.

@@ -274,6 +274,17 @@ impl<F: ExactField> Symbol<F> {
         }
     }
 
+    /// The same, found sooner where the tuple has this place among those that are given.
+    pub fn value_near(&self, t: &Tuple, place: usize) -> Ext<F>
+        ensures { extended F.value result ≡ value_in self.now.content t.now }
+    {
+        let zero = Ext::Number(F::zero());
+        match &self.content {
+            Content::Parameter(entries) => entries.get_near(t, place).unwrap_or(zero),
+            _ => zero,
+        }
+    }
+
     /// The attributes of a variable or an equation at a tuple: those of its type where none are given.
     pub fn attributes(&self, t: &Tuple) -> Attributes<F>
         ensures { attributes_shown F.value result ≡ attributes_in self.now.content t.now }
@@ -283,6 +294,21 @@ impl<F: ExactField> Symbol<F> {
                 entries.get(t).unwrap_or(Attributes::of_type(*kind))
             }
             Content::Equation(entries) => entries.get(t).unwrap_or(Attributes::unbounded()),
+            _ => Attributes::unbounded(),
+        }
+    }
+
+    /// The same, found sooner where the tuple has this place among those that are given.
+    pub fn attributes_near(&self, t: &Tuple, place: usize) -> Attributes<F>
+        ensures { attributes_shown F.value result ≡ attributes_in self.now.content t.now }
+    {
+        match &self.content {
+            Content::Variable(kind, entries) => entries
+                .get_near(t, place)
+                .unwrap_or(Attributes::of_type(*kind)),
+            Content::Equation(entries) => entries
+                .get_near(t, place)
+                .unwrap_or(Attributes::unbounded()),
             _ => Attributes::unbounded(),
         }
     }

@@ -62,6 +62,16 @@ impl<X: Copy> Values<X> {
         }
     }
 
+    /// The value at a tuple, where there is one: found at once where the tuple stands at this place of those behind the tree.
+    pub fn get_near(&self, t: &Tuple, place: usize) -> Option<X>
+        ensures { result ≡ finite.get self.now t.now }
+    {
+        if stands_at(&self.behind, place, t) {
+            return self.behind[place].1;
+        }
+        self.get(t)
+    }
+
     /// Puts a value at a tuple. After want of memory the values are as they were.
     pub fn insert(&mut self, alloc: Global, t: &Tuple, value: X) -> Result<(), AllocError>
         ensures ok { OnOk result (self.new ≡ finite.insert self.old t.now value) }
@@ -103,6 +113,16 @@ impl<X: Copy> Values<X> {
                 self.tree.remove(t);
             }
         }
+    }
+}
+
+/// Whether a tuple stands at a place.
+fn stands_at<X>(behind: &[(Tuple, Option<X>)], place: usize, t: &Tuple) -> bool
+    ensures { IsTrue result → StandsAt behind.now place t.now }
+{
+    match behind.get(place) {
+        Some(entry) => entry.0 == *t,
+        None => false,
     }
 }
 

@@ -7,7 +7,7 @@ use gms_labels::Place;
 use std::alloc::{AllocError, AllocFailed};
 
 /// An error of a table.
-#[derive(Clone, Copy, PartialEq, Eq)]
+#[derive(Clone, Copy)]
 pub enum TableError {
     /// A number that stands under no heading.
     NoColumn,

@@ -4,6 +4,7 @@ use gms_tuple::{Tuple, TupleSet};
 use gq_field::{ExactField, Tiny};
 use lp_form::{Form, FormFault, Key};
 use std::alloc::Global;
+use std::fmt::Write;
 use std::process::Abort;
 
 /// The tuple of these labels.
@@ -26,15 +27,12 @@ fn set(rt: &impl Abort, alloc: Global, tuples: &[&[u32]]) -> TupleSet {
     set
 }
 
-/// The members of a set, as `[1][1, 2]`.
-fn members(rt: &impl Abort, alloc: Global, set: &TupleSet) -> String {
-    let mut text = String::new(alloc);
+/// Puts the members of a set, as `[1][1, 2]`.
+fn put_members(rt: &impl Abort, set: &TupleSet, text: &mut String) {
     for n in 0..set.len() {
         let labels = set.get(n).as_slice();
-        let member = format!(in alloc; "{labels:?}").expect(rt, "memory");
-        text.push_str(member.as_str()).expect(rt, "memory");
+        write!(text, "{labels:?}").expect(rt, "memory");
     }
-    text
 }
 
 /// The tuples of a set.
@@ -54,23 +52,39 @@ const SETS: [(Tuples<'static>, char, Tuples<'static>, &str); 6] = [
     (&[], '*', FIRST, ""),
 ];
 
-/// The members of what an operation makes of two sets.
-fn combined(rt: &impl Abort, alloc: Global, first: Tuples, sign: char, second: Tuples) -> String {
+/// What an operation makes of two sets.
+fn combined(
+    rt: &impl Abort,
+    alloc: Global,
+    first: &TupleSet,
+    sign: char,
+    second: &TupleSet,
+) -> TupleSet {
+    let made = match sign {
+        '+' => first.union(alloc, second),
+        '-' => first.difference(alloc, second),
+        _ => first.intersection(alloc, second),
+    };
+    made.expect(rt, "memory")
+}
+
+/// The members of what an operation makes of sets of these tuples.
+fn members(rt: &impl Abort, alloc: Global, first: Tuples, sign: char, second: Tuples) -> String {
     let first = set(rt, alloc, first);
     let second = set(rt, alloc, second);
-    let made = match sign {
-        '+' => first.union(alloc, &second),
-        '-' => first.difference(alloc, &second),
-        _ => first.intersection(alloc, &second),
-    };
-    members(rt, alloc, &made.expect(rt, "memory"))
+    let made = combined(rt, alloc, &first, sign, &second);
+    let mut text = String::new(alloc);
+    put_members(rt, &made, &mut text);
+    text
 }
 
 #[test]
 fn operations_on_sets(rt: HostRuntime) {
     for (first, sign, second, due) in &SETS {
-        let made = combined(&rt, rt.alloc(), first, *sign, second);
-        assert_eq!(rt; made.as_str(), *due);
+        assert!(rt;
+            members(&rt, rt.alloc(), first, *sign, second).as_str() == *due,
+            "{due}"
+        );
     }
 }
 
@@ -82,29 +96,32 @@ fn whole(rt: &impl Abort, number: i128) -> Tiny {
     Tiny::from_parts(number, 1).expect(rt, "a number of one byte")
 }
 
+/// The form of a number at the key of one label.
+fn term(rt: &impl Abort, alloc: Global, label: u32, number: i128) -> Form<Tiny> {
+    let tuple = tuple(rt, alloc, &[label]);
+    let column = Form::column(alloc, Key { symbol: 7, tuple }).expect(rt, "memory");
+    column.scale(alloc, whole(rt, number)).expect(rt, "fits")
+}
+
 /// The form of these numbers, at keys of one label.
 fn form(rt: &impl Abort, alloc: Global, numbers: Numbers) -> Form<Tiny> {
     let (constant, entries) = numbers;
     let mut form = Form::constant(alloc, whole(rt, constant));
     for (label, number) in entries {
-        let tuple = tuple(rt, alloc, &[*label]);
-        let column = Form::column(alloc, Key { symbol: 7, tuple }).expect(rt, "memory");
-        let term = column.scale(alloc, whole(rt, *number)).expect(rt, "fits");
+        let term = term(rt, alloc, *label, *number);
         form.add_assign(alloc, &term).expect(rt, "fits");
     }
     form
 }
 
-/// The numbers of a form, as `5 7[1]=2`.
-fn numbers(rt: &impl Abort, alloc: Global, form: &Form<Tiny>) -> String {
+/// Puts the numbers of a form, as `5 7[1]=2`.
+fn put_numbers(rt: &impl Abort, form: &Form<Tiny>, text: &mut String) {
     let (constant, _) = form.offset().parts();
-    let mut text = format!(in alloc; "{constant}").expect(rt, "memory");
+    write!(text, "{constant}").expect(rt, "memory");
     for (key, number) in form.keys().iter().zip(form.numbers()) {
         let (number, _) = number.parts();
-        let entry = format!(in alloc; " {key:?}={number}").expect(rt, "memory");
-        text.push_str(entry.as_str()).expect(rt, "memory");
+        write!(text, " {key:?}={number}").expect(rt, "memory");
     }
-    text
 }
 
 /// 5 + 2 x(1) + 3 x(4)
@@ -126,25 +143,44 @@ const FORMS: [(Numbers<'static>, char, Numbers<'static>, &str); 6] = [
     (LARGE, '+', (-27, &[(2, 27)]), "73 7[1]=1 7[2]=127 7[3]=100"),
 ];
 
+/// What an operation makes of two forms.
+fn summed(
+    alloc: Global,
+    first: &Form<Tiny>,
+    sign: char,
+    second: &Form<Tiny>,
+) -> Result<Form<Tiny>, FormFault> {
+    match sign {
+        '+' => first.add(alloc, second),
+        _ => first.sub(alloc, second),
+    }
+}
+
+/// Puts the numbers of a form, or a fault.
+fn put_sum(rt: &impl Abort, made: &Result<Form<Tiny>, FormFault>, text: &mut String) {
+    match made {
+        Ok(form) => put_numbers(rt, form, text),
+        Err(fault) => write!(text, "{fault:?}").expect(rt, "memory"),
+    }
+}
+
 /// The numbers of what an operation makes of two forms, or its fault.
-fn summed(rt: &impl Abort, alloc: Global, first: Numbers, sign: char, second: Numbers) -> String {
+fn sum_of(rt: &impl Abort, alloc: Global, first: Numbers, sign: char, second: Numbers) -> String {
     let first = form(rt, alloc, first);
     let second = form(rt, alloc, second);
-    let made = match sign {
-        '+' => first.add(alloc, &second),
-        _ => first.sub(alloc, &second),
-    };
-    match &made {
-        Ok(form) => numbers(rt, alloc, form),
-        Err(fault) => format!(in alloc; "{fault:?}").expect(rt, "memory"),
-    }
+    let made = summed(alloc, &first, sign, &second);
+    let mut text = String::new(alloc);
+    put_sum(rt, &made, &mut text);
+    text
 }
 
 #[test]
 fn sums_and_differences_of_forms(rt: HostRuntime) {
     for (first, sign, second, due) in &FORMS {
-        let made = summed(&rt, rt.alloc(), *first, *sign, *second);
-        assert_eq!(rt; made.as_str(), *due);
+        assert!(rt;
+            sum_of(&rt, rt.alloc(), *first, *sign, *second).as_str() == *due,
+            "{due}"
+        );
     }
 }
 
@@ -155,10 +191,10 @@ fn bindings_of_more_and_more_sets(rt: HostRuntime) {
     for (set, label) in [(4, 1), (0, 2), (4, 3)] {
         let outer = binding.len();
         let inner = binding.extended(alloc, set, label).expect(&rt, "memory");
-        assert_eq!(rt; binding.len(), outer);
+        assert!(rt; binding.len() == outer);
         binding = inner;
     }
-    assert_eq!(rt; binding.pairs(), [(4, 1), (0, 2), (4, 3)].as_slice());
     // The first pair of a set counts.
-    assert_eq!(rt; binding.label(4), Some(1));
+    let pairs = [(4, 1), (0, 2), (4, 3)];
+    assert!(rt; binding.pairs() == pairs.as_slice() && binding.label(4) == Some(1));
 }

@@ -1,18 +1,18 @@
 //! A run over a host in memory and lent solvers, and what it leaves.
 use crate::greatest::GreatestFirst;
 use gms_host::MemHost;
-use gms_run::run;
+use gms_run::{Ended, run};
 use gq_field::ExactField;
 use gq_frac::Frac;
 use lp_bland::Bland;
-use lp_core::{Answer, End};
+use lp_core::{Answer, End, Pivot};
 use lp_dantzig::Dantzig;
 use lp_slot::LpSolver;
 use std::alloc::Global;
+use std::fmt::Write;
 use std::process::Abort;
 
 /// What a run leaves.
-#[derive(Drop)]
 pub(crate) struct Left {
     /// Its status.
     pub(crate) status: u8,
@@ -30,6 +30,38 @@ pub(crate) struct Left {
     pub(crate) told: String,
 }
 
+// Written out, so that it is proved here alone, and not at each exit that lets one go.
+impl Drop for Left {
+    fn drop(self) {
+        let Self {
+            status: _,
+            output: _,
+            said: _,
+            calls: _,
+            asked: _,
+            kept: _,
+            told: _,
+        } = self;
+    }
+}
+
+/// Files, each of its name and text.
+fn files_of(rt: &impl Abort, alloc: Global, named: &[(&str, &str)]) -> Vec<(String, Vec<u8>)> {
+    let mut files = Vec::new(alloc);
+    for (name, text) in named {
+        let file = file_of(rt, alloc, name, text);
+        files.push(file).expect(rt, "memory");
+    }
+    files
+}
+
+/// A file of this name and text.
+fn file_of(rt: &impl Abort, alloc: Global, name: &str, text: &str) -> (String, Vec<u8>) {
+    let name = String::from_str(alloc, name).expect(rt, "memory");
+    let bytes = Vec::from_slice(alloc, text.as_bytes()).expect(rt, "memory");
+    (name, bytes)
+}
+
 /// A host with these files, whose calls of these numbers fail, and of which a call moves at most so many bytes; 0 is no bound.
 pub(crate) fn host_of(
     rt: &impl Abort,
@@ -38,31 +70,30 @@ pub(crate) fn host_of(
     fail: &[u64],
     most: u32,
 ) -> MemHost {
-    let mut files = Vec::new(alloc);
-    for (name, text) in named {
-        let name = String::from_str(alloc, name).expect(rt, "memory");
-        let bytes = Vec::from_slice(alloc, text.as_bytes()).expect(rt, "memory");
-        files.push((name, bytes)).expect(rt, "memory");
-    }
     let fail = Vec::from_slice(alloc, fail).expect(rt, "memory");
+    let files = files_of(rt, alloc, named);
     if most == 0 {
-        MemHost::new(alloc, files, fail)
-    } else {
-        MemHost::in_pieces(alloc, files, fail, most)
+        return MemHost::new(alloc, files, fail);
     }
+    MemHost::in_pieces(alloc, files, fail, most)
 }
 
-/// The solvers of these names, `bland`, `dantzig` and `greatest`.
+/// The solver of a name, `bland`, `dantzig` or else `greatest`.
+fn solver(rt: &impl Abort, alloc: Global, name: &str) -> Box<dyn LpSolver> {
+    if name == "bland" {
+        return Box::new(alloc, Bland::new(alloc)).expect(rt, "memory");
+    }
+    if name == "dantzig" {
+        return Box::new(alloc, Dantzig::new(alloc)).expect(rt, "memory");
+    }
+    Box::new(alloc, GreatestFirst::new(alloc)).expect(rt, "memory")
+}
+
+/// The solvers of these names.
 fn lent(rt: &impl Abort, alloc: Global, names: &[&str]) -> Vec<Box<dyn LpSolver>> {
     let mut solvers: Vec<Box<dyn LpSolver>> = Vec::new(alloc);
     for name in names {
-        let solver: Box<dyn LpSolver> = if *name == "bland" {
-            Box::new(alloc, Bland::new(alloc)).expect(rt, "memory")
-        } else if *name == "dantzig" {
-            Box::new(alloc, Dantzig::new(alloc)).expect(rt, "memory")
-        } else {
-            Box::new(alloc, GreatestFirst::new(alloc)).expect(rt, "memory")
-        };
+        let solver = solver(rt, alloc, name);
         solvers.push(solver).expect(rt, "memory");
     }
     solvers
@@ -78,32 +109,63 @@ fn words_of(rt: &impl Abort, alloc: Global, words: &[&str]) -> Vec<String> {
     list
 }
 
+/// Puts a path of a solver: ` | 3>5` for one of one pivot.
+fn put_path(rt: &impl Abort, path: &[Pivot], text: &mut String) {
+    text.push_str(" |").expect(rt, "memory");
+    for pivot in path {
+        write!(text, " {}>{}", pivot.enter, pivot.leave).expect(rt, "memory");
+    }
+}
+
 /// Puts the name of a solver and its paths, a line: `bland | 3>5` for one path of one pivot.
-fn tell(rt: &impl Abort, alloc: Global, solver: &Box<dyn LpSolver>, text: &mut String) {
+fn put_solver(rt: &impl Abort, solver: &Box<dyn LpSolver>, text: &mut String) {
     text.push_str(solver.name()).expect(rt, "memory");
     for path in solver.paths() {
-        text.push_str(" |").expect(rt, "memory");
-        for pivot in path.as_slice() {
-            let step = format!(in alloc; " {}>{}", pivot.enter, pivot.leave).expect(rt, "memory");
-            text.push_str(step.as_str()).expect(rt, "memory");
-        }
+        put_path(rt, path.as_slice(), text);
     }
     text.push('\n').expect(rt, "memory");
 }
 
-/// Puts the ray of an answer, a line: `1/1 0/1`. Nothing is put of other answers.
-fn tell_ray(rt: &impl Abort, alloc: Global, answer: &Answer<Frac>, text: &mut String) {
-    if let End::Unbounded { ray, .. } = &answer.end {
-        for number in ray.as_slice() {
-            let (top, below) = number.parts();
-            let part = format!(in alloc; "{top}/{below} ").expect(rt, "memory");
-            text.push_str(part.as_str()).expect(rt, "memory");
+/// Puts numbers, a line: `1/1 0/1 `.
+fn put_numbers(rt: &impl Abort, numbers: &[Frac], text: &mut String) {
+    for number in numbers {
+        let (top, below) = number.parts();
+        write!(text, "{top}/{below} ").expect(rt, "memory");
+    }
+    text.push('\n').expect(rt, "memory");
+}
+
+/// Puts what solvers tell, a line each, and then the rays of answers.
+fn put_told(
+    rt: &impl Abort,
+    solvers: &[Box<dyn LpSolver>],
+    answers: &[Answer<Frac>],
+    text: &mut String,
+) {
+    for solver in solvers {
+        put_solver(rt, solver, text);
+    }
+    for answer in answers {
+        if let End::Unbounded { ray, .. } = &answer.end {
+            put_numbers(rt, ray.as_slice(), text);
         }
-        text.push('\n').expect(rt, "memory");
     }
 }
 
-/// Runs these words over a host and solvers, and tells the status and what the solvers tell.
+/// Runs these words over a host and solvers.
+fn ended(
+    rt: &impl Abort,
+    alloc: Global,
+    words: &[&str],
+    host: &mut MemHost,
+    solvers: &mut Vec<Box<dyn LpSolver>>,
+) -> Ended {
+    assert!(rt; solvers.len() <= 2, "at most two solvers");
+    let words = words_of(rt, alloc, words);
+    run(alloc, words.as_slice(), host, solvers).expect(rt, "memory")
+}
+
+/// Runs these words over a host and the solvers of these names, and tells the status and what the solvers tell.
 fn ran(
     rt: &impl Abort,
     alloc: Global,
@@ -112,44 +174,49 @@ fn ran(
     names: &[&str],
 ) -> (u8, String) {
     let mut solvers = lent(rt, alloc, names);
-    assert!(rt; solvers.len() <= 2, "at most two solvers");
-    let words = words_of(rt, alloc, words);
-    let ended = run(alloc, words.as_slice(), host, &mut solvers).expect(rt, "memory");
+    let ended = ended(rt, alloc, words, host, &mut solvers);
     let mut text = String::new(alloc);
-    for solver in &solvers {
-        tell(rt, alloc, solver, &mut text);
-    }
-    for answer in &ended.answers {
-        tell_ray(rt, alloc, answer, &mut text);
-    }
+    put_told(rt, solvers.as_slice(), ended.answers.as_slice(), &mut text);
     (ended.status.code(), text)
 }
 
-/// The text of these bytes.
-fn text_of(rt: &impl Abort, alloc: Global, bytes: &[u8]) -> String {
-    let text = str::from_utf8(bytes).expect(rt, "a text");
-    String::from_str(alloc, text).expect(rt, "memory")
+/// Puts the text of these bytes.
+fn put_text(rt: &impl Abort, bytes: &[u8], text: &mut String) {
+    let bytes = str::from_utf8(bytes).expect(rt, "a text");
+    text.push_str(bytes).expect(rt, "memory");
 }
 
-/// The outputs that a host keeps, each by its name and how many bytes it has, a line: `a.lst 135`.
-fn kept_by(rt: &impl Abort, alloc: Global, host: &MemHost) -> String {
-    let mut text = String::new(alloc);
+/// Puts the outputs that a host keeps, each by its name and how many bytes it has, a line: `a.lst 135`.
+fn put_kept(rt: &impl Abort, host: &MemHost, text: &mut String) {
     for (name, bytes) in host.closed() {
         let count = bytes.len();
-        let line = format!(in alloc; "{name} {count}\n").expect(rt, "memory");
-        text.push_str(line.as_str()).expect(rt, "memory");
+        writeln!(text, "{name} {count}").expect(rt, "memory");
     }
-    text
 }
 
-/// The names that a host was asked for, each with a blank behind it: `a.gms a.lst `.
-fn asked_of(rt: &impl Abort, alloc: Global, host: &MemHost) -> String {
-    let mut text = String::new(alloc);
+/// Puts the names that a host was asked for, each with a blank behind it: `a.gms a.lst `.
+fn put_asked(rt: &impl Abort, host: &MemHost, text: &mut String) {
     for name in host.asked() {
-        text.push_str(name.as_str()).expect(rt, "memory");
-        text.push(' ').expect(rt, "memory");
+        write!(text, "{name} ").expect(rt, "memory");
     }
-    text
+}
+
+/// What a run with this status left, whose solvers tell this.
+fn left_by(rt: &impl Abort, alloc: Global, host: &MemHost, status: u8, told: String) -> Left {
+    let mut left = Left {
+        status,
+        output: String::new(alloc),
+        said: String::new(alloc),
+        calls: host.calls(),
+        asked: String::new(alloc),
+        kept: String::new(alloc),
+        told,
+    };
+    put_text(rt, host.output(), &mut left.output);
+    put_text(rt, host.said(), &mut left.said);
+    put_asked(rt, host, &mut left.asked);
+    put_kept(rt, host, &mut left.kept);
+    left
 }
 
 /// Runs these words over a host with these files, and over the solvers of these names.
@@ -162,15 +229,7 @@ pub(crate) fn run_files(
 ) -> Left {
     let mut host = host_of(rt, alloc, files, fail, most);
     let (status, told) = ran(rt, alloc, words, &mut host, names);
-    Left {
-        status,
-        output: text_of(rt, alloc, host.output()),
-        said: text_of(rt, alloc, host.said()),
-        calls: host.calls(),
-        asked: asked_of(rt, alloc, &host),
-        kept: kept_by(rt, alloc, &host),
-        told,
-    }
+    left_by(rt, alloc, &host, status, told)
 }
 
 /// Runs these words over a host with the source in `a.gms`, and over the solvers of these names.

@@ -137,37 +137,46 @@ fn left_of(rt: &impl Abort, alloc: Global, due: &Due, most: u32, fail: u64) -> L
     run_files(rt, alloc, host, due.words, &["bland", "dantzig"])
 }
 
-/// Compares a run, one call of which fails, with what is due.
-fn check(rt: &impl Abort, alloc: Global, due: &Due, row: &Row) {
-    let (fail, status, asked, kept, said, length) = *row;
-    let left = left_of(rt, alloc, due, 0, fail);
-    assert_eq!(rt; left.status, status, "{fail}");
-    assert_eq!(rt; left.asked.as_str(), asked, "{fail}");
-    assert_eq!(rt; left.kept.as_str(), kept, "{fail}");
-    assert_eq!(rt; left.said.as_str(), said, "{fail}");
-    assert_eq!(rt; left.output.len(), length, "{fail}");
-    check_fronts(rt, due, &left, fail);
+/// Whether a run left what is due by a row, and fronts of what is due of any.
+fn is_row(left: &Left, due: &Due, row: &Row) -> bool {
+    let (_, status, asked, kept, said, length) = *row;
+    left.status == status
+        && left.asked.as_str() == asked
+        && left.kept.as_str() == kept
+        && left.said.as_str() == said
+        && left.output.len() == length
+        && has_fronts(left, due)
 }
 
-/// Compares what a run left, one call of which failed, with what is due of any: in the output stands a front of the text that is due there, and what
+/// Whether a run, one call of which failed, left what is due of any: in the output stands a front of the text that is due there, and what
 /// is asked for, kept and said are fronts of that.
-fn check_fronts(rt: &impl Abort, due: &Due, left: &Left, fail: u64) {
+fn has_fronts(left: &Left, due: &Due) -> bool {
     let text = if left.kept.is_empty() {
         due.listing
     } else {
         due.last
     };
-    let whole = left.kept.as_str() == due.kept;
-    assert!(rt; text.starts_with(left.output.as_str()), "{fail}");
-    assert!(rt; due.asked.starts_with(left.asked.as_str()), "{fail}");
-    assert!(rt; due.kept.starts_with(left.kept.as_str()), "{fail}");
+    text.starts_with(left.output.as_str())
+        && due.asked.starts_with(left.asked.as_str())
+        && due.kept.starts_with(left.kept.as_str())
+        && says_front(left, due)
+}
+
+/// Whether what was said is that a file cannot be read, with an empty output, or else a front of what is due, and nothing before all that
+/// is due was kept.
+fn says_front(left: &Left, due: &Due) -> bool {
     if left.status == 4 {
-        assert!(rt; left.output.is_empty(), "{fail}");
-        assert!(rt; left.said.starts_with("cannot read "), "{fail}");
-    } else {
-        assert!(rt; due.said.starts_with(left.said.as_str()), "{fail}");
-        assert!(rt; whole || left.said.is_empty(), "{fail}");
+        return left.output.is_empty() && left.said.starts_with("cannot read ");
     }
+    let is_whole = left.kept.as_str() == due.kept;
+    due.said.starts_with(left.said.as_str()) && (is_whole || left.said.is_empty())
+}
+
+/// Compares a run, one call of which fails, with what is due.
+fn check(rt: &impl Abort, alloc: Global, due: &Due, row: &Row) {
+    let (fail, ..) = *row;
+    let left = left_of(rt, alloc, due, 0, fail);
+    assert!(rt; is_row(&left, due, row), "{fail}");
 }
 
 #[test]
@@ -184,20 +193,30 @@ fn a_failed_call_ends_a_run_that_goes_on(rt: HostRuntime) {
     }
 }
 
+/// How many calls a run makes that does both, byte by byte, where none fails: 104 for the save of 102 bytes, 21 for the file of 19,
+/// 76 for the listing of 74, 124 for the save of 122, and 33 for what is said.
+const CALLS: u64 = 358;
+
+/// Whether a run that does both, whose call of this number fails, left what is due; there is no call `CALLS`.
+fn is_faulted(left: &Left, fail: u64) -> bool {
+    match left.status {
+        0 => fail == CALLS && left.calls == CALLS && left.output.as_str() == LATER_SAVE,
+        4 => has_fronts(left, &DOING_BOTH),
+        5 => left.calls == fail.saturating_add(1) && has_fronts(left, &DOING_BOTH),
+        _ => false,
+    }
+}
+
+/// Compares a run that does both, byte by byte, one call of which fails, with what is due.
+fn check_fault(rt: &impl Abort, alloc: Global, fail: u64) {
+    let left = left_of(rt, alloc, &DOING_BOTH, 1, fail);
+    assert!(rt; is_faulted(&left, fail), "{fail}");
+}
+
 #[test]
 fn each_call_fails_in_turn_byte_by_byte(rt: HostRuntime) {
-    let alloc = rt.alloc();
-    let whole = left_of(&rt, alloc, &DOING_BOTH, 1, u64::MAX);
-    assert_eq!(rt; whole.status, 0);
-    assert_eq!(rt; whole.output.as_str(), LATER_SAVE);
-    for fail in 0..whole.calls {
-        let left = left_of(&rt, alloc, &DOING_BOTH, 1, fail);
-        assert!(rt; left.status == 4 || left.status == 5, "{fail}");
-        assert!(rt;
-            left.status == 4 || left.calls == fail.saturating_add(1),
-            "{fail}"
-        );
-        check_fronts(&rt, &DOING_BOTH, &left, fail);
+    for fail in 0..=CALLS {
+        check_fault(&rt, rt.alloc(), fail);
     }
 }
 
@@ -226,15 +245,24 @@ const LENT: [(&str, &[&str], &str); 6] = [
     (ALONE, &["bland"], NO_SOLVER),
 ];
 
+/// Compares the output of a run of these words with what is due.
+fn check_output(
+    rt: &impl Abort,
+    alloc: Global,
+    files: &[(&str, &str)],
+    words: &[&str],
+    solvers: &[&str],
+    due: &str,
+) {
+    let left = run_files(rt, alloc, (files, 0, &[]), words, solvers);
+    assert!(rt; left.output.as_str() == due);
+}
+
 #[test]
 fn a_save_goes_with_its_solver(rt: HostRuntime) {
-    let alloc = rt.alloc();
-    let alone = run_files(&rt, alloc, (SAVING.files, 0, &[]), SAVING.words, &[]);
-    assert_eq!(rt; alone.output.as_str(), ALONE);
+    check_output(&rt, rt.alloc(), SAVING.files, SAVING.words, &[], ALONE);
     for (save, solvers, listing) in &LENT {
         let files = [("b.gms", LATER), ("s.sav", *save)];
-        let host: (&[(&str, &str)], u32, &[u64]) = (files.as_slice(), 0, &[]);
-        let left = run_files(&rt, alloc, host, GOING_ON.words, solvers);
-        assert_eq!(rt; left.output.as_str(), *listing);
+        check_output(&rt, rt.alloc(), &files, GOING_ON.words, solvers, listing);
     }
 }

@@ -1,19 +1,23 @@
 -- The number that a value of 127 bits means, and that these values keep the laws of a field with a limit.
-use Rattle.std.proofs.Common.{◌≡◌, ◌-◌, ◌^◌, ◌<◌, ◌≤◌, true, refl, arith}
+use Rattle.std.proofs.Common.{◌≡◌, ℕ, ◌-◌, ◌^◌, ◌<◌, ◌≤◌, true, refl, arith}
 use Rattle.gq_number.specs.Number.{Number}
 use Rattle.gq_field.specs.Fits.{fits}
 use Rattle.gq_field.specs.Parts.{number_of}
 use Rattle.gq_field.specs.FieldLaws.{range_of_bits, parts_within, parts_below, same_parts}
 use Rattle.gq_frac.specs.declared.frac.Frac.{Frac}
 
--- the number that a value of the field with the limit 2^127 - 1 means
+-- the limit of the numbers of a run: no part is greater in magnitude
+abbrev pub frac_limit : ℕ
+frac_limit = 2 ^ 127 - 1
+
+-- the number that a value of the field with that limit means
 unfoldable pub frac_value : Frac → Number
 frac_value f = number_of f.numerator f.denominator f.parts
 
-pub frac_range : (127 ≤ 2 ^ 127 - 1) × (2 ^ 127 - 1 < 2 ^ 127)
+pub frac_range : (127 ≤ frac_limit) × (frac_limit < 2 ^ 127)
 frac_range = range_of_bits 127 (omega arith) (omega arith)
 
-pub frac_within : (x : Frac) → fits (2 ^ 127 - 1) (frac_value x) ≡ true
+pub frac_within : (x : Frac) → fits frac_limit (frac_value x) ≡ true
 unfolding frac_value
 frac_within x = parts_within 127 x.numerator x.denominator x.parts
 
@@ -22,7 +26,7 @@ unfolding frac_value
 frac_same_value x y e =
     same_parts 127 (λ n d p. record { numerator = n; denominator = d; parts = p }) x.numerator y.numerator x.denominator y.denominator x.parts y.parts e
 
-pub frac_each_number : (x : Number) → fits (2 ^ 127 - 1) x ≡ true → (y : Frac) × (frac_value y ≡ x)
+pub frac_each_number : (x : Number) → fits frac_limit x ≡ true → (y : Frac) × (frac_value y ≡ x)
 unfolding frac_value number_of
 frac_each_number x within =
     let below = parts_below 127 x (omega arith) within in

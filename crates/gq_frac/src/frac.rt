@@ -12,10 +12,9 @@ pub struct Frac {
 }
 
 impl ExactField for Frac {
-    ghost use Rattle.std.specs.Prelude.{◌-◌, ◌^◌};
-    ghost use Rattle.gq_frac.specs.Frac.{frac_value, frac_range, frac_within, frac_same_value, frac_each_number};
+    ghost use Rattle.gq_frac.specs.Frac.{frac_limit, frac_value, frac_range, frac_within, frac_same_value, frac_each_number};
 
-    ghost limit = { 2 ^ 127 - 1 };
+    ghost limit = { frac_limit };
 
     ghost value = { frac_value };
 

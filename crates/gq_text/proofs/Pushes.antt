@@ -1,5 +1,5 @@
 -- Digits that are appended one after another, from the first on.
-use Rattle.std.proofs.Common.{◌≡◌, ℕ, suc, ◌+◌, ◌-◌, ◌*◌, ◌/◌, ◌%◌, ◌^◌, ◌<◌, ◌≤◌, List, [], ◌∷◌, ◌++◌, length, refl, sym, ap, ◌∙◌, subst, arith, append_assoc, length-append, div-add-mod', mod-lt, div-lt_iff_lt-mul}
+use Rattle.std.proofs.Common.{◌≡◌, ℕ, zero, suc, ◌+◌, ◌-◌, ◌*◌, ◌/◌, ◌%◌, ◌^◌, ◌<◌, ◌≤◌, List, [], ◌∷◌, ◌++◌, length, refl, sym, ap, ◌∙◌, subst, arith, append_assoc, length-append, div-add-mod', mod-lt, div-lt_iff_lt-mul}
 use Rattle.std.proofs.Math.Nat.{pow-succ', one-le-pow}
 use Rattle.gq_text.specs.Numeral.{AreDigits, spelled, IsNumeral}
 use Rattle.gq_text.specs.Appends.{AppendsDigits, AppendsNumeral}
@@ -49,6 +49,27 @@ pub all_pushed : (old now : List ℕ) (n places rest : ℕ) → HasDigits old no
 all_pushed old now n places rest so_far =
     let small = so_far.small in
     record { digits = so_far.digits; appended = so_far.appended; are_digits = so_far.are_digits; places_are = omega (arith, so_far.places_are); spells = omega (arith, so_far.splits) }
+
+-- a tenth has a place less
+pub tenth_small : (n places : ℕ) → 0 < places → n < 10 ^ places → n / 10 < 10 ^ (places - 1)
+tenth_small n zero some small = absurd (omega (arith, some))
+tenth_small n (suc k) some small =
+    let unit : 10 ^ suc k ≡ 10 * 10 ^ k = pow-succ' 10 k in
+    let less : k ≡ suc k - 1 = omega arith in
+    subst (λ j. n / 10 < 10 ^ j) less ((div-lt_iff_lt-mul {k = 10} {x = n} {y = 10 ^ k} (omega arith)).1 (omega arith))
+
+-- the digits of a tenth, and behind them the last digit
+pub digit_behind : (old now : List ℕ) (n places : ℕ) → 0 < places → AppendsDigits old now (n / 10) (places - 1) → AppendsDigits old (now ++ (48 + n % 10) ∷ []) n places
+digit_behind old now n places some tenth =
+    let last : n % 10 < 10 = mod-lt n (omega arith) in
+    let spread = div-add-mod' n 10 in
+    record {
+      digits = tenth.digits ++ (48 + n % 10) ∷ [];
+      appended = ap (λ (l : List ℕ). l ++ (48 + n % 10) ∷ []) tenth.appended ∙ append_assoc old tenth.digits _;
+      are_digits = AreDigits-append tenth.digits _ tenth.are_digits (omega arith, omega arith, tt);
+      places_are = omega (arith, tenth.places_are, length-append tenth.digits ((48 + n % 10) ∷ []), some);
+      spells = spelled_push tenth.digits (48 + n % 10) ∙ ap (λ s. s * 10 + (48 + n % 10 - 48)) tenth.spells ∙ omega (arith, spread);
+    }
 
 -- digits that spell a number of as many places are its numeral
 IsNumeral_from : (n k : ℕ) (ds : List ℕ) → AreDigits ds → length ds ≡ 1 + k → spelled ds ≡ n → (0 < k → 10 ^ k ≤ n) → IsNumeral n ds

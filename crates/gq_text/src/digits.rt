@@ -44,6 +44,13 @@ impl Digits {
         from_utf8(&self.bytes[..self.len]).unwrap()
     }
 
+    /// The bytes of the text.
+    pub fn as_bytes(&self) -> &[u8]
+        ensures { result.now ≡ self.now }
+    {
+        &self.bytes[..self.len]
+    }
+
     /// Takes all bytes away.
     pub(crate) fn clear(&mut self)
         ensures { self.new ≡ [] }
@@ -68,12 +75,29 @@ impl Digits {
         requires room { length self.old + places ≤ 96 }
         ensures { AppendsDigits self.old self.new n places }
     {
+        if places < 20 {
+            self.push_word(n as u64, places);
+            return;
+        }
         let mut rest = n;
         for place in (0..places).rev() {
             let unit = 10u128.pow(place);
             self.push(b'0' + (rest / unit) as u8);
             rest %= unit;
         }
+    }
+
+    /// Appends the last `places` digits of a number of one word, which has no more.
+    fn push_word(&mut self, n: u64, places: u32)
+        requires small { n < 10 ^ places }
+        requires room { length self.old + places ≤ 96 }
+        ensures { AppendsDigits self.old self.new n places }
+    {
+        if places == 0 {
+            return;
+        }
+        self.push_word(n / 10, places - 1);
+        self.push(b'0' + (n % 10) as u8);
     }
 
     /// Appends the numeral of the number.

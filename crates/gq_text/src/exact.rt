@@ -19,7 +19,7 @@ pub fn read_whole(text: &[u8]) -> Option<u128>
     let n = digits_in(text)?;
     let mut digits = Digits::new();
     put_whole(n, &mut digits);
-    if digits.as_str().as_bytes() == text {
+    if digits.as_bytes() == text {
         Some(n)
     } else {
         None
@@ -35,7 +35,7 @@ pub fn read_exact<F: ExactField>(text: &[u8]) -> Option<F>
     let x = quotient_in(text)?;
     let mut digits = Digits::new();
     put_exact(x, &mut digits);
-    if digits.as_str().as_bytes() == text {
+    if digits.as_bytes() == text {
         Some(x)
     } else {
         None

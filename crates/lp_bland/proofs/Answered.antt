@@ -1,12 +1,10 @@
--- What is an answer as well: under another limit of pivots, and over the numbers that values mean.
-use Rattle.std.proofs.Common.{◌≡◌, ℕ, ◌≤◌, inl, inr, List, [], ◌∷◌, map, length, Option, None, refl, sym, ap, ap₂, ◌∙◌, subst, arith}
+-- An answer over a field is one over the numbers that its values mean.
+use Rattle.std.proofs.Common.{◌≡◌, ℕ, inl, inr, List, [], ◌∷◌, map, length, Option, None, refl, sym, ap, ap₂, ◌∙◌, subst, arith}
 use Rattle.std.proofs.lemmas.List.{map-id}
 use Rattle.gq_number.specs.Number.{Number}
 use Rattle.lp_core.specs.declared.answer.Answer.{Answer}
 use Rattle.lp_core.specs.declared.answer.End.{End}
 use Rattle.lp_core.specs.declared.answer.End.TheVariants.{Optimal, Infeasible, Unbounded, Interrupted, Refused}
-use Rattle.lp_core.specs.declared.answer.EndKind.{EndKind}
-use Rattle.lp_core.specs.declared.answer.EndKind.TheVariants as kind
 use Rattle.lp_core.specs.declared.answer.Pivot.{Pivot}
 use Rattle.lp_core.specs.declared.answer.Rule.{Rule}
 use Rattle.lp_core.specs.declared.answer.StepName.{StepName}
@@ -15,7 +13,7 @@ use Rattle.lp_core.specs.declared.program.Row.{Row}
 use Rattle.lp_core.specs.declared.program.Lp.{Lp}
 use Rattle.lp_core.specs.Proofs.{FirstCrossed}
 use Rattle.lp_core.specs.Pivots.{IsChosen, ByRule, LeadsWithin}
-use Rattle.lp_core.specs.Ends.{IsGoingOnBy, EndsAt, EndsWith, EndsSoBy}
+use Rattle.lp_core.specs.Ends.{EndsSoBy}
 use Rattle.lp_core.specs.Answers.{IsAnswer}
 use Rattle.lp_core.specs.Dictionary.{Dictionary, Improves, first_dictionary}
 use Rattle.lp_core.specs.Numbers.{answer_numbers, column_numbers, end_numbers, lp_numbers, row_numbers}
@@ -25,37 +23,11 @@ use Rattle.lp_core.specs.WellFormed.{IsWellFormed}
 use Rattle.lp_std.specs.Last.{IsDictionaryOf}
 use Rattle.lp_std.proofs.Ends.{proved_at}
 use Rattle.lp_nocycle.proofs.SameForm.{bound_same, form_same, itself}
-use Rattle.lp_walk.proofs.Rules.{improves_of, legal_of}
+use Rattle.lp_core.proofs.Rules.{improves_of, legal_of}
 use Rattle.lp_walk.proofs.Standing.{first_stands, stands_last}
 use Rattle.lp_bland.proofs.Programs.{none_cross, well_formed_same}
 use Rattle.lp_bland.proofs.SameSteps.{standard_steps_same, steps_back_same}
 use Rattle.lp_bland.proofs.Widened.{told_same, read_of, crossed_so}
-
-module _ {F : Type 0} (value : F → Number) (limit : ℕ) (lp : Lp F) (iterlim : ℕ) where
-  -- an optimum does not look at the limit
-  optimum_at : (Chosen : ℕ → Type 0) (pivots other : ℕ) (d : Dictionary) (how : EndKind) (last : Last) (levels row_levels duals reduced : List F) → EndsAt Chosen ((pivots ≡ iterlim) × IsGoingOnBy Chosen d) d how last → EndsWith value limit lp how last (Optimal levels row_levels duals reduced) → EndsAt Chosen ((pivots ≡ other) × IsGoingOnBy Chosen d) d how last
-  optimum_at Chosen pivots other d kind.Optimal last levels row_levels duals reduced at told = at
-  optimum_at Chosen pivots other d kind.Infeasible last levels row_levels duals reduced at told = at
-  optimum_at Chosen pivots other d kind.Unbounded last levels row_levels duals reduced at told = at
-  optimum_at Chosen pivots other d kind.Interrupted last levels row_levels duals reduced at (inl told) = absurd told.0
-  optimum_at Chosen pivots other d kind.Interrupted last levels row_levels duals reduced at (inr refused) = absurd (let e = refused.1 in cc)
-
-  optimum_so : (Allowed : Pivot → ℕ → Type 0) (Chosen : ℕ → Type 0) (pivots other : ℕ) (d : Dictionary) (levels row_levels duals reduced : List F) → EndsSoBy value limit lp iterlim Allowed Chosen pivots d (Optimal levels row_levels duals reduced) → EndsSoBy value limit lp other Allowed Chosen pivots d (Optimal levels row_levels duals reduced)
-  optimum_so Allowed Chosen pivots other d levels row_levels duals reduced (inl (how, last, at, told)) = inl (how, last, optimum_at Chosen pivots other d how last levels row_levels duals reduced at told, told)
-  optimum_so Allowed Chosen pivots other d levels row_levels duals reduced (inr (inl h)) = absurd (let e = h.3 in cc)
-  optimum_so Allowed Chosen pivots other d levels row_levels duals reduced (inr (inr h)) = absurd (let e = h.1.1 in cc)
-
-  pub optimum_within : (rule : Rule) (answer : Answer F) (levels row_levels duals reduced : List F) (other : ℕ) → answer.end ≡ Optimal levels row_levels duals reduced → length answer.pivots ≤ other → IsAnswer value limit lp iterlim rule answer → IsAnswer value limit lp other rule answer
-  optimum_within rule answer levels row_levels duals reduced other is few (inl h) = inl h
-  optimum_within rule answer levels row_levels duals reduced other is few (inr (inl h)) = inr (inl h)
-  optimum_within rule answer levels row_levels duals reduced other is few (inr (inr h)) =
-      let last = h.3.0 in
-      let n = length answer.pivots in
-      let Allowed = ByRule rule answer.pivots last in
-      let Chosen = IsChosen rule last in
-      inr (inr (h.0, h.1, few, (last, h.3.1, subst (EndsSoBy value limit lp other Allowed Chosen n last) (sym is) (optimum_so Allowed Chosen n other last levels row_levels duals reduced (subst (EndsSoBy value limit lp iterlim Allowed Chosen n last) is h.3.2)))))
-
--- ---- over the numbers
 
 columns_again : (columns : List (Column Number)) → map (column_numbers itself) columns ≡ columns
 columns_again [] = refl

@@ -9,7 +9,7 @@ use Rattle.gq_number.proofs.Order.{≤ℚ_refl, ≤ℚ_trans, ≤ℚ_or_above, �
 use Rattle.lp_core.specs.declared.answer.Pivot.{Pivot}
 use Rattle.lp_core.specs.declared.answer.Rule.TheVariants.{Bland}
 use Rattle.lp_core.specs.declared.answer.StepName.{StepName}
-use Rattle.lp_core.specs.Dictionary.{Dictionary, basic_at, constant_at, entry_at, OpeningIsDue, IsPriced, Improves, Limits, ratio_at, IsLeast, IsOpening, IsBland}
+use Rattle.lp_core.specs.Dictionary.{Dictionary, basic_at, constant_at, entry_at, OpeningIsDue, IsPriced, Improves, Limits, ratio_at, IsLeast, IsOpening}
 use Rattle.lp_core.specs.Steps.{AllFit, FirstStop, ratio_steps}
 use Rattle.lp_core.specs.Pivots.{IsAllowed, IsChosen, NothingImproves, TestFits}
 use Rattle.lp_std.specs.Pieces.{first_stop}
@@ -17,7 +17,6 @@ use Rattle.lp_std.proofs.Stops.{all_fit, stops_first}
 use Rattle.lp_exact.specs.Pivots.{IsProper, IsLeaving}
 use Rattle.lp_exact.proofs.Improving.{same_or_not, found_or_not, priced_there}
 use Rattle.lp_exact.proofs.Kept.{index_get, contains_get}
-use Rattle.lp_walk.proofs.Rules.{bland_of}
 use Rattle.lp_walk.proofs.Walking.{turn_of, opening_is_due, step_is_due}
 
 -- ---- the least of the first n numbers of which something holds
@@ -151,15 +150,10 @@ module _ (d : Dictionary) (k : ℕ) (h : IsFirst (IsBelow d) (constant_at d) (ba
   opening_there : IsOpening d (turn_of 0 (basic_at d k)) k
   opening_there = record { due = (k, h.below, h.holds); enters = refl; leaves = at_row d k h.below; least = least_constant }
 
-  opening_bland : IsBland d (turn_of 0 (basic_at d k))
-  opening_bland =
-      record {
-        enters = λ q none improves. absurd (none (k, h.below, h.holds));
-        leaves = λ i none ties. absurd (none (k, h.below, h.holds));
-        opens = λ i due least.
-            let most = least.1 k h.below in
-            h.first i least.0 (≤ℚ-<ℚ_trans (constant_at d i) (constant_at d k) (whole (pos 0)) most h.holds) most;
-      }
+  opening_least : (i : ℕ) → IsLeast d i → basic_at d k ≤ basic_at d i
+  opening_least i least =
+      let most = least.1 k h.below in
+      h.first i least.0 (≤ℚ-<ℚ_trans (constant_at d i) (constant_at d k) (whole (pos 0)) most h.holds) most
 
 pub due_or_not : (d : Dictionary) → ((k : ℕ) × IsFirst (IsBelow d) (constant_at d) (basic_at d) (length d.basic) k) ⊎ ¬ (OpeningIsDue d)
 due_or_not d =
@@ -232,7 +226,7 @@ module _ (limit n : ℕ) (d : Dictionary) where
       elim (first_below (IsAbove d q) (λ i. above_or_not (entry_at d i q)) (ratio_at d q) (basic_at d) (length d.basic)) [
         | inl found ↦
             let due = step_is_due (IsChosen Bland d) limit n d q (basic_at d found.0) none chosen.0 chosen (leaves_first d q found.0 found.1) fit in
-            pivot_is_due (turn_of q (basic_at d found.0)) due.0 (bland_of d (turn_of q (basic_at d found.0)) due.0 due.1) due.2
+            pivot_is_due (turn_of q (basic_at d found.0)) due.0 due.1 due.2
         | inr free ↦ none_limits q none chosen (λ k limits. free k limits.0 limits.1)
       ]
 
@@ -245,8 +239,8 @@ module _ (limit n : ℕ) (d : Dictionary) where
       elim (due_or_not d) [
         | inl found ↦
             let p : Pivot = turn_of 0 (basic_at d found.0) in
-            let due = opening_is_due (IsChosen Bland d) limit n d p (found.0, opening_there d found.0 found.1) (opening_bland d found.0 found.1) in
-            pivot_is_due p due.0 (bland_of d p due.0 due.1) due.2
+            let due = opening_is_due (IsChosen Bland d) limit n d p (found.0, opening_there d found.0 found.1) (opening_least d found.0 found.1) in
+            pivot_is_due p due.0 due.1 due.2
         | inr none ↦ elim (chosen_or_none d proper) [
           | inl found ↦ with_entering found.0 none found.1 (first_stop (ratio_steps limit n d found.0)) refl
           | inr nothing_there ↦ nothing_improves (none, nothing_there)

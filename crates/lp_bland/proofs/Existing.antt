@@ -29,7 +29,6 @@ use Rattle.lp_std.proofs.Stops.{all_fit, stops_first}
 use Rattle.lp_std.proofs.Sums.{All-append_left, All-append_right}
 use Rattle.lp_exact.proofs.Improving.{found_or_not}
 use Rattle.lp_exact.proofs.Kept.{contains_get}
-use Rattle.lp_walk.proofs.Rules.{taken_of}
 use Rattle.lp_walk.proofs.Standing.{Stands, first_stands, stands_after}
 use Rattle.lp_walk.proofs.Walking.{some_limits, limits_in_one, goes_on_by_pivot}
 use Rattle.lp_bland.proofs.Deciding.{Case, nothing_improves, none_limits, test_stops, pivot_is_due, due_or_not, case_at}
@@ -158,7 +157,7 @@ module _ {F : Type 0} (value : F → Number) (limit : ℕ) (some : 1 ≤ limit) 
       ends_at_limit most (test_stops q none chosen name stops) =
           let row = some_limits limit (pivots + 1) d q name stops in
           ends_broken most (inr (none, (q, row.0, chosen, row.1)))
-      ends_at_limit most (pivot_is_due p k allowed tested) = ends_broken most (goes_on_by_pivot (IsChosen Bland d) d p k (allowed.0, taken_of d p k allowed))
+      ends_at_limit most (pivot_is_due p k allowed tested) = ends_broken most (goes_on_by_pivot (IsChosen Bland d) d p k allowed)
 
   -- ---- the walk
 

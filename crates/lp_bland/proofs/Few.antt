@@ -11,7 +11,7 @@ use Rattle.lp_core.specs.Answers.{IsAnswer, IsAnswerByChoice}
 use Rattle.lp_core.specs.WellFormed.{IsWellFormed}
 use Rattle.lp_nocycle.specs.PivotCount.{HasFewPivots, ComesToEnd}
 use Rattle.lp_nocycle.proofs.Answering.{has_few, comes_to_end}
-use Rattle.lp_walk.proofs.Rules.{bland_choice, bland_answer}
+use Rattle.lp_core.proofs.Rules.{bland_choice, bland_answer}
 
 module _ {F : Type 0} (value : F → Number) (limit : ℕ) (lp : Lp F) (iterlim : ℕ) (formed : IsWellFormed value lp) {E : Type 0} where
   pub bland_if_ok : (r : Result (Answer F) E) → IfOk r (IsAnswerByChoice value limit lp iterlim bland_choice) → IfOk r (IsAnswer value limit lp iterlim Bland)

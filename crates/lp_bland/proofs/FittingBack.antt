@@ -20,7 +20,6 @@ use Rattle.lp_core.specs.Proofs.{row_sums}
 use Rattle.lp_core.specs.StandardForm as form
 use Rattle.lp_core.specs.Steps.{Due, AllFit, product_fits, difference_fits, level_step, row_level_steps, dual_steps, reduced_steps, ray_step, count_of_rows, levels_steps, row_levels_steps, duals_steps, reduced_costs_steps, ray_steps}
 use Rattle.lp_std.proofs.Sums.{All-append_left, All-append_right}
-use Rattle.lp_std.proofs.Recovers.{count_is_sum}
 use Rattle.lp_bland.proofs.Fitting.{Fitting, neg_within, sum_within, difference_within, directed_within, number_within}
 use Rattle.lp_bland.proofs.FittingForm.{BaseFits, bases_within}
 
@@ -150,8 +149,7 @@ module _ {F : Type 0} (value : F → Number) (limit : ℕ) (some : 1 ≤ limit) 
         (All-weaker (Fitting limit) (λ y. Fitting limit (form.directed lp.maximize y)) (λ y h. directed_within limit lp.maximize y h) reduced (reduced_from last.costs (form.multiplier (form.variables_of value lp) last.costs) 0 r (form.columns_of value lp) lp.columns all (multiplier_within all) fit))
 
     pub reduced_back_within : All (Fitting limit) last.costs → AllFit (reduced_costs_steps value limit lp last) → All (Fitting limit) (form.reduced_back value lp last)
-    reduced_back_within all fit =
-        subst (λ r. All (Fitting limit) (map (form.directed lp.maximize) (form.reduced_from last.costs (form.multiplier (form.variables_of value lp) last.costs) r (form.columns_of value lp) lp.columns))) (count_is_sum lp.rows) (reduced_at (count_of_rows lp.rows) all fit)
+    reduced_back_within all fit = reduced_at (count_of_rows lp.rows) all fit
 
     pub ray_back_within : All (Fitting limit) last.changes → AllFit (ray_steps value limit lp last) → All (Fitting limit) (form.ray_back value lp last)
     ray_back_within all fit = changes_from 0 (form.columns_of value lp) last.changes all fit

@@ -9,7 +9,7 @@ use Rattle.lp_core.specs.declared.program.Lp.{Lp}
 use Rattle.lp_core.specs.Sums.{number_of, row_sum}
 use Rattle.lp_core.specs.Feasible.{bound_value}
 use Rattle.lp_core.specs.Proofs.{row_sums}
-use Rattle.lp_core.specs.StandardForm.{Shift, Standard, point_of, dual_by_sense, changed_back, variables_of, width, columns_of, rows_of_bounds, rows_of_sense, reduced_by_bounds, duals_from, reduced_from, multiplier, directed, Last, levels_back, duals_back, reduced_back, farkas_back, ray_back}
+use Rattle.lp_core.specs.StandardForm.{Shift, Standard, point_of, dual_by_sense, changed_back, variables_of, width, columns_of, rows_of_bounds, rows_of_sense, count_of_rows, reduced_by_bounds, duals_from, reduced_from, multiplier, directed, Last, levels_back, duals_back, reduced_back, farkas_back, ray_back}
 use Rattle.lp_core.specs.Numbers.{column_numbers, row_numbers, lp_numbers}
 use Rattle.lp_nocycle.proofs.SameForm.{itself, sum_by_map, count_bounds_same, columns_same, variables_same, form_same}
 
@@ -63,7 +63,7 @@ module _ {F : Type 0} (value : F → Number) where
   pub reduced_same : (lp : Lp F) (last : Last) → reduced_back itself (lp_numbers value lp) last ≡ reduced_back value lp last
   reduced_same lp last =
       ap (map (directed lp.maximize))
-      (reduced_from_same last.costs (multiplier (variables_of itself (lp_numbers value lp)) last.costs) (sum_by (λ (row : Row Number). rows_of_sense row.sense) (map (row_numbers value) lp.rows)) (columns_of itself (lp_numbers value lp)) lp.columns
+      (reduced_from_same last.costs (multiplier (variables_of itself (lp_numbers value lp)) last.costs) (count_of_rows (map (row_numbers value) lp.rows)) (columns_of itself (lp_numbers value lp)) lp.columns
       ∙ ap₂ (reduced_with lp last) (columns_same value lp) (sense_counts_same lp.rows))
 
   pub ray_same : (lp : Lp F) (last : Last) → ray_back itself (lp_numbers value lp) last ≡ ray_back value lp last

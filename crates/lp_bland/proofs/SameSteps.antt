@@ -15,7 +15,7 @@ use Rattle.lp_core.specs.Feasible.{bound_value}
 use Rattle.lp_core.specs.StandardForm.{Shift, width, base, column_at, columns_of, variables_of, rows_of_sense, rows_of_bounds, multiplier, Last, levels_back}
 use Rattle.lp_core.specs.Steps.{product_fits, difference_fits, shifting, row_steps, rows_steps, bound_step, bounds_steps, count_of_rows, standard_steps, level_step, row_level_steps, dual_steps, reduced_steps, ray_step, levels_steps, row_levels_steps, duals_steps, reduced_costs_steps, ray_steps, optimal_steps, infeasible_steps, unbounded_steps, interrupted_steps, steps_back}
 use Rattle.lp_core.specs.Numbers.{entries_numbers, column_numbers, row_numbers, lp_numbers}
-use Rattle.lp_nocycle.proofs.SameForm.{itself, bound_same, count_bounds_same, joined_same, columns_same, variables_same}
+use Rattle.lp_nocycle.proofs.SameForm.{itself, sum_by_map, bound_same, count_bounds_same, joined_same, columns_same, variables_same}
 use Rattle.lp_bland.proofs.Naturality.{levels_same}
 
 module _ {F : Type 0} (value : F → Number) (limit : ℕ) where
@@ -38,8 +38,7 @@ module _ {F : Type 0} (value : F → Number) (limit : ℕ) where
       (ap (λ n. bounds_steps itself limit (r + n) (j + 1) (map (column_numbers value) columns)) (count_bounds_same value c.lower c.upper) ∙ bounds_steps_same (r + rows_of_bounds c.lower c.upper) (j + 1) columns)
 
   count_rows_same : (rows : List (Row F)) → count_of_rows (map (row_numbers value) rows) ≡ count_of_rows rows
-  count_rows_same [] = refl
-  count_rows_same (row ∷ rows) = ap (λ n. rows_of_sense row.sense + n) (count_rows_same rows)
+  count_rows_same rows = sum_by_map (λ (row : Row Number). rows_of_sense row.sense) (row_numbers value) rows
 
   pub standard_steps_same : (lp : Lp F) → standard_steps itself limit (lp_numbers value lp) ≡ standard_steps value limit lp
   standard_steps_same lp =

@@ -25,7 +25,7 @@ use Rattle.lp_nocycle.proofs.SameForm.{itself, form_same}
 use Rattle.lp_bland.proofs.Naturality.{levels_same, row_sums_same, duals_same, farkas_same, reduced_same, ray_same}
 use Rattle.lp_bland.proofs.SameSteps.{standard_steps_same, steps_back_same}
 use Rattle.lp_bland.proofs.Eased.{ratio_eased, exchange_eased, standard_eased, steps_back_eased}
-use Rattle.lp_walk.proofs.Rules.{improves_of, legal_of}
+use Rattle.lp_core.proofs.Rules.{improves_of, legal_of}
 use Rattle.lp_walk.proofs.Standing.{first_stands, stands_last}
 use Rattle.lp_bland.proofs.Programs.{none_cross, crossed_same}
 

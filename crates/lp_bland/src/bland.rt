@@ -1,6 +1,6 @@
 //! The solver by Bland's rule.
-ghost use Rattle.std.specs.Prelude.{◌≡◌, ◌-◌, ◌^◌, ◌∷◌, ◌++◌, [], codes, IfOk, OnErr};
-ghost use Rattle.gq_frac.specs.Frac.{frac_value};
+ghost use Rattle.std.specs.Prelude.{◌≡◌, ◌∷◌, ◌++◌, [], codes, IfOk, OnErr};
+ghost use Rattle.gq_frac.specs.Frac.{frac_limit, frac_value};
 ghost use Rattle.lp_core.specs.declared.answer.Rule.TheVariants as by;
 ghost use Rattle.lp_core.specs.Answers.{IsAnswer};
 ghost use Rattle.lp_nocycle.specs.PivotCount.{HasFewPivots, ComesToEnd};
@@ -68,7 +68,7 @@ impl LpSolver for Bland {
         iterlim: u64,
     ) -> Result<Answer<Frac>, AllocError>
         requires { IsWellFormed frac_value lp.now }
-        ensures answers { IfOk result (IsAnswer frac_value (2 ^ 127 - 1) lp.now iterlim by.Bland) }
+        ensures answers { IfOk result (IsAnswer frac_value frac_limit lp.now iterlim by.Bland) }
         ensures few { IfOk result (HasFewPivots frac_value lp.now) }
         ensures to_the_end { IfOk result (ComesToEnd frac_value lp.now iterlim) }
         ensures paths { IfOk result (λ answer. self.new ≡ self.old ++ answer.pivots ∷ []) }

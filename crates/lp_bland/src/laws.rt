@@ -1,14 +1,13 @@
-//! That Bland's rule leaves nothing open and has an answer always, that wider numbers change no answer, and what is an answer as well: laws on functions with empty bodies.
-ghost use Rattle.std.specs.Prelude.{◌≡◌, ◌-◌, ◌^◌, ◌≤◌, ℕ, List, length};
+//! That Bland's rule leaves nothing open and has an answer always, that wider numbers change no answer, and that an answer over a field is one over the numbers: laws on functions with empty bodies.
+ghost use Rattle.std.specs.Prelude.{◌≡◌, ◌-◌, ◌^◌, ℕ};
 ghost use Rattle.gq_number.specs.Number.{Number};
 ghost use Rattle.gq_field.specs.declared.half.Half.{Half};
 ghost use Rattle.gq_field.specs.Values.{half_value};
 ghost use Rattle.gq_frac.specs.declared.frac.Frac.{Frac};
-ghost use Rattle.gq_frac.specs.Frac.{frac_value};
+ghost use Rattle.gq_frac.specs.Frac.{frac_limit, frac_value};
 ghost use Rattle.lp_core.specs.declared.answer.Answer.{Answer};
-ghost use Rattle.lp_core.specs.declared.answer.End.TheVariants.{Optimal};
 ghost use Rattle.lp_core.specs.declared.answer.Rule.{Rule};
-ghost use Rattle.lp_core.specs.declared.answer.Rule.TheVariants.{Bland, Legal};
+ghost use Rattle.lp_core.specs.declared.answer.Rule.TheVariants.{Bland};
 ghost use Rattle.lp_core.specs.declared.program.Lp.{Lp};
 ghost use Rattle.lp_core.specs.Answers.{IsAnswer};
 ghost use Rattle.lp_core.specs.Numbers.{lp_numbers, answer_numbers};
@@ -35,18 +34,12 @@ pub fn an_answer<F: ExactField>()
 pub fn wide_answers()
     ensures { (narrow : Lp Half) (wide : Lp Frac) (iterlim : ℕ) (a : Answer Half) (b : Answer Frac) → lp_numbers half_value narrow ≡ lp_numbers frac_value wide →
         IsWellFormed frac_value wide → answer_numbers frac_value b ≡ answer_numbers half_value a → ¬ (IsRefused a.end) →
-        IsAnswer half_value (2 ^ 63 - 1) narrow iterlim Bland a → IsAnswer frac_value (2 ^ 127 - 1) wide iterlim Bland b }
+        IsAnswer half_value (2 ^ 63 - 1) narrow iterlim Bland a → IsAnswer frac_value frac_limit wide iterlim Bland b }
 {}
 
-/// What is an answer as well. One under Bland's rule is one under the rule Legal, by which every improving variable may enter. An optimum is
-/// one under each limit of pivots that it keeps to. And an answer over a field is one over the numbers that its values mean.
-pub fn answers_too<F: ExactField>()
-    ensures legal { (lp : Lp F) (iterlim : ℕ) (answer : Answer F) →
-        IsAnswer F.value F.limit lp iterlim Bland answer → IsAnswer F.value F.limit lp iterlim Legal answer }
-    ensures within { (lp : Lp F) (iterlim other : ℕ) (rule : Rule) (answer : Answer F) (levels row_levels duals reduced : List F) →
-        answer.end ≡ Optimal levels row_levels duals reduced → length answer.pivots ≤ other →
-        IsAnswer F.value F.limit lp iterlim rule answer → IsAnswer F.value F.limit lp other rule answer }
-    ensures numbers { (lp : Lp F) (iterlim : ℕ) (rule : Rule) (answer : Answer F) → IsWellFormed F.value lp →
+/// An answer over a field is one over the numbers that its values mean.
+pub fn answers_over_numbers<F: ExactField>()
+    ensures { (lp : Lp F) (iterlim : ℕ) (rule : Rule) (answer : Answer F) → IsWellFormed F.value lp →
         IsAnswer F.value F.limit lp iterlim rule answer →
         IsAnswer (λ (x : Number). x) F.limit (lp_numbers F.value lp) iterlim rule (answer_numbers F.value answer) }
 {}

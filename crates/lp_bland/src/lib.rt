@@ -7,4 +7,4 @@ mod laws;
 
 pub use answer::{Least, solve_in};
 pub use bland::Bland;
-pub use laws::{an_answer, answers_too, one_answer, wide_answers};
+pub use laws::{an_answer, answers_over_numbers, one_answer, wide_answers};

@@ -4,4 +4,6 @@ pub mod Rays
 pub mod Checks
 pub mod Points
 pub mod ShapeSteps
+pub mod Rules
+pub mod Optimum
 mod Examples

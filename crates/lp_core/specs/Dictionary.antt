@@ -136,13 +136,6 @@ pub record IsStep (d : Dictionary) (p : Pivot) (k : ℕ) : Type 0 where
 abbrev pub IsLegal : Dictionary → Pivot → ℕ → Type 0
 IsLegal d p k = IsOpening d p k ⊎ IsStep d p k
 
--- Bland's pivot: the least improving variable enters, and the least of the tied ones leaves; at the opening the least
--- variable among those with the least constant leaves.
-pub record IsBland (d : Dictionary) (p : Pivot) : Type 0 where
-  pub enters : (q : ℕ) → ¬ (OpeningIsDue d) → Improves d q → p.enter ≤ q
-  pub leaves : (i : ℕ) → ¬ (OpeningIsDue d) → Ties d p.enter i → p.leave ≤ basic_at d i
-  pub opens : (i : ℕ) → OpeningIsDue d → IsLeast d i → p.leave ≤ basic_at d i
-
 -- ---- the exchange
 
 -- a number of the row of the variable that leaves, over that of the variable that enters

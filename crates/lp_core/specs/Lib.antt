@@ -1,5 +1,6 @@
 pub mod Sums
 pub mod Entries
+pub mod Counts
 pub mod Feasible
 pub mod WellFormed
 pub mod DualBound

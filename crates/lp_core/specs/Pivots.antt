@@ -6,7 +6,7 @@ use Rattle.lp_core.specs.declared.answer.Pivot.{Pivot}
 use Rattle.lp_core.specs.declared.answer.Rule.{Rule}
 use Rattle.lp_core.specs.declared.answer.Rule.TheVariants.{Bland, Legal}
 use Rattle.lp_core.specs.StandardForm.{Last}
-use Rattle.lp_core.specs.Dictionary.{Dictionary, basic_at, constant_at, entry_at, OpeningIsDue, Improves, Ties, IsLeast, IsLegal, IsBland, exchanged}
+use Rattle.lp_core.specs.Dictionary.{Dictionary, basic_at, constant_at, entry_at, OpeningIsDue, Improves, Ties, IsLeast, IsLegal, exchanged}
 use Rattle.lp_core.specs.Steps.{AllFit, ratio_steps, exchange_steps}
 
 -- ---- what is read from a dictionary
@@ -53,11 +53,6 @@ last_along d q = record (last_of d) { changes = map (λ v. change_by_row d q v (
 
 -- ---- the rules
 
--- a pivot that the rule allows; k is the row of the variable that leaves
-abbrev pub IsAllowed : Rule → Dictionary → Pivot → ℕ → Type 0
-IsAllowed Bland d p k = IsLegal d p k × IsBland d p
-IsAllowed Legal d p k = IsLegal d p k
-
 -- a variable that the rule allows to choose: it improves, and under Bland no lesser one does
 abbrev pub IsChosen : Rule → Dictionary → ℕ → Type 0
 IsChosen Bland d q = Improves d q × ((v : ℕ) → Improves d v → q ≤ v)
@@ -81,6 +76,11 @@ pub record IsTaken (Chosen : ℕ → Type 0) (d : Dictionary) (p : Pivot) : Type
 -- a legal pivot by what is chosen; k is the row of the variable that leaves
 abbrev pub IsAllowedBy : (ℕ → Type 0) → Dictionary → Pivot → ℕ → Type 0
 IsAllowedBy Chosen d p k = IsLegal d p k × IsTaken Chosen d p
+
+-- a pivot that the rule allows; k is the row of the variable that leaves
+abbrev pub IsAllowed : Rule → Dictionary → Pivot → ℕ → Type 0
+IsAllowed Bland d p k = IsAllowedBy (IsChosen Bland d) d p k
+IsAllowed Legal d p k = IsLegal d p k
 
 -- ---- ways from one dictionary to another, over numbers without limit; and whether their steps fit
 

@@ -11,8 +11,8 @@ use Rattle.lp_core.specs.declared.program.Row.{Row}
 use Rattle.lp_core.specs.declared.program.Lp.{Lp}
 use Rattle.lp_core.specs.Sums.{number_of}
 use Rattle.lp_core.specs.Feasible.{bound_value}
--- passed on: how many rows of the standard form a row and a column have
-pub use Rattle.lp_core.specs.WellFormed.{rows_of_sense, rows_of_bounds}
+-- passed on: how many rows of the standard form a row, a column and rows have
+pub use Rattle.lp_core.specs.WellFormed.{rows_of_sense, rows_of_bounds, count_of_rows}
 
 -- How a column is told by variables that are at least 0: its lower bound plus one, its upper bound less one, or the
 -- difference of two.
@@ -203,7 +203,7 @@ module _ {F : Type 0} (value : F → Number) (lp : Lp F) (last : Last) where
   -- the reduced cost of each column of an optimum; the columns' own rows come after those of the program's rows
   abbrev pub reduced_back : List Number
   reduced_back =
-      map (directed lp.maximize) (reduced_from last.costs (multiplier (variables_of value lp) last.costs) (sum_by (λ (row : Row F). rows_of_sense row.sense) lp.rows) (columns_of value lp) lp.columns)
+      map (directed lp.maximize) (reduced_from last.costs (multiplier (variables_of value lp) last.costs) (count_of_rows lp.rows) (columns_of value lp) lp.columns)
 
   -- the factor of each row where no point is feasible
   abbrev pub farkas_back : List Number

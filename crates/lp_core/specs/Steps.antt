@@ -16,6 +16,8 @@ use Rattle.lp_core.specs.declared.program.Row.{Row}
 use Rattle.lp_core.specs.declared.program.Lp.{Lp}
 use Rattle.lp_core.specs.Sums.{number_of}
 use Rattle.lp_core.specs.Feasible.{bound_value}
+-- passed on: how many rows of the standard form rows have
+pub use Rattle.lp_core.specs.WellFormed.{count_of_rows}
 use Rattle.lp_core.specs.StandardForm.{Shift, from_lower, from_upper, free, base, column_at, columns_of, variables_of, rows_of_sense, rows_of_bounds, multiplier, Last, levels_back}
 use Rattle.lp_core.specs.Dictionary.{Dictionary, constant_at, entry_at, divided}
 
@@ -82,11 +84,6 @@ bounds_steps value limit r j [] = []
 bounds_steps value limit r j (column ∷ columns) =
     bound_step limit r j (bound_value value column.lower) (bound_value value column.upper)
     ++ bounds_steps value limit (r + rows_of_bounds column.lower column.upper) (j + 1) columns
-
--- how many rows of the standard form these rows have
-abbrev pub count_of_rows : {F : Type 0} → List (Row F) → ℕ
-count_of_rows [] = 0
-count_of_rows (row ∷ rows) = rows_of_sense row.sense + count_of_rows rows
 
 -- the steps of the standard form
 abbrev pub standard_steps : {F : Type 0} → (F → Number) → ℕ → Lp F → List Due

@@ -25,9 +25,13 @@ abbrev pub variables_of_bounds : {F : Type 0} → Option F → Option F → ℕ
 variables_of_bounds None None = 2
 variables_of_bounds lower upper = 1
 
+-- how many rows of the standard form rows have
+abbrev pub count_of_rows : {F : Type 0} → List (Row F) → ℕ
+count_of_rows {F} rows = sum_by (λ (row : Row F). rows_of_sense row.sense) rows
+
 -- the rows of the standard form
 abbrev pub standard_rows : {F : Type 0} → Lp F → ℕ
-standard_rows {F} lp = sum_by (λ (row : Row F). rows_of_sense row.sense) lp.rows + sum_by (λ (column : Column F). rows_of_bounds column.lower column.upper) lp.columns
+standard_rows {F} lp = count_of_rows lp.rows + sum_by (λ (column : Column F). rows_of_bounds column.lower column.upper) lp.columns
 
 -- the variables of the standard form, without slacks
 abbrev pub standard_columns : {F : Type 0} → Lp F → ℕ

@@ -2,7 +2,7 @@
 use crate::sequence::Sequence;
 
 /// One pivot of the simplex method: the variables that enter and leave the basis, by their numbers in the standard form.
-#[derive(Clone, Copy, Debug, PartialEq, Eq)]
+#[derive(Clone, Copy)]
 pub struct Pivot {
     /// The variable that enters.
     pub enter: u32,
@@ -11,7 +11,7 @@ pub struct Pivot {
 }
 
 /// Which pivots a solver takes.
-#[derive(Clone, Copy, Debug, PartialEq, Eq)]
+#[derive(Clone, Copy)]
 pub enum Rule {
     /// Of the improving variables the least enters, and of the tied ones the least leaves.
     Bland,
@@ -22,7 +22,7 @@ pub enum Rule {
 /// A step of the way from a program to its answer that may not fit under the limit of the numbers.
 ///
 /// Part 0 of a step is a product or a quotient, part 1 a sum or a difference.
-#[derive(Clone, Copy, Debug, PartialEq, Eq)]
+#[derive(Clone, Copy)]
 pub enum StepName {
     /// In the standard form: a bound is taken out of a row. Rows are standard rows and columns the program's, from 1.
     Standard {
@@ -70,7 +70,7 @@ pub enum StepName {
 }
 
 /// How a search ends at a last dictionary. Each kind has its condition, the steps of its way back, what that way tells and what proves it.
-#[derive(Clone, Copy, Debug, PartialEq, Eq)]
+#[derive(Clone, Copy)]
 pub enum EndKind {
     /// No variable improves the objective, and variable 0 is not basic.
     Optimal,

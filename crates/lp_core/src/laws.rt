@@ -1,11 +1,16 @@
-//! What the proofs of answers mean, for every program: laws on functions with empty bodies.
-ghost use Rattle.std.specs.Prelude.{◌≡◌, ℕ, true, false, pos, List, Some};
+//! What the proofs of answers mean, for every program, and what is an answer as well: laws on functions with empty bodies.
+ghost use Rattle.std.specs.Prelude.{◌≡◌, ◌≤◌, ℕ, true, false, pos, length, List, Some};
 ghost use Rattle.gq_number.specs.Number.{Number, whole, ◌+ℚ◌, ◌*ℚ◌};
 ghost use Rattle.gq_number.specs.Order.{◌≤ℚ◌, ◌<ℚ◌};
+ghost use Rattle.lp_core.specs.declared.answer.Answer.{Answer};
+ghost use Rattle.lp_core.specs.declared.answer.End.TheVariants.{Optimal};
+ghost use Rattle.lp_core.specs.declared.answer.Rule.{Rule};
+ghost use Rattle.lp_core.specs.declared.answer.Rule.TheVariants.{Bland, Legal};
 ghost use Rattle.lp_core.specs.declared.program.Lp.{Lp};
 ghost use Rattle.lp_core.specs.Sums.{number_of};
 ghost use Rattle.lp_core.specs.Feasible.{Feasible};
 ghost use Rattle.lp_core.specs.WellFormed.{IsWellFormed};
+ghost use Rattle.lp_core.specs.Answers.{IsAnswer};
 ghost use Rattle.lp_core.specs.DualBound.{dual_bound};
 ghost use Rattle.lp_core.specs.Proofs.{ProvesOptimal, ProvesInfeasible, ProvesCrossed, ProvesUnbounded, further};
 
@@ -54,4 +59,14 @@ pub fn unbounded_ray<F: ExactField>()
     ensures greatest { (lp : Lp F) (levels row_levels ray : List Number) (goal : Number) →
         IsWellFormed F.value lp → ProvesUnbounded F.value lp levels row_levels ray → lp.maximize ≡ true →
         (t : Number) × (whole (pos 0) ≤ℚ t) × (goal ≤ℚ number_of (further levels t ray) lp.objective) }
+{}
+
+/// What is an answer as well. One under Bland's rule is one under the rule Legal, by which every improving variable may enter. An optimum is
+/// one under each limit of pivots that it keeps to.
+pub fn answers_too<F: ExactField>()
+    ensures legal { (lp : Lp F) (iterlim : ℕ) (answer : Answer F) →
+        IsAnswer F.value F.limit lp iterlim Bland answer → IsAnswer F.value F.limit lp iterlim Legal answer }
+    ensures within { (lp : Lp F) (iterlim other : ℕ) (rule : Rule) (answer : Answer F) (levels row_levels duals reduced : List F) →
+        answer.end ≡ Optimal levels row_levels duals reduced → length answer.pivots ≤ other →
+        IsAnswer F.value F.limit lp iterlim rule answer → IsAnswer F.value F.limit lp other rule answer }
 {}

@@ -11,7 +11,7 @@ mod shape;
 
 pub use answer::{Answer, End, EndKind, Pivot, Rule, StepName};
 pub use feasibility::feasible_at;
-pub use laws::{crossed_bounds, farkas, unbounded_ray, weak_duality};
+pub use laws::{answers_too, crossed_bounds, farkas, unbounded_ray, weak_duality};
 pub use program::{Column, Lp, Row, Sense};
 pub use sequence::Sequence;
 pub use shape::{

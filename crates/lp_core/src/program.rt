@@ -3,7 +3,7 @@ use crate::sequence::Sequence;
 use lp_form::Key;
 
 /// How the sum of a row and its right side compare.
-#[derive(Clone, Copy, Debug, PartialEq, Eq)]
+#[derive(Clone, Copy)]
 pub enum Sense {
     /// `=e=`: they are equal.
     E,

@@ -6,7 +6,7 @@ use std::marker::Model;
 /// A list of values. It is made from a `Vec` and gives it back, and neither takes memory.
 ///
 /// Two sequences are equal in a contract where they have the same values in the same order, wherever they are kept.
-#[derive(Debug, Drop)]
+#[derive(Drop)]
 pub struct Sequence<T> {
     values: Vec<T>,
 }

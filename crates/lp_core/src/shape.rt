@@ -1,7 +1,8 @@
 //! Whether a program is well formed.
-ghost use Rattle.std.specs.Prelude.{◌≡◌, ◌≢◌, ◌≤◌, ◌+◌, ◌-◌, ◌^◌, ◌↔◌, ℕ, IsTrue, min, sum_by};
+ghost use Rattle.std.specs.Prelude.{◌≡◌, ◌≢◌, ◌≤◌, ◌+◌, ◌↔◌, ℕ, IsTrue, sum_by};
 ghost use Rattle.std.specs.List.{All, AllPairs};
-ghost use Rattle.lp_core.specs.WellFormed.{IsWellFormed, AreEntries, rows_of_sense, rows_of_bounds, variables_of_bounds};
+ghost use Rattle.lp_core.specs.WellFormed.{IsWellFormed, AreEntries, rows_of_sense, rows_of_bounds, variables_of_bounds, count_of_rows};
+ghost use Rattle.lp_core.specs.Counts.{counted};
 ghost use Rattle.lp_core.specs.Entries.{are_in_order};
 
 use crate::program::{Column, Lp, Row, Sense};
@@ -120,7 +121,7 @@ pub fn rows_by_sense(sense: Sense) -> usize
 
 /// How many rows of the standard form rows have, or the greatest `usize`.
 fn count_rows<F>(rows: &[Row<F>]) -> usize
-    ensures { result ≡ min (sum_by (λ row. rows_of_sense row.sense) rows.now) (2 ^ 64 - 1) }
+    ensures { result ≡ counted (count_of_rows rows.now) }
 {
     let mut count: usize = 0;
     for row in rows {
@@ -151,7 +152,7 @@ fn variables_by_bounds<F>(column: &Column<F>) -> usize
 
 /// How many rows of the standard form the bounds of columns have, one for each column with two bounds; the greatest `usize` where there are more.
 pub fn count_bounds<F>(columns: &[Column<F>]) -> usize
-    ensures { result ≡ min (sum_by (λ column. rows_of_bounds column.lower column.upper) columns.now) (2 ^ 64 - 1) }
+    ensures { result ≡ counted (sum_by (λ column. rows_of_bounds column.lower column.upper) columns.now) }
 {
     let mut count: usize = 0;
     for column in columns {
@@ -163,7 +164,7 @@ pub fn count_bounds<F>(columns: &[Column<F>]) -> usize
 /// How many variables of the standard form columns have, two for each column without bounds and one for each other; the greatest `usize` where
 /// there are more.
 pub fn count_variables<F>(columns: &[Column<F>]) -> usize
-    ensures { result ≡ min (sum_by (λ column. variables_of_bounds column.lower column.upper) columns.now) (2 ^ 64 - 1) }
+    ensures { result ≡ counted (sum_by (λ column. variables_of_bounds column.lower column.upper) columns.now) }
 {
     let mut count: usize = 0;
     for column in columns {

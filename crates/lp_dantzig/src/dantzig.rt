@@ -1,6 +1,6 @@
 //! The solver by the rule of the largest coefficient.
-ghost use Rattle.std.specs.Prelude.{◌≡◌, ◌-◌, ◌^◌, ◌∷◌, ◌++◌, [], codes, IfOk, OnErr};
-ghost use Rattle.gq_frac.specs.Frac.{frac_value};
+ghost use Rattle.std.specs.Prelude.{◌≡◌, ◌∷◌, ◌++◌, [], codes, IfOk, OnErr};
+ghost use Rattle.gq_frac.specs.Frac.{frac_limit, frac_value};
 ghost use Rattle.lp_core.specs.declared.answer.Rule.TheVariants as by;
 ghost use Rattle.lp_core.specs.Answers.{IsAnswer};
 ghost use Rattle.lp_core.specs.LargestCoefficient.{IsLargestAnswer};
@@ -69,8 +69,8 @@ impl LpSolver for Dantzig {
         iterlim: u64,
     ) -> Result<Answer<Frac>, AllocError>
         requires { IsWellFormed frac_value lp.now }
-        ensures answers { IfOk result (IsAnswer frac_value (2 ^ 127 - 1) lp.now iterlim by.Legal) }
-        ensures largest { IfOk result (IsLargestAnswer frac_value (2 ^ 127 - 1) lp.now iterlim) }
+        ensures answers { IfOk result (IsAnswer frac_value frac_limit lp.now iterlim by.Legal) }
+        ensures largest { IfOk result (IsLargestAnswer frac_value frac_limit lp.now iterlim) }
         ensures paths { IfOk result (λ answer. self.new ≡ self.old ++ answer.pivots ∷ []) }
         ensures unchanged { OnErr result (self.new ≡ self.old) }
     {

@@ -1,6 +1,7 @@
 -- From fractions to whole numbers and back, and what a pivot makes of either; what the pieces of the code promise.
-use Rattle.std.specs.Prelude.{◌≡◌, ℕ, ◌+◌, ◌-◌, ◌^◌, ◌<◌, min, List, [], ◌∷◌, ◌++◌, length, slice_get, slice_index_or, Some}
+use Rattle.std.specs.Prelude.{◌≡◌, ℕ, ◌+◌, ◌<◌, List, [], ◌∷◌, ◌++◌, length, slice_get, slice_index_or, Some}
 use Rattle.gq_number.specs.Number.{Number}
+use Rattle.lp_core.specs.Counts.{counted}
 use Rattle.lp_core.specs.declared.answer.Pivot.{Pivot}
 use Rattle.lp_core.specs.Dictionary.{Dictionary, exchanged}
 use Rattle.lp_core.specs.Steps.{AllFit, exchange_steps}
@@ -46,7 +47,7 @@ pub record Follows {F : Type 0} (value : F → Number) (limit : ℕ) (before : D
   pub is_exchanged : (k : ℕ) → slice_get before.basic k ≡ Some p.leave → kept value after ≡ exchanged before p.enter k
   pub fits : (k : ℕ) → slice_get before.basic k ≡ Some p.leave → AllFit (exchange_steps limit upcoming before p.enter k)
   pub bounded : IsBounded limit after
-  pub next : upcoming_of after ≡ min (upcoming + 1) (2 ^ 64 - 1)
+  pub next : upcoming_of after ≡ counted (upcoming + 1)
 
 -- the first step of a pivot that does not fit, or want of memory
 abbrev pub StopsBy : ℕ → Dictionary → ℕ → Pivot → Stop → Type 0

@@ -1,9 +1,10 @@
 //! The dictionary and what is read from it.
-ghost use Rattle.std.specs.Prelude.{◌≡◌, ◌<◌, ◌≤◌, ◌+◌, ◌-◌, ◌^◌, ◌↔◌, ℕ, pos, min, List, map, slice_get, IsTrue, Some, Contains, MatchOption, IfOk, IfErr, length};
+ghost use Rattle.std.specs.Prelude.{◌≡◌, ◌<◌, ◌≤◌, ◌+◌, ◌^◌, ◌↔◌, ℕ, pos, List, map, slice_get, IsTrue, Some, Contains, MatchOption, IfOk, IfErr, length};
 ghost use Rattle.gq_number.specs.Number.{Number, whole};
 ghost use Rattle.lp_core.specs.Sums.{number_of};
 ghost use Rattle.lp_core.specs.Pivots.{last_of};
-ghost use Rattle.lp_core.specs.Dictionary.{constant_at, entry_at, OpeningIsDue, IsPriced, Improves, IsOpening, IsBland, IsLegal, Meets, first_dictionary, exchanged};
+ghost use Rattle.lp_core.specs.Dictionary.{basic_at, constant_at, entry_at, OpeningIsDue, IsPriced, Improves, IsLeast, IsOpening, IsLegal, Meets, first_dictionary, exchanged};
+ghost use Rattle.lp_core.specs.Counts.{counted};
 ghost use Rattle.lp_core.specs.Steps.{AllFit, ratio_steps, exchange_steps};
 ghost use Rattle.lp_core.specs.Ends.{IsPhase};
 ghost use Rattle.lp_core.specs.LargestCoefficient.{HasGreatest};
@@ -11,8 +12,8 @@ ghost use Rattle.lp_core.specs.declared.program.Lp.{Lp};
 ghost use Rattle.lp_core.specs.WellFormed.{IsWellFormed};
 ghost use Rattle.lp_core.specs.StandardForm.{Standard as StandardNumbers, standard_form};
 ghost use Rattle.lp_std.specs.Meaning.{standard_value};
-ghost use Rattle.lp_std.specs.Last.{IsDictionaryOf, IsReadFrom};
-ghost use Rattle.lp_exact.specs.Reading.{IsDone, EndsBy, RayIs};
+ghost use Rattle.lp_std.specs.Last.{IsDictionaryOf, IsReadAt, last_value};
+ghost use Rattle.lp_exact.specs.Reading.{IsDone, last_with};
 ghost use Rattle.lp_exact.specs.Pivots.{IsProper, IsLeaving, IsLimit, StopsAt};
 ghost use Rattle.lp_exact.specs.Tableau.{IsPlace};
 ghost use Rattle.lp_dict.specs.Tableau.{dictionary};
@@ -197,7 +198,7 @@ impl<F: ExactField> Dict<F> {
     /// constant, which is below 0, the least leaves.
     pub fn opening(&self) -> Option<Pivot>
         ensures { MatchOption result (¬ (OpeningIsDue (dictionary F.value self.now)))
-            (λ p. ((k : ℕ) × IsOpening (dictionary F.value self.now) p k) × IsBland (dictionary F.value self.now) p) }
+            (λ p. ((k : ℕ) × IsOpening (dictionary F.value self.now) p k) × ((i : ℕ) → IsLeast (dictionary F.value self.now) i → p.leave ≤ basic_at (dictionary F.value self.now) i)) }
     {
         match &self.body {
             Body::Whole(rows, _) => rows.opening(),
@@ -262,7 +263,7 @@ impl<F: ExactField> Dict<F> {
         ensures of_form { IfOk result (λ after. (s : StandardNumbers) →
             IsDictionaryOf s (dictionary F.value self) → IsDictionaryOf s (dictionary F.value after)) }
         ensures not_due { IfOk result (λ after. ¬ (OpeningIsDue (dictionary F.value after))) }
-        ensures upcoming { IfOk result (λ after. after.upcoming ≡ min (self.upcoming + 1) (2 ^ 64 - 1)) }
+        ensures upcoming { IfOk result (λ after. after.upcoming ≡ counted (self.upcoming + 1)) }
         ensures limit { IfErr result (λ stop. (k : ℕ) → slice_get self.basic k ≡ Some p.leave →
             StopsAt (exchange_steps F.limit self.upcoming (dictionary F.value self) p.enter k) stop) }
     {
@@ -294,7 +295,7 @@ impl<F: ExactField> Dict<F> {
     /// The change of each variable where this one rises by 1; empty where there is none.
     fn ray(&self, alloc: Global, enter: Option<u32>) -> Result<Vec<F>, AllocError>
         requires { IsDone (dictionary F.value self.now) enter }
-        ensures { IfOk result (λ list. RayIs (dictionary F.value self.now) enter (map F.value list.items)) }
+        ensures { IfOk result (λ list. map F.value list.items ≡ (last_with (dictionary F.value self.now) enter).changes) }
     {
         let Some(variable) = enter else {
             return Ok(Vec::new(alloc));
@@ -308,7 +309,7 @@ impl<F: ExactField> Dict<F> {
     /// How the walk over dictionaries ends here.
     fn kind(&self, enter: Option<u32>) -> EndKind
         requires { IsDone (dictionary F.value self.now) enter }
-        ensures { EndsBy (dictionary F.value self.now) enter result }
+        ensures { IsReadAt (dictionary F.value self.now) result (last_with (dictionary F.value self.now) enter) }
     {
         if enter.is_some() {
             return EndKind::Unbounded;
@@ -329,9 +330,8 @@ impl<F: ExactField> Dict<F> {
     /// is `Interrupted`, in phase 2. The error is want of memory.
     pub fn done(&self, alloc: Global, enter: Option<u32>) -> Result<Final<F>, AllocError>
         requires { IsDone (dictionary F.value self.now) enter }
-        ensures read { IfOk result (IsReadFrom F.value (dictionary F.value self.now)) }
-        ensures kind { IfOk result (λ final. EndsBy (dictionary F.value self.now) enter final.kind) }
-        ensures ray { IfOk result (λ final. RayIs (dictionary F.value self.now) enter (map F.value final.ray)) }
+        ensures kind { IfOk result (λ final. IsReadAt (dictionary F.value self.now) final.kind (last_with (dictionary F.value self.now) enter)) }
+        ensures read { IfOk result (λ final. last_value F.value final ≡ last_with (dictionary F.value self.now) enter) }
     {
         let values = self.values(alloc)?;
         let costs = self.costs(alloc)?;

@@ -7,15 +7,14 @@ use Rattle.gq_number.specs.Number.{Number, whole, neg_ℚ}
 use Rattle.gq_number.proofs.Ring.{neg-zero}
 use Rattle.lp_core.specs.Sums.{number_of}
 use Rattle.lp_core.specs.StandardForm.{Last}
-use Rattle.lp_core.specs.Dictionary.{Dictionary, entry_at, InPhaseOne, OpeningIsDue}
+use Rattle.lp_core.specs.Dictionary.{Dictionary, entry_at, InPhaseOne, OpeningIsDue, Improves}
 use Rattle.lp_core.specs.Pivots.{row_of_basic, value_by_row, change_by_row, cost_by_row, priced_row, last_of, last_along, NothingImproves}
-use Rattle.lp_core.specs.declared.answer.EndKind.{EndKind}
 use Rattle.lp_core.specs.declared.answer.EndKind.TheVariants as kind
 use Rattle.lp_std.specs.Last.{IsReadAt}
 use Rattle.lp_exact.specs.Rows.{number_in}
 use Rattle.lp_exact.specs.Lines.{line}
 use Rattle.lp_exact.specs.Tableau.{Tableau, dictionary, IsTableau}
-use Rattle.lp_exact.specs.Reading.{AreByVariable, AreByColumn, AreChanges, IsDone, EndsBy, RayIs}
+use Rattle.lp_exact.specs.Reading.{AreByVariable, AreByColumn, AreChanges, IsDone, last_with}
 use Rattle.lp_exact.proofs.Kept.{get_within, index_default, index_past, contains_get}
 use Rattle.lp_exact.proofs.Improving.{found_or_not}
 use Rattle.lp_exact.proofs.Exchanging.{length-put}
@@ -122,16 +121,10 @@ same_last d values costs changes v c none = ap₂ (λ x y. last_from x y changes
 same_along : (d : Dictionary) (q : ℕ) (values costs changes : List Number) → values ≡ (last_of d).values → costs ≡ (last_of d).costs → changes ≡ (last_along d q).changes → last_from values costs changes ≡ last_along d q
 same_along d q values costs changes v c ray = ap₂ (λ x y. last_from x y changes) v c ∙ ap (last_from (last_of d).values (last_of d).costs) ray
 
-pub ends_at : (d : Dictionary) (enter : Option ℕ) (k : EndKind) (values costs changes : List Number) → EndsBy d enter k → values ≡ (last_of d).values → costs ≡ (last_of d).costs → RayIs d enter changes → IsReadAt d k (record { values = values; costs = costs; changes = changes })
-ends_at d enter kind.Optimal values costs changes ends v c ray =
-    (ends.0, ends.1, same_last d values costs changes v c (subst (λ e. RayIs d e changes) ends.2 ray))
-ends_at d enter kind.Infeasible values costs changes ends v c ray =
-    (ends.0, ends.1, same_last d values costs changes v c (subst (λ e. RayIs d e changes) ends.2 ray))
-ends_at d enter kind.Unbounded values costs changes ends v c ray =
-    let found = ends.1 in
-    (ends.0, (found.0, found.1, same_along d found.0 values costs changes v c (subst (λ e. RayIs d e changes) found.2 ray)))
-ends_at d enter kind.Interrupted values costs changes ends v c ray =
-    (ends.0, ends.1, ends.2, same_last d values costs changes v c (subst (λ e. RayIs d e changes) ends.3 ray))
+-- values, coefficients and changes that are each as they are read there are what is read there
+pub read_is : (d : Dictionary) (enter : Option ℕ) (values costs changes : List Number) → values ≡ (last_of d).values → costs ≡ (last_of d).costs → changes ≡ (last_with d enter).changes → last_from values costs changes ≡ last_with d enter
+read_is d None values costs changes v c none = same_last d values costs changes v c none
+read_is d (Some q) values costs changes v c ray = same_along d q values costs changes v c ray
 
 -- the kind
 pub done_in_one : (d : Dictionary) (enter : Option ℕ) → IsDone d enter → enter ≡ None → InPhaseOne d → NothingImproves d
@@ -142,9 +135,18 @@ pub done_not_due : (d : Dictionary) (enter : Option ℕ) → IsDone d enter → 
 done_not_due d (Some q) done due = done.1.0 due
 done_not_due d None done due = elim done [ inl nothing ↦ nothing.0 due | inr broken ↦ broken.1 due ]
 
-pub done_unbounded : (d : Dictionary) (enter : Option ℕ) → IsDone d enter → enter ≢ None → EndsBy d enter kind.Unbounded
-done_unbounded d (Some q) done some = (done.0, (q, done.1, refl))
-done_unbounded d None done some = absurd (some refl)
+pub read_along : (d : Dictionary) (enter : Option ℕ) → IsDone d enter → enter ≢ None → IsReadAt d kind.Unbounded (last_with d enter)
+read_along d (Some q) done some = (done.0, (q, done.1, refl))
+read_along d None done some = absurd (some refl)
+
+pub read_in_one : (d : Dictionary) (enter : Option ℕ) → IsDone d enter → enter ≡ None → InPhaseOne d → IsReadAt d kind.Infeasible (last_with d enter)
+read_in_one d enter done none phase = (phase, done_in_one d enter done none phase, ap (last_with d) none)
+
+pub read_at_best : (d : Dictionary) (enter : Option ℕ) → IsDone d enter → enter ≡ None → ¬ (InPhaseOne d) → ((v : ℕ) → ¬ (Improves d v)) → IsReadAt d kind.Optimal (last_with d enter)
+read_at_best d enter done none phase nothing = (phase, (done_not_due d enter done, nothing), ap (last_with d) none)
+
+pub read_on_the_way : (d : Dictionary) (enter : Option ℕ) (q : ℕ) → IsDone d enter → enter ≡ None → ¬ (InPhaseOne d) → Improves d q → IsReadAt d kind.Interrupted (last_with d enter)
+read_on_the_way d enter q done none phase improves = (phase, done_not_due d enter done, (q, improves), ap (last_with d) none)
 
 pub none_from : (o : Option ℕ) (b : Bool) → b ≡ is_some o → b ≡ false → o ≡ None
 none_from None b is none = refl

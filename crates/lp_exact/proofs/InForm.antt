@@ -12,9 +12,14 @@ use Rattle.lp_core.specs.declared.program.Column.{Column}
 use Rattle.lp_core.specs.declared.program.Row.{Row}
 use Rattle.lp_core.specs.declared.program.Lp.{Lp}
 use Rattle.lp_core.specs.Feasible.{bound_value}
-use Rattle.lp_core.specs.WellFormed.{IsWellFormed, AreEntries, rows_of_sense, rows_of_bounds, variables_of_bounds}
+use Rattle.lp_core.specs.WellFormed.{IsWellFormed, AreEntries}
 use Rattle.lp_core.specs.StandardForm as form
 use Rattle.lp_core.proofs.Points.{AllPairs-first, AllPairs-rest}
+use Rattle.lp_std.specs.Pieces.{rows_over, bounds_over}
+use Rattle.lp_std.proofs.Shapes.{variables_counted, variables_few, rows_few}
+use Rattle.lp_std.proofs.Proved.{rows_over_counted}
+use Rattle.lp_std.proofs.Ends.{count_is}
+use Rattle.lp_std.proofs.Answered.{bounds_over_counted}
 use Rattle.lp_exact.specs.First.{InOrder, IsInForm}
 use Rattle.lp_exact.proofs.Filling.{in_order_from}
 
@@ -154,69 +159,16 @@ module _ {F : Type 0} (value : F → Number) (lp : Lp F) (formed : IsWellFormed 
 
 -- ---- sizes
 
-width_by_bounds : {F : Type 0} (value : F → Number) (lower upper : Option F) → form.width (form.shift_of (bound_value value lower) (bound_value value upper)) ≡ variables_of_bounds lower upper
-width_by_bounds value (Some l) (Some u) = refl
-width_by_bounds value (Some l) None = refl
-width_by_bounds value None (Some u) = refl
-width_by_bounds value None None = refl
-
-widths : {F : Type 0} (value : F → Number) (columns : List (Column F)) → sum_by form.width (map (λ (column : Column F). form.shift_of (bound_value value column.lower) (bound_value value column.upper)) columns) ≡ sum_by (λ (column : Column F). variables_of_bounds column.lower column.upper) columns
-widths value [] = refl
-widths {F} value (column ∷ columns) =
-    sum_by-cons form.width (form.shift_of (bound_value value column.lower) (bound_value value column.upper)) (map (λ (column : Column F). form.shift_of (bound_value value column.lower) (bound_value value column.upper)) columns)
-    ∙ ap₂ (λ a b. a + b) (width_by_bounds value column.lower column.upper) (widths value columns)
-    ∙ sym (sum_by-cons (λ (column : Column F). variables_of_bounds column.lower column.upper) column columns)
-
-numbered_widths : (n : ℕ) (shifts : List form.Shift) → sum_by (λ (p : ℕ × form.Shift). form.width p.1) (form.numbered n shifts) ≡ sum_by form.width shifts
-numbered_widths n [] = refl
-numbered_widths n (s ∷ shifts) =
-    sum_by-cons (λ (p : ℕ × form.Shift). form.width p.1) (n, s) (form.numbered (n + form.width s) shifts)
-    ∙ ap (λ m. form.width s + m) (numbered_widths (n + form.width s) shifts) ∙ sym (sum_by-cons form.width s shifts)
-
-sense_length : (s : Sense) (i : ℕ) (row : form.StandardRow) → length (form.rows_by_sense s i row) ≡ rows_of_sense s
-sense_length sense.E i row = refl
-sense_length sense.L i row = refl
-sense_length sense.G i row = refl
-sense_length sense.N i row = refl
-
-bounds_length : {F : Type 0} (value : F → Number) (j v : ℕ) (lower upper : Option F) → length (form.bound_rows j v (bound_value value lower) (bound_value value upper)) ≡ rows_of_bounds lower upper
-bounds_length value j v (Some l) (Some u) = refl
-bounds_length value j v (Some l) None = refl
-bounds_length value j v None (Some u) = refl
-bounds_length value j v None None = refl
-
-rows_length : {F : Type 0} (value : F → Number) (lp : Lp F) (n : ℕ) (rows : List (Row F)) → length (flat_map (λ (p : ℕ × Row F). form.rows_by_sense p.1.sense p.0 (form.shifted_row value lp p.0 p.1)) (enumerate_from n rows)) ≡ sum_by (λ (row : Row F). rows_of_sense row.sense) rows
-rows_length value lp n [] = refl
-rows_length {F} value lp n (row ∷ rows) =
-    length-append (form.rows_by_sense row.sense n (form.shifted_row value lp n row)) (flat_map (λ (p : ℕ × Row F). form.rows_by_sense p.1.sense p.0 (form.shifted_row value lp p.0 p.1)) (enumerate_from (n + 1) rows))
-    ∙ ap₂ (λ a b. a + b) (sense_length row.sense n (form.shifted_row value lp n row)) (rows_length value lp (n + 1) rows)
-    ∙ sym (sum_by-cons (λ (row : Row F). rows_of_sense row.sense) row rows)
-
-columns_length : {F : Type 0} (value : F → Number) (lp : Lp F) (n : ℕ) (columns : List (Column F)) → length (flat_map (λ (p : ℕ × Column F). form.bound_rows p.0 (form.column_at (form.columns_of value lp) p.0).0 (bound_value value p.1.lower) (bound_value value p.1.upper)) (enumerate_from n columns)) ≡ sum_by (λ (column : Column F). rows_of_bounds column.lower column.upper) columns
-columns_length value lp n [] = refl
-columns_length {F} value lp n (column ∷ columns) =
-    length-append (form.bound_rows n (form.column_at (form.columns_of value lp) n).0 (bound_value value column.lower) (bound_value value column.upper)) (flat_map (λ (p : ℕ × Column F). form.bound_rows p.0 (form.column_at (form.columns_of value lp) p.0).0 (bound_value value p.1.lower) (bound_value value p.1.upper)) (enumerate_from (n + 1) columns))
-    ∙ ap₂ (λ a b. a + b) (bounds_length value n (form.column_at (form.columns_of value lp) n).0 column.lower column.upper) (columns_length value lp (n + 1) columns)
-    ∙ sym (sum_by-cons (λ (column : Column F). rows_of_bounds column.lower column.upper) column columns)
-
-length-range : (a n : ℕ) → length (range_with_len a n) ≡ n
-length-range a zero = refl
-length-range a (suc n) = ap suc (length-range (a + 1) n)
-
 pub form_in_order : {F : Type 0} (value : F → Number) (lp : Lp F) → IsWellFormed value lp → IsInForm (form.standard_form value lp)
 form_in_order {F} value lp formed =
-    let z = form.column_at (form.columns_of value lp) lp.objective in
-    let count : length (form.standard_form value lp).objective ≡ form.variables_of value lp = length-map (range_with_len 1 (form.variables_of value lp)) _ ∙ length-range 1 (form.variables_of value lp) in
-    let widths_are : form.variables_of value lp ≡ sum_by form.width (shifts_of value lp formed) = numbered_widths 1 (shifts_of value lp formed) in
-    let columns_are = widths value lp.columns in
-    let few = formed.columns_few in
-    let rows_few = formed.rows_few in
-    let rows_are = rows_length value lp 0 lp.rows in
-    let bounds_are = columns_length value lp 0 lp.columns in
-    let all = length-append (flat_map (λ (p : ℕ × Row F). form.rows_by_sense p.1.sense p.0 (form.shifted_row value lp p.0 p.1)) (enumerate_from 0 lp.rows)) (flat_map (λ (p : ℕ × Column F). form.bound_rows p.0 (form.column_at (form.columns_of value lp) p.0).0 (bound_value value p.1.lower) (bound_value value p.1.upper)) (enumerate_from 0 lp.columns)) in
-    let bound : 1 + sum_by form.width (shifts_of value lp formed) ≡ length (form.standard_form value lp).objective + 1 = omega arith in
+    let columns = form.columns_of value lp in
+    let count = count_is value lp formed in
+    let widths = variables_counted value lp in
+    let first = rows_over value columns 0 lp.rows in
+    let behind = bounds_over value columns 0 lp.columns in
+    let bound : 1 + sum_by form.width (shifts_of value lp formed) ≡ length (form.standard_form value lp).objective + 1 = omega (arith, count, widths) in
     record {
       rows = subst (λ n. All (λ (row : form.StandardRow). InOrder 1 n row.entries) (form.rows_of value lp)) bound (rows_ordered value lp formed);
-      rows_few = omega arith;
-      variables_few = omega arith;
+      rows_few = omega (arith, length-append first behind, rows_over_counted value columns 0 lp.rows, bounds_over_counted value columns 0 lp.columns, rows_few value lp formed);
+      variables_few = omega (arith, count, widths, variables_few value lp formed);
     }

@@ -5,9 +5,8 @@ use Rattle.lp_core.specs.declared.answer.Rule.TheVariants.{Legal}
 use Rattle.lp_core.specs.Ends.{IsUnlimited}
 use Rattle.lp_core.specs.Sums.{number_of}
 use Rattle.lp_core.specs.Dictionary.{Dictionary, InPhaseOne, OpeningIsDue, Improves}
-use Rattle.lp_core.specs.Pivots.{NothingImproves, last_along}
-use Rattle.lp_core.specs.declared.answer.EndKind.{EndKind}
-use Rattle.lp_core.specs.declared.answer.EndKind.TheVariants as kind
+use Rattle.lp_core.specs.StandardForm.{Last}
+use Rattle.lp_core.specs.Pivots.{NothingImproves, last_of, last_along}
 use Rattle.lp_exact.specs.declared.row.Entry.{Entry}
 use Rattle.lp_exact.specs.Rows.{number_in}
 
@@ -17,17 +16,10 @@ abbrev pub IsDone : Dictionary → Option ℕ → Type 0
 IsDone d None = NothingImproves d ⊎ (¬ (InPhaseOne d) × ¬ (OpeningIsDue d) × ((q : ℕ) × Improves d q))
 IsDone d (Some q) = ¬ (InPhaseOne d) × IsUnlimited Legal d q
 
--- how the walk ends
-abbrev pub EndsBy : Dictionary → Option ℕ → EndKind → Type 0
-EndsBy d enter kind.Optimal = ¬ (InPhaseOne d) × NothingImproves d × (enter ≡ None)
-EndsBy d enter kind.Infeasible = InPhaseOne d × NothingImproves d × (enter ≡ None)
-EndsBy d enter kind.Unbounded = ¬ (InPhaseOne d) × ((q : ℕ) × IsUnlimited Legal d q × (enter ≡ Some q))
-EndsBy d enter kind.Interrupted = ¬ (InPhaseOne d) × ¬ (OpeningIsDue d) × ((q : ℕ) × Improves d q) × (enter ≡ None)
-
--- the ray of this variable; without one an empty list
-abbrev pub RayIs : Dictionary → Option ℕ → List Number → Type 0
-RayIs d None changes = changes ≡ []
-RayIs d (Some q) changes = changes ≡ (last_along d q).changes
+-- what is read there: with the ray along which this variable rises, or with no ray
+abbrev pub last_with : Dictionary → Option ℕ → Last
+last_with d None = last_of d
+last_with d (Some q) = last_along d q
 
 module _ {F : Type 0} (value : F → Number) where
   -- so many zeros

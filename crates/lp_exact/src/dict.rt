@@ -1,8 +1,9 @@
 //! The dictionary and what is read from it.
-ghost use Rattle.std.specs.Prelude.{◌≡◌, ◌<◌, ◌≤◌, ◌+◌, ◌-◌, ◌^◌, ◌↔◌, ℕ, pos, min, List, map, slice_get, IsTrue, Some, Contains, MatchOption, IfOk, IfErr};
+ghost use Rattle.std.specs.Prelude.{◌≡◌, ◌<◌, ◌≤◌, ◌+◌, ◌↔◌, ℕ, pos, List, map, slice_get, IsTrue, Some, Contains, MatchOption, IfOk, IfErr};
 ghost use Rattle.gq_number.specs.Number.{Number, whole};
 ghost use Rattle.lp_core.specs.Sums.{number_of};
-ghost use Rattle.lp_core.specs.Dictionary.{constant_at, entry_at, OpeningIsDue, IsPriced, Improves, IsOpening, IsBland, IsLegal, Meets, first_dictionary, exchanged};
+ghost use Rattle.lp_core.specs.Dictionary.{basic_at, constant_at, entry_at, OpeningIsDue, IsPriced, Improves, IsLeast, IsOpening, IsLegal, Meets, first_dictionary, exchanged};
+ghost use Rattle.lp_core.specs.Counts.{counted};
 ghost use Rattle.lp_core.specs.Steps.{AllFit, ratio_steps, exchange_steps};
 ghost use Rattle.lp_core.specs.Pivots.{last_of};
 ghost use Rattle.lp_core.specs.LargestCoefficient.{HasGreatest};
@@ -15,7 +16,7 @@ ghost use Rattle.lp_exact.specs.Rows.{IsRow};
 ghost use Rattle.lp_exact.specs.Lines.{rows_of};
 ghost use Rattle.lp_exact.specs.Tableau.{tableau, dictionary, IsTableau, IsPlace};
 ghost use Rattle.lp_exact.specs.Pricing.{IsFirstAbove};
-ghost use Rattle.lp_exact.specs.Reading.{IsDone, RayIs};
+ghost use Rattle.lp_exact.specs.Reading.{IsDone, last_with};
 ghost use Rattle.lp_exact.specs.Pivots.{IsLeaving, IsLimit, StopsAt};
 
 use crate::choice::{is_above_zero, least_constant, least_ratio};
@@ -219,7 +220,7 @@ impl<F: ExactField> ExactDict<F> {
     /// constant, which is below 0, the least leaves.
     pub fn opening(&self) -> Option<Pivot>
         ensures { MatchOption result (¬ (OpeningIsDue (dictionary F.value self.now)))
-            (λ p. ((k : ℕ) × IsOpening (dictionary F.value self.now) p k) × IsBland (dictionary F.value self.now) p) }
+            (λ p. ((k : ℕ) × IsOpening (dictionary F.value self.now) p k) × ((i : ℕ) → IsLeast (dictionary F.value self.now) i → p.leave ≤ basic_at (dictionary F.value self.now) i)) }
     {
         match least_constant(self.rows.as_slice(), self.basic.as_slice()) {
             Some(candidate) => Some(Pivot {
@@ -293,7 +294,7 @@ impl<F: ExactField> ExactDict<F> {
         ensures of_form { IfOk result (λ after. (s : StandardNumbers) →
             IsDictionaryOf s (dictionary F.value self) → IsDictionaryOf s (dictionary F.value after)) }
         ensures not_due { IfOk result (λ after. ¬ (OpeningIsDue (dictionary F.value after))) }
-        ensures upcoming { IfOk result (λ after. after.upcoming ≡ min (self.upcoming + 1) (2 ^ 64 - 1)) }
+        ensures upcoming { IfOk result (λ after. after.upcoming ≡ counted (self.upcoming + 1)) }
         ensures limit { IfErr result (λ stop. (k : ℕ) → slice_get self.basic k ≡ Some p.leave →
             StopsAt (exchange_steps F.limit self.upcoming (dictionary F.value self) p.enter k) stop) }
     {
@@ -345,7 +346,7 @@ impl<F: ExactField> ExactDict<F> {
     /// The change of each variable where this one rises by 1; empty where there is none. The error is want of memory.
     pub fn ray(&self, alloc: Global, enter: Option<u32>) -> Result<Vec<F>, AllocError>
         requires { IsDone (dictionary F.value self.now) enter }
-        ensures { IfOk result (λ list. RayIs (dictionary F.value self.now) enter (map F.value list.items)) }
+        ensures { IfOk result (λ list. map F.value list.items ≡ (last_with (dictionary F.value self.now) enter).changes) }
     {
         let Some(enter) = enter else {
             return Ok(Vec::new(alloc));

@@ -8,7 +8,7 @@ use lp_std::Stop;
 use std::alloc::{AllocError, AllocFailed};
 
 /// Which of the two steps on a number does not fit.
-#[derive(Clone, Copy, Debug, PartialEq, Eq)]
+#[derive(Clone, Copy)]
 pub(crate) enum Part {
     /// A product or a quotient.
     Product,
@@ -29,7 +29,7 @@ impl Part {
 }
 
 /// Why a row was not made.
-#[derive(Debug, Drop)]
+#[derive(Drop)]
 pub(crate) enum RowFault {
     /// A step does not fit under the limit of the field: the first such one, at this column.
     Limit(u32, Part),
@@ -66,7 +66,7 @@ impl<T: Drop> From<AllocFailed<T>> for RowFault {
 }
 
 /// Why the rows of a dictionary were not exchanged.
-#[derive(Debug, Drop)]
+#[derive(Drop)]
 pub(crate) enum LineFault {
     /// A step does not fit: the first such one, in the row that has this place and at this column.
     Limit(usize, u32, Part),

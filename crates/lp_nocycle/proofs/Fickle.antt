@@ -168,7 +168,7 @@ module _ (m : ℕ) (at : ℕ → Dictionary) (pivot : ℕ → Pivot) (row : ℕ 
     -- a variable that improves at a is not below t
     improving_least : (v : ℕ) → v ≢ 0 → v ≤ (at a).variables → ¬ (Contains (at a).basic v) → whole (pos 0) <ℚ entry_at (at a) (Level.priced m at pivot row returns).0 v → (pivot a).enter ≤ v
     improving_least v other there none above =
-        (returns.runs.bland a less_a).enters v (returns.step a less_a).not_due
+        ((returns.runs.bland a less_a).enters (returns.step a less_a).not_due).1 v
         (record { other = other; there = there; not_basic = none; above = λ k p. subst (λ i. whole (pos 0) <ℚ entry_at (at a) i v) (priced_same k ((Level.priced m at pivot row returns).1 a (omega arith)) p) above })
       where
         priced_same : (k : ℕ) → IsPriced (at a) (Level.priced m at pivot row returns).0 → IsPriced (at a) k → (Level.priced m at pivot row returns).0 ≡ k

@@ -4,11 +4,11 @@ use Rattle.std.specs.Prelude.{◌^◌}
 use Rattle.std.proofs.lemmas.Bool.{cases_lt}
 use Rattle.gq_number.specs.Number.{Number}
 use Rattle.lp_core.specs.declared.answer.Pivot.{Pivot}
-use Rattle.lp_core.specs.Pivots.{ByRule, Leads}
+use Rattle.lp_core.specs.Pivots.{IsChosen, IsTaken, ByRule, Leads}
 use Rattle.lp_core.specs.declared.answer.Rule.TheVariants.{Bland}
 use Rattle.lp_core.specs.declared.program.Lp.{Lp}
 use Rattle.lp_core.specs.StandardForm.{standard_form}
-use Rattle.lp_core.specs.Dictionary.{Dictionary, IsLegal, IsBland, first_dictionary, exchanged}
+use Rattle.lp_core.specs.Dictionary.{Dictionary, IsLegal, first_dictionary, exchanged}
 use Rattle.lp_core.specs.Ends.{IsPhase}
 use Rattle.lp_core.specs.WellFormed.{IsWellFormed}
 use Rattle.lp_exact.specs.Pivots.{IsProper}
@@ -55,7 +55,7 @@ legal_at done [] d last f j less = absurd (omega arith)
 legal_at done (p ∷ pivots) d last f zero less = f.1.0
 legal_at done (p ∷ pivots) d last f (suc j) less = legal_at (done ++ p ∷ []) pivots (exchanged d p.enter f.0) last f.2 j (omega arith)
 
-bland_at : (done pivots : List Pivot) (d last : Dictionary) (f : Leads (ByRule Bland) done d pivots last) (j : ℕ) → j < length pivots → IsBland (dictionary_at done pivots d last f j) (pivot_at pivots j)
+bland_at : (done pivots : List Pivot) (d last : Dictionary) (f : Leads (ByRule Bland) done d pivots last) (j : ℕ) → j < length pivots → IsTaken (IsChosen Bland (dictionary_at done pivots d last f j)) (dictionary_at done pivots d last f j) (pivot_at pivots j)
 unfolding dictionary_at pivot_at
 bland_at done [] d last f j less = absurd (omega arith)
 bland_at done (p ∷ pivots) d last f zero less = f.1.1

@@ -2,7 +2,9 @@
 use Rattle.std.proofs.Common.{◌≡◌, ◌≢◌, ℕ, zero, suc, ◌<◌, ◌≤◌, ◌⊎◌, inl, inr, length, Some, refl, sym, ap, ◌∙◌, subst, arith}
 use Rattle.std.specs.Prelude.{slice_get, Contains}
 use Rattle.lp_core.specs.declared.answer.Pivot.{Pivot}
-use Rattle.lp_core.specs.Dictionary.{Dictionary, OpeningIsDue, IsLegal, IsBland, exchanged}
+use Rattle.lp_core.specs.declared.answer.Rule.TheVariants.{Bland}
+use Rattle.lp_core.specs.Dictionary.{Dictionary, OpeningIsDue, IsLegal, exchanged}
+use Rattle.lp_core.specs.Pivots.{IsChosen, IsTaken}
 use Rattle.lp_exact.specs.Pivots.{IsProper}
 use Rattle.lp_exact.proofs.Kept.{contains_get}
 use Rattle.lp_exact.proofs.Improving.{same_or_not}
@@ -82,7 +84,7 @@ module _ (d : Dictionary) (p : Pivot) (k : ℕ) (proper : IsProper d) (legal : I
 pub record IsRun (m : ℕ) (at : ℕ → Dictionary) (pivot : ℕ → Pivot) (row : ℕ → ℕ) : Type 0 where
   pub proper : IsProper (at 0)
   pub legal : (j : ℕ) → j < m → IsLegal (at j) (pivot j) (row j)
-  pub bland : (j : ℕ) → j < m → IsBland (at j) (pivot j)
+  pub bland : (j : ℕ) → j < m → IsTaken (IsChosen Bland (at j)) (at j) (pivot j)
   pub next : (j : ℕ) → j < m → at (suc j) ≡ exchanged (at j) (pivot j).enter (row j)
 
 -- what a step keeps holds from a place on

@@ -34,7 +34,6 @@ use Rattle.lp_std.specs.Meaning.{shift_value}
 use Rattle.lp_std.specs.Pieces.{rows_over, bounds_over}
 use Rattle.lp_std.specs.Last.{IsDictionaryOf}
 use Rattle.lp_std.proofs.Proved.{rows_over_counted}
-use Rattle.lp_std.proofs.Recovers.{count_is_sum}
 use Rattle.lp_std.proofs.Ends.{count_is}
 use Rattle.lp_std.proofs.Sums.{All-append_right}
 use Rattle.lp_exact.specs.Pivots.{IsProper}
@@ -143,15 +142,9 @@ module _ (limit : ℕ) (d : Dictionary) (v k : ℕ) (x y : Number) (first : x �
 
 -- ---- rows
 
-pub same_count : (s : Sense) → rows_of_sense s ≡ rows_of_sense s
-same_count sense.E = refl
-same_count sense.L = refl
-same_count sense.G = refl
-same_count sense.N = refl
-
 module _ {F : Type 0} (value : F → Number) (limit : ℕ) (d : Dictionary) (rows : List (Row F)) (i : ℕ) (row : Row F) (here : i < length rows) (is : row ≡ get_or rows i row) where
   pub rows_left : count_of_rows (drop i rows) ≡ rows_of_sense row.sense + count_of_rows (drop (i + 1) rows)
-  rows_left = ap count_of_rows (drop_item rows i row here is)
+  rows_left = ap count_of_rows (drop_item rows i row here is) ∙ sum_by-cons (λ (row : Row F). rows_of_sense row.sense) row (drop (i + 1) rows)
 
   pub spans_go : (made : List (Option (Interval F))) (o : Option (Interval F)) (v : ℕ) → span_value value o ≡ span limit (value row.right) (right_gains limit d row.sense v) → map (span_value value) (made ++ o ∷ []) ++ right_spans limit d value (v + rows_of_sense row.sense) (drop (i + 1) rows) ≡ map (span_value value) made ++ right_spans limit d value v (drop i rows)
   spans_go made o v o_is =
@@ -171,7 +164,7 @@ module _ {F : Type 0} (value : F → Number) (lp : Lp F) (formed : IsWellFormed 
   slack_room =
       let first = rows_over value (form.columns_of value lp) 0 lp.rows in
       let behind = bounds_over value (form.columns_of value lp) 0 lp.columns in
-      omega (arith, is.variables, count_is value lp formed, length-append first behind, rows_over_counted value (form.columns_of value lp) 0 lp.rows, count_is_sum lp.rows)
+      omega (arith, is.variables, count_is value lp formed, length-append first behind, rows_over_counted value (form.columns_of value lp) 0 lp.rows)
 
 -- an element that is read is that of its place
 pub item_is : {X : Type 0} (xs : List X) (i : ℕ) (d : X) → i < length xs → get_or xs i d ≡ get_or xs i (get_or xs i d)

@@ -4,6 +4,7 @@ use Rattle.std.specs.Prelude.{slice_get, slice_index_or}
 use Rattle.std.specs.List.{range_with_len}
 use Rattle.std.proofs.lemmas.List.{length-append}
 use Rattle.gq_number.specs.Number.{Number, whole, ◌+ℚ◌, ◌-ℚ◌, ◌*ℚ◌, neg_ℚ}
+use Rattle.std.proofs.lemmas.List.Sums.{sum_by-cons}
 use Rattle.gq_number.specs.Sums.{sum_by_ℚ}
 use Rattle.gq_number.proofs.Ring.{ring_ℚ, *ℚ-zero}
 use Rattle.gq_number.proofs.Field.{*ℚ_comm}
@@ -22,7 +23,6 @@ use Rattle.lp_std.specs.Pieces.{shifted_over, rows_over, bounds_over}
 use Rattle.lp_std.proofs.RowSteps.{counted_by_sense}
 use Rattle.lp_std.proofs.Sums.{unit_at, unit_here, unit_there, range_unit}
 use Rattle.lp_std.proofs.Proved.{rows_over_counted}
-use Rattle.lp_std.proofs.Recovers.{count_is_sum}
 use Rattle.lp_std.proofs.Ends.{count_is}
 use Rattle.lp_range.specs.Moved.{itself, rows_with_right, with_right}
 use Rattle.lp_range.specs.Ranges.{right_gain}
@@ -63,14 +63,18 @@ slack_low v i [] = omega arith
 slack_low v zero (row ∷ rows) = omega arith
 slack_low v (suc i) (row ∷ rows) = omega (arith, slack_low (v + rows_of_sense row.sense) i rows)
 
+counted : {F : Type 0} (row : Row F) (rows : List (Row F)) → count_of_rows (row ∷ rows) ≡ rows_of_sense row.sense + count_of_rows rows
+counted {F} row rows = sum_by-cons (λ (r : Row F). rows_of_sense r.sense) row rows
+
 pub slack_high : {F : Type 0} (v i : ℕ) (rows : List (Row F)) (row : Row F) → slice_get rows i ≡ Some row → slack_at v i rows + rows_of_sense row.sense ≤ v + count_of_rows rows
 slack_high v i [] row at = absurd (cc)
 slack_high {F} v zero (x ∷ rows) row at =
     let same : x ≡ row = cc in
-    subst (λ (r : Row F). v + rows_of_sense r.sense ≤ v + (rows_of_sense x.sense + count_of_rows rows)) same (omega arith)
+    let first : rows_of_sense x.sense ≡ rows_of_sense row.sense = ap (λ (r : Row F). rows_of_sense r.sense) same in
+    omega (arith, first, counted x rows)
 slack_high v (suc i) (x ∷ rows) row at =
     let rest = slack_high (v + rows_of_sense x.sense) i rows row at in
-    omega (arith, rest)
+    omega (arith, rest, counted x rows)
 
 -- ---- rows of the standard form, one by one
 
@@ -185,7 +189,7 @@ module _ (lp : Lp Number) (formed : IsWellFormed itself lp) (i : ℕ) (row : Row
       let v = form.variables_of itself lp + 1 in
       let first = rows_over itself (form.columns_of itself lp) 0 lp.rows in
       let behind = bounds_over itself (form.columns_of itself lp) 0 lp.columns in
-      let count : length (rows_over itself (form.columns_of itself lp) 0 lp.rows) ≡ count_of_rows lp.rows = rows_over_counted itself (form.columns_of itself lp) 0 lp.rows ∙ sym (count_is_sum lp.rows) in
+      let count : length (rows_over itself (form.columns_of itself lp) 0 lp.rows) ≡ count_of_rows lp.rows = rows_over_counted itself (form.columns_of itself lp) 0 lp.rows in
       let high = slack_high (form.variables_of itself lp + 1) i lp.rows row at in
       moved_append push v first behind (rows_over itself columns 0 (rows_with_right i right lp.rows)) behind (rows_moved columns right v i 0 lp.rows row at)
       (unmoved push (v + length first) behind (λ w low less. push_past row.sense slack (right -ℚ row.right) w (omega (arith, high, count, low))))
@@ -194,7 +198,7 @@ module _ (lp : Lp Number) (formed : IsWellFormed itself lp) (i : ℕ) (row : Row
   rows_room =
       let first = rows_over itself (form.columns_of itself lp) 0 lp.rows in
       let behind = bounds_over itself (form.columns_of itself lp) 0 lp.columns in
-      omega (arith, length-append first behind, rows_over_counted itself (form.columns_of itself lp) 0 lp.rows, count_is_sum lp.rows)
+      omega (arith, length-append first behind, rows_over_counted itself (form.columns_of itself lp) 0 lp.rows)
 
   pub form_is_moved : IsMovedForm push (form.standard_form itself lp) (form.standard_form itself (with_right i right lp))
   form_is_moved =

@@ -1,5 +1,6 @@
 //! From a program and its pivots to the last dictionary.
-ghost use Rattle.std.specs.Prelude.{◌≡◌, ◌+◌, ◌-◌, ◌^◌, ℕ, [], min, slice_get, Some, IfOk};
+ghost use Rattle.std.specs.Prelude.{◌≡◌, ◌+◌, ℕ, [], slice_get, Some, IfOk};
+ghost use Rattle.lp_core.specs.Counts.{counted};
 ghost use Rattle.lp_core.specs.Dictionary.{Dictionary, IsLegal, exchanged, first_dictionary};
 ghost use Rattle.lp_core.specs.Proofs.{FirstCrossed};
 ghost use Rattle.lp_core.specs.Pivots.{ByRule, LeadsWithin};
@@ -38,7 +39,7 @@ fn after<F: ExactField>(alloc: Global, dict: Dict<F>, pivot: Pivot) -> Result<Di
     requires { (k : ℕ) × IsLegal (dictionary F.value dict) pivot k × AllFit (exchange_steps F.limit dict.upcoming (dictionary F.value dict) pivot.enter k) }
     ensures exchanged { IfOk result (λ made. (k : ℕ) → slice_get dict.basic k ≡ Some pivot.leave → dictionary F.value made ≡ exchanged (dictionary F.value dict) pivot.enter k) }
     ensures of_form { IfOk result (λ made. (s : StandardNumbers) → IsDictionaryOf s (dictionary F.value dict) → IsDictionaryOf s (dictionary F.value made)) }
-    ensures upcoming { IfOk result (λ made. made.upcoming ≡ min (dict.upcoming + 1) (2 ^ 64 - 1)) }
+    ensures upcoming { IfOk result (λ made. made.upcoming ≡ counted (dict.upcoming + 1)) }
 {
     match dict.pivot(alloc, pivot) {
         Ok(made) => Ok(made),

@@ -1,6 +1,6 @@
 //! A solver of linear programs, as a run sees it.
-ghost use Rattle.std.specs.Prelude.{◌≡◌, ◌-◌, ◌^◌, ◌∷◌, ◌++◌, ℕ, List, [], IfOk, OnErr};
-ghost use Rattle.gq_frac.specs.Frac.{frac_value};
+ghost use Rattle.std.specs.Prelude.{◌≡◌, ◌∷◌, ◌++◌, ℕ, List, [], IfOk, OnErr};
+ghost use Rattle.gq_frac.specs.Frac.{frac_limit, frac_value};
 ghost use Rattle.lp_core.specs.declared.answer.Pivot.{Pivot};
 ghost use Rattle.lp_core.specs.declared.answer.Rule.{Rule};
 ghost use Rattle.lp_core.specs.Answers.{IsAnswer};
@@ -50,7 +50,7 @@ pub trait LpSolver: Drop {
         iterlim: u64,
     ) -> Result<Answer<Frac>, AllocError>
         requires { IsWellFormed frac_value lp.now }
-        ensures answers { IfOk result (IsAnswer frac_value (2 ^ 127 - 1) lp.now iterlim (rule self.old)) }
+        ensures answers { IfOk result (IsAnswer frac_value frac_limit lp.now iterlim (rule self.old)) }
         ensures paths { IfOk result (λ answer. paths self.new ≡ paths self.old ++ answer.pivots ∷ []) }
         ensures name { name self.new ≡ name self.old }
         ensures rule { rule self.new ≡ rule self.old }

@@ -32,12 +32,11 @@ use Rattle.lp_std.proofs.Stops.{all_fit, stops_first}
 use Rattle.lp_std.proofs.BoundSteps.{counted_by_bounds}
 use Rattle.lp_std.proofs.Shapes.{widths_of_shifts, widths-numbered, variables_counted, variables_few, rows_few}
 use Rattle.lp_std.proofs.Proved.{rows_over_counted}
-use Rattle.lp_std.proofs.Recovers.{count_is_sum}
 use Rattle.lp_std.proofs.Ends.{count_is, proved_at}
 
 -- ---- sizes
 
-bounds_over_counted : {F : Type 0} (value : F → Number) (columns : List (ℕ × form.Shift)) (j : ℕ) (bounded : List (Column F)) → length (bounds_over value columns j bounded) ≡ sum_by (λ (column : Column F). form.rows_of_bounds column.lower column.upper) bounded
+pub bounds_over_counted : {F : Type 0} (value : F → Number) (columns : List (ℕ × form.Shift)) (j : ℕ) (bounded : List (Column F)) → length (bounds_over value columns j bounded) ≡ sum_by (λ (column : Column F). form.rows_of_bounds column.lower column.upper) bounded
 bounds_over_counted value columns j [] = refl
 bounds_over_counted {F} value columns j (column ∷ bounded) =
     length-append (form.bound_rows j (form.column_at columns j).0 (bound_value value column.lower) (bound_value value column.upper)) (bounds_over value columns (j + 1) bounded)
@@ -58,7 +57,7 @@ module _ {F : Type 0} (value : F → Number) (lp : Lp F) (formed : IsWellFormed 
   all_counted : length (form.rows_of value lp) ≡ count_of_rows lp.rows + sum_by (λ (column : Column F). form.rows_of_bounds column.lower column.upper) lp.columns
   all_counted =
       length-append (rows_over value (form.columns_of value lp) 0 lp.rows) (bounds_over value (form.columns_of value lp) 0 lp.columns)
-      ∙ ap₂ (λ a b. a + b) (rows_over_counted value (form.columns_of value lp) 0 lp.rows ∙ sym (count_is_sum lp.rows)) (bounds_over_counted value (form.columns_of value lp) 0 lp.columns)
+      ∙ ap₂ (λ a b. a + b) (rows_over_counted value (form.columns_of value lp) 0 lp.rows) (bounds_over_counted value (form.columns_of value lp) 0 lp.columns)
 
   -- the form's own counts
   pub form_counted : length s.objective + length s.rows ≡ form.variables_of value lp + (count_of_rows lp.rows + sum_by (λ (column : Column F). form.rows_of_bounds column.lower column.upper) lp.columns)

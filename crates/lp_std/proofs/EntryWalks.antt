@@ -66,7 +66,7 @@ module _ {F : Type 0} (value : F → Number) (limit : ℕ) (p : ℕ → Number) 
       ∙ sym (ap (λ xs. map value made ++ map (form.directed b) (form.duals_from p r xs)) (drop_item rows i row here is))
 
   pub count_here : count_of_rows (drop i rows) ≡ form.rows_of_sense row.sense + count_of_rows (drop (i + 1) rows)
-  count_here = ap count_of_rows (drop_item rows i row here is)
+  count_here = ap count_of_rows (drop_item rows i row here is) ∙ sum_by-cons (λ (row : Row F). form.rows_of_sense row.sense) row (drop (i + 1) rows)
 
 pub duals_end : {F : Type 0} (value : F → Number) (p : ℕ → Number) (b : Bool) (rows : List (Row F)) (i r : ℕ) (made : List F) → length rows ≤ i → map value made ≡ map value made ++ map (form.directed b) (form.duals_from p r (drop i rows))
 duals_end value p b rows i r made end = sym (append-nil (map value made)) ∙ sym (ap (λ xs. map value made ++ map (form.directed b) (form.duals_from p r xs)) (drop_all i rows end))

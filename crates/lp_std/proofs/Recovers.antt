@@ -117,16 +117,11 @@ duals_are {F} value limit b n m rows all costs given slacks r rows_are given_is 
     (subst (λ rs. ComputesAll value (dual_steps limit (form.multiplier n (map value costs)) 0 0 rs) (map (form.directed b) (form.duals_from (form.multiplier n (map value costs)) 0 rs)) r) rows_are
     (subst (λ q. ComputesAll value (dual_steps limit q 0 0 rows) (map (form.directed b) (form.duals_from q 0 rows)) r) p h))
 
-pub count_is_sum : {F : Type 0} (rows : List (Row F)) → count_of_rows rows ≡ sum_by (λ (row : Row F). form.rows_of_sense row.sense) rows
-count_is_sum [] = refl
-count_is_sum {F} (row ∷ rows) = ap (λ n. form.rows_of_sense row.sense + n) (count_is_sum rows) ∙ sym (sum_by-cons (λ (row : Row F). form.rows_of_sense row.sense) row rows)
-
-pub reduced_are_back : {F : Type 0} (value : F → Number) (limit : ℕ) (lp : Lp F) (columns : List (ℕ × Shift F)) (numbered : placed_value value columns ≡ form.columns_of value lp) (n : ℕ) (bounded : List (Column F)) (costs given slacks : List F) (first : ℕ) (r : Result (Vec F Global) Stop) → bounded ≡ lp.columns → given ≡ costs → slacks ≡ drop (n + 1) given → n ≡ form.variables_of value lp → first ≡ count_of_rows lp.rows → ComputesAll value (reduced_steps limit (map value given) (slack_multiplier value slacks) 0 first (placed_value value columns) bounded) (map (form.directed lp.maximize) (form.reduced_from (map value given) (slack_multiplier value slacks) first (placed_value value columns) bounded)) r → ComputesAll value (reduced_steps limit (map value costs) (form.multiplier (form.variables_of value lp) (map value costs)) 0 (count_of_rows lp.rows) (form.columns_of value lp) lp.columns) (map (form.directed lp.maximize) (form.reduced_from (map value costs) (form.multiplier (form.variables_of value lp) (map value costs)) (sum_by (λ (row : Row F). form.rows_of_sense row.sense) lp.rows) (form.columns_of value lp) lp.columns)) r
+pub reduced_are_back : {F : Type 0} (value : F → Number) (limit : ℕ) (lp : Lp F) (columns : List (ℕ × Shift F)) (numbered : placed_value value columns ≡ form.columns_of value lp) (n : ℕ) (bounded : List (Column F)) (costs given slacks : List F) (first : ℕ) (r : Result (Vec F Global) Stop) → bounded ≡ lp.columns → given ≡ costs → slacks ≡ drop (n + 1) given → n ≡ form.variables_of value lp → first ≡ count_of_rows lp.rows → ComputesAll value (reduced_steps limit (map value given) (slack_multiplier value slacks) 0 first (placed_value value columns) bounded) (map (form.directed lp.maximize) (form.reduced_from (map value given) (slack_multiplier value slacks) first (placed_value value columns) bounded)) r → ComputesAll value (reduced_steps limit (map value costs) (form.multiplier (form.variables_of value lp) (map value costs)) 0 (count_of_rows lp.rows) (form.columns_of value lp) lp.columns) (map (form.directed lp.maximize) (form.reduced_from (map value costs) (form.multiplier (form.variables_of value lp) (map value costs)) (count_of_rows lp.rows) (form.columns_of value lp) lp.columns)) r
 reduced_are_back {F} value limit lp columns numbered n bounded costs given slacks first r bounded_are given_is is same first_is h =
     let p : slack_multiplier value slacks ≡ form.multiplier (form.variables_of value lp) (map value costs) = slacks_are value n given slacks is ∙ ap₂ (λ xs k. form.multiplier k (map value xs)) given_is same in
-    subst (λ k. ComputesAll value (reduced_steps limit (map value costs) (form.multiplier (form.variables_of value lp) (map value costs)) 0 (count_of_rows lp.rows) (form.columns_of value lp) lp.columns) (map (form.directed lp.maximize) (form.reduced_from (map value costs) (form.multiplier (form.variables_of value lp) (map value costs)) k (form.columns_of value lp) lp.columns)) r) (count_is_sum lp.rows)
-    (subst (λ k. ComputesAll value (reduced_steps limit (map value costs) (form.multiplier (form.variables_of value lp) (map value costs)) 0 k (form.columns_of value lp) lp.columns) (map (form.directed lp.maximize) (form.reduced_from (map value costs) (form.multiplier (form.variables_of value lp) (map value costs)) k (form.columns_of value lp) lp.columns)) r) first_is
+    subst (λ k. ComputesAll value (reduced_steps limit (map value costs) (form.multiplier (form.variables_of value lp) (map value costs)) 0 k (form.columns_of value lp) lp.columns) (map (form.directed lp.maximize) (form.reduced_from (map value costs) (form.multiplier (form.variables_of value lp) (map value costs)) k (form.columns_of value lp) lp.columns)) r) first_is
     (subst (λ bs. ComputesAll value (reduced_steps limit (map value costs) (form.multiplier (form.variables_of value lp) (map value costs)) 0 first (form.columns_of value lp) bs) (map (form.directed lp.maximize) (form.reduced_from (map value costs) (form.multiplier (form.variables_of value lp) (map value costs)) first (form.columns_of value lp) bs)) r) bounded_are
     (subst (λ cs. ComputesAll value (reduced_steps limit (map value costs) (form.multiplier (form.variables_of value lp) (map value costs)) 0 first cs bounded) (map (form.directed lp.maximize) (form.reduced_from (map value costs) (form.multiplier (form.variables_of value lp) (map value costs)) first cs bounded)) r) numbered
     (subst (λ q. ComputesAll value (reduced_steps limit (map value costs) q 0 first (placed_value value columns) bounded) (map (form.directed lp.maximize) (form.reduced_from (map value costs) q first (placed_value value columns) bounded)) r) p
-    (subst (λ xs. ComputesAll value (reduced_steps limit (map value xs) (slack_multiplier value slacks) 0 first (placed_value value columns) bounded) (map (form.directed lp.maximize) (form.reduced_from (map value xs) (slack_multiplier value slacks) first (placed_value value columns) bounded)) r) given_is h)))))
+    (subst (λ xs. ComputesAll value (reduced_steps limit (map value xs) (slack_multiplier value slacks) 0 first (placed_value value columns) bounded) (map (form.directed lp.maximize) (form.reduced_from (map value xs) (slack_multiplier value slacks) first (placed_value value columns) bounded)) r) given_is h))))

@@ -1,6 +1,7 @@
 -- Rows of the standard form, as the code makes them one by one.
 use Rattle.std.proofs.Common.{◌≡◌, ℕ, ◌+◌, ◌<◌, List, [], ◌∷◌, ◌++◌, length, map, get_or, drop, Some, None, refl, sym, ap, ap₂, ◌∙◌, subst, append_assoc}
 use Rattle.std.proofs.lemmas.List.{length-map, length-append, get_or_default}
+use Rattle.std.proofs.lemmas.List.Sums.{sum_by-cons}
 use Rattle.std.proofs.lemmas.Option.{slice_get-get_or}
 use Rattle.std.specs.Prelude.{slice_get}
 use Rattle.std.specs.List.{AllWithin}
@@ -68,7 +69,7 @@ module _ {F : Type 0} (value : F → Number) (limit : ℕ) (columns : List (ℕ 
       ∙ stop_behind (sense_steps value limit columns r row) (rows_steps value limit columns (r + form.rows_of_sense row.sense) (drop (i + 1) rows)) h
 
   pub count_here : count_of_rows (drop i rows) ≡ form.rows_of_sense row.sense + count_of_rows (drop (i + 1) rows)
-  count_here = ap count_of_rows (drop_item rows i row here is)
+  count_here = ap count_of_rows (drop_item rows i row here is) ∙ sum_by-cons (λ (row : Row F). form.rows_of_sense row.sense) row (drop (i + 1) rows)
 
   module _ (old new : List (StdRow F)) (h : map (row_value value) new ≡ map (row_value value) old ++ form.rows_by_sense row.sense i (shifted_over value columns i row)) where
     pub new_length : length new ≡ length old + form.rows_of_sense row.sense

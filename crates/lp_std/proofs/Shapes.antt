@@ -81,32 +81,6 @@ columns_counted value [] = omega arith
 columns_counted value (column ∷ columns) =
     omega (arith, columns_counted value columns, width_above (shift_for value column), sum_by-cons form.width (shift_for value column) (map (shift_for value) columns))
 
--- ---- rows
-
-same_rows_of_bounds : {F : Type 0} (lower upper : Option F) → form.rows_of_bounds lower upper ≡ rows_of_bounds lower upper
-same_rows_of_bounds (Some l) (Some u) = refl
-same_rows_of_bounds (Some l) None = refl
-same_rows_of_bounds None (Some u) = refl
-same_rows_of_bounds None None = refl
-
-same_rows_of_sense : (s : Sense) → form.rows_of_sense s ≡ rows_of_sense s
-same_rows_of_sense sense.E = refl
-same_rows_of_sense sense.L = refl
-same_rows_of_sense sense.G = refl
-same_rows_of_sense sense.N = refl
-
-rows_counted : {F : Type 0} (rows : List (Row F)) → count_of_rows rows ≡ sum_by (λ (row : Row F). rows_of_sense row.sense) rows
-rows_counted [] = refl
-rows_counted {F} (row ∷ rows) =
-    ap₂ (λ a b. a + b) (same_rows_of_sense row.sense) (rows_counted rows) ∙ sym (sum_by-cons (λ (row : Row F). rows_of_sense row.sense) row rows)
-
-bounds_counted : {F : Type 0} (columns : List (Column F)) → sum_by (λ (column : Column F). form.rows_of_bounds column.lower column.upper) columns ≡ sum_by (λ (column : Column F). rows_of_bounds column.lower column.upper) columns
-bounds_counted [] = refl
-bounds_counted {F} (column ∷ columns) =
-    sum_by-cons (λ (column : Column F). form.rows_of_bounds column.lower column.upper) column columns
-    ∙ ap₂ (λ a b. a + b) (same_rows_of_bounds column.lower column.upper) (bounds_counted columns)
-    ∙ sym (sum_by-cons (λ (column : Column F). rows_of_bounds column.lower column.upper) column columns)
-
 -- ---- a well-formed program
 
 module _ {F : Type 0} (value : F → Number) (lp : Lp F) where
@@ -118,7 +92,7 @@ module _ {F : Type 0} (value : F → Number) (lp : Lp F) where
   columns_few formed = omega (arith, columns_counted value lp.columns, widths_by_bounds value lp.columns, formed.columns_few)
 
   pub rows_few : IsWellFormed value lp → count_of_rows lp.rows + own_rows ≤ 1500
-  rows_few formed = omega (arith, rows_counted lp.rows, bounds_counted lp.columns, formed.rows_few)
+  rows_few formed = formed.rows_few
 
   -- the variables of the columns' shifts
   pub variables_few : IsWellFormed value lp → sum_by form.width (map (shift_for value) lp.columns) ≤ 3000

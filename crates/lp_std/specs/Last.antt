@@ -38,10 +38,6 @@ abbrev pub IsReadAt : Dictionary → EndKind → form.Last → Type 0
 IsReadAt d kind last = EndsAt (Improves d) ((q : ℕ) × Improves d q) d kind last
 
 module _ {F : Type 0} (value : F → Number) where
-  -- what is read from this dictionary at its end
-  abbrev pub IsReadFrom : Dictionary → Final F → Type 0
-  IsReadFrom d final = IsReadAt d final.kind (last_value value final)
-
   -- what is read from a last dictionary of this standard form
   abbrev pub IsLast : Standard F → Final F → Type 0
-  IsLast s final = (d : Dictionary) × IsDictionaryOf (standard_value value s) d × IsReadFrom d final
+  IsLast s final = (d : Dictionary) × IsDictionaryOf (standard_value value s) d × IsReadAt d final.kind (last_value value final)

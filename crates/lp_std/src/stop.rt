@@ -6,7 +6,7 @@ use lp_core::StepName;
 use std::alloc::{AllocError, AllocFailed};
 
 /// Why there is no standard form, or no way back.
-#[derive(Clone, Copy, Debug, PartialEq, Eq)]
+#[derive(Clone, Copy)]
 pub enum Stop {
     /// This step does not fit under the limit of the field, and all before it fit.
     Limit(StepName),

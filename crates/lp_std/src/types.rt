@@ -2,7 +2,7 @@
 use lp_core::{EndKind, Sequence};
 
 /// How a column of a program is told by variables that are at least 0.
-#[derive(Clone, Copy, Debug)]
+#[derive(Clone, Copy)]
 pub enum Shift<F> {
     /// The column is this lower bound plus its variable.
     Lower(F),
@@ -13,7 +13,7 @@ pub enum Shift<F> {
 }
 
 /// Where a row of a standard form comes from; places count from 0.
-#[derive(Clone, Copy, Debug, PartialEq, Eq)]
+#[derive(Clone, Copy)]
 pub enum Origin {
     /// The row of the program at this place.
     Row(u64),

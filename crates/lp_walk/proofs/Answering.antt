@@ -5,7 +5,7 @@ use Rattle.std.specs.declared.alloc.AllocError.{AllocError}
 use Rattle.gq_number.specs.Number.{Number}
 use Rattle.lp_core.specs.declared.answer.Pivot.{Pivot}
 use Rattle.lp_core.specs.Pivots.{ByChoice, LeadsWithin}
-use Rattle.lp_core.specs.Ends.{IsPhase, EndsSoBy}
+use Rattle.lp_core.specs.Ends.{IsPhase, LeadsTo, EndsSoBy}
 use Rattle.lp_core.specs.declared.answer.Rule.TheVariants.{Legal}
 use Rattle.lp_core.specs.declared.answer.StepName.{StepName}
 use Rattle.lp_core.specs.declared.answer.End.{End}
@@ -14,22 +14,22 @@ use Rattle.lp_core.specs.declared.answer.Answer.{Answer}
 use Rattle.lp_core.specs.declared.program.Lp.{Lp}
 use Rattle.lp_core.specs.StandardForm.{Standard, Last, standard_form}
 use Rattle.lp_core.specs.Dictionary.{Dictionary, Improves, first_dictionary}
-use Rattle.lp_core.specs.Steps.{AllFit, standard_steps}
+use Rattle.lp_core.specs.Steps.{AllFit, standard_steps, steps_back}
 use Rattle.lp_core.specs.WellFormed.{IsWellFormed}
-use Rattle.lp_core.specs.Proofs.{FirstCrossed}
+use Rattle.lp_core.specs.Proofs.{FirstCrossed, IsProved}
 use Rattle.lp_core.specs.Answers.{IsAnswer, IsAnswerByChoice}
 use Rattle.lp_core.specs.declared.answer.EndKind.{EndKind}
 use Rattle.lp_std.specs.declared.stop.Stop.{Stop}
 use Rattle.lp_std.specs.declared.stop.Stop.TheVariants as stops
 use Rattle.lp_std.specs.Last.{IsReadAt}
 use Rattle.lp_std.specs.Back.{HasNoWayBack}
-use Rattle.lp_exact.specs.Reading.{EndsBy, RayIs}
+use Rattle.lp_exact.specs.Reading.{last_with}
 use Rattle.lp_walk.specs.declared.walk.Walk.{Walk}
 use Rattle.lp_walk.specs.Walks.{IsWalk}
 use Rattle.lp_walk.specs.Ends.{IsLedBack, IsBrokenOff, EndsHalted}
 use Rattle.lp_exact.specs.Pivots.{IsProper}
 use Rattle.lp_walk.proofs.Ending.{halted_so}
-use Rattle.lp_walk.proofs.Rules.{legal_answer}
+use Rattle.lp_core.proofs.Rules.{legal_answer}
 use Rattle.lp_walk.proofs.Standing.{first_stands}
 
 -- ---- the way back
@@ -37,11 +37,16 @@ use Rattle.lp_walk.proofs.Standing.{first_stands}
 pub never_crossed : {F : Type 0} (value : F → Number) (limit : ℕ) (lp : Lp F) (k : EndKind) (last : Last) (s : Stop) → HasNoWayBack value limit lp k last s → (j : ℕ) → s ≢ stops.Crossed j
 never_crossed value limit lp k last s h j e = subst (HasNoWayBack value limit lp k last) e h
 
-pub led_back_stopped : {F : Type 0} (value : F → Number) (limit : ℕ) (lp : Lp F) (d : Dictionary) (enter : Option ℕ) (k : EndKind) (last : Last) (s : Stop) → EndsBy d enter k → IsReadAt d k last → RayIs d enter last.changes → HasNoWayBack value limit lp k last s
+-- what the way back gives from what is read there
+pub led_back_given : {F : Type 0} (value : F → Number) (limit : ℕ) (lp : Lp F) (d : Dictionary) (enter : Option ℕ) (k : EndKind) (last : Last) (end : End F) → IsReadAt d k (last_with d enter) → last ≡ last_with d enter → LeadsTo value lp k last end × AllFit (steps_back value limit lp k last) × IsProved value lp end → IsLedBack value limit lp d enter end
+led_back_given value limit lp d enter k last end read is given =
+    record { kind = k; read = read; gives = inl (subst (λ l. LeadsTo value lp k l end × AllFit (steps_back value limit lp k l) × IsProved value lp end) is given) }
+
+pub led_back_stopped : {F : Type 0} (value : F → Number) (limit : ℕ) (lp : Lp F) (d : Dictionary) (enter : Option ℕ) (k : EndKind) (last : Last) (s : Stop) → IsReadAt d k (last_with d enter) → last ≡ last_with d enter → HasNoWayBack value limit lp k last s
     → (r : Result (End F) AllocError) → IfOk r (λ end. (step : StepName) × (s ≡ stops.Limit step) × (end ≡ Refused step)) → IfOk r (IsLedBack value limit lp d enter)
-led_back_stopped value limit lp d enter k last s by read ray none (Ok end) h =
-    record { kind = k; last = last; ends_by = by; read = read; ray = ray; gives = inr (h.0, h.2, subst (HasNoWayBack value limit lp k last) h.1 none) }
-led_back_stopped value limit lp d enter k last s by read ray none (Err e) h = tt
+led_back_stopped value limit lp d enter k last s read is none (Ok end) h =
+    record { kind = k; read = read; gives = inr (h.0, h.2, subst (λ l. HasNoWayBack value limit lp k l (stops.Limit h.0)) is (subst (HasNoWayBack value limit lp k last) h.1 none)) }
+led_back_stopped value limit lp d enter k last s read is none (Err e) h = tt
 
 pub phase_one : (d : Dictionary) (n : ℕ) → IsPhase d n → n ≢ 2 → IsPhase d 1
 phase_one d n (inl one) other = inl (refl, one.1)

@@ -1,17 +1,18 @@
 -- An end that is led back from a last dictionary is the end of the search.
-use Rattle.std.proofs.Common.{◌≡◌, ℕ, inl, inr, List, Option, Some, None, sym, ap, ◌∙◌, subst}
+use Rattle.std.proofs.Common.{◌≡◌, ℕ, ◌+◌, inl, inr, length, Option, Some, None, refl, sym, ap, ◌∙◌, subst, arith}
+use Rattle.std.proofs.lemmas.List.FromFn.{length-map-range_with_len}
 use Rattle.gq_number.specs.Number.{Number}
 use Rattle.lp_core.specs.declared.answer.Rule.TheVariants.{Legal}
 use Rattle.lp_core.specs.declared.answer.End.{End}
 use Rattle.lp_core.specs.declared.program.Lp.{Lp}
 use Rattle.lp_core.specs.StandardForm.{Standard, Last}
 use Rattle.lp_core.specs.Dictionary.{Dictionary, Improves}
-use Rattle.lp_core.specs.Pivots.{NothingImproves, last_of, last_along, IsAllowedBy}
+use Rattle.lp_core.specs.Pivots.{row_of_basic, change_by_row, NothingImproves, last_of, last_along, IsAllowedBy}
 use Rattle.lp_core.specs.Ends.{IsUnlimited, IsUnlimitedBy, IsGoingOnBy, IsPhase, EndsSoBy, EndsWith}
 use Rattle.lp_core.specs.declared.answer.EndKind.{EndKind}
 use Rattle.lp_core.specs.declared.answer.EndKind.TheVariants as kind
 use Rattle.lp_std.specs.Last.{IsDictionaryOf, IsReadAt}
-use Rattle.lp_exact.specs.Reading.{IsDone, EndsBy, RayIs}
+use Rattle.lp_exact.specs.Reading.{IsDone}
 use Rattle.lp_walk.specs.declared.walk.Halt.{Halt}
 use Rattle.lp_walk.specs.declared.walk.Halt.TheVariants as halt
 use Rattle.lp_walk.specs.Walks.{NoneIsDue, HaltsAt}
@@ -47,43 +48,45 @@ broken_off_done d goes phase =
 
 -- ---- what the end says
 
-module _ {F : Type 0} (value : F → Number) (limit : ℕ) (lp : Lp F) (iterlim : ℕ) (Chosen : ℕ → Type 0) (pivots : ℕ) (d : Dictionary) (improves : (q : ℕ) → Chosen q → Improves d q) where
-  -- what is read along a ray is told by the variable
-  along_is : (q r : ℕ) (last : Last) → last ≡ last_along d r → last.changes ≡ (last_along d q).changes → last ≡ last_along d q
-  along_is q r last is changes =
-      let same : (last_along d r).changes ≡ (last_along d q).changes = sym (ap (λ (l : Last). l.changes) is) ∙ changes in
-      is ∙ ap (λ (c : List Number). record (last_of d) { changes = c }) same
+-- along a ray a change is read for each variable, without one none
+has_ray : (d : Dictionary) (q : ℕ) → last_of d ≡ last_along d q → ⊥
+has_ray d q same =
+    let some : length (last_along d q).changes ≡ d.variables + 1 =
+    length-map-range_with_len (λ v. change_by_row d q v (row_of_basic d v)) 0 (d.variables + 1) in
+    let none : 0 ≡ length (last_along d q).changes = ap (λ (l : Last). length l.changes) same in
+    omega (arith, some, none)
 
+module _ {F : Type 0} (value : F → Number) (limit : ℕ) (lp : Lp F) (iterlim : ℕ) (Chosen : ℕ → Type 0) (pivots : ℕ) (d : Dictionary) (improves : (q : ℕ) → Chosen q → Improves d q) where
   -- the end where no pivot is due
   pub ended_so : (enter : Option ℕ) (end : End F) → NoneIsDue Chosen d enter → IsLedBack value limit lp d enter end → EndsSoBy value limit lp iterlim (IsAllowedBy Chosen d) Chosen pivots d end
-  ended_so None end none led = by_kind led.kind led.last led.ends_by led.read led.gives
+  ended_so None end none led = by_kind led.kind led.read led.gives
     where
-      by_kind : (k : EndKind) (last : Last) → EndsBy d None k → IsReadAt d k last → EndsWith value limit lp k last end → EndsSoBy value limit lp iterlim (IsAllowedBy Chosen d) Chosen pivots d end
-      by_kind kind.Optimal last by read gives = inl (kind.Optimal, last, read, gives)
-      by_kind kind.Infeasible last by read gives = inl (kind.Infeasible, last, read, gives)
-      by_kind kind.Unbounded last by read gives = absurd (let e = by.1.2 in cc)
-      by_kind kind.Interrupted last by read gives = absurd (none.1 by.2.0 by.2.1)
-  ended_so (Some q) end due led = by_kind led.kind led.last led.ends_by led.read led.ray led.gives
+      by_kind : (k : EndKind) → IsReadAt d k (last_of d) → EndsWith value limit lp k (last_of d) end → EndsSoBy value limit lp iterlim (IsAllowedBy Chosen d) Chosen pivots d end
+      by_kind kind.Optimal read gives = inl (kind.Optimal, last_of d, read, gives)
+      by_kind kind.Infeasible read gives = inl (kind.Infeasible, last_of d, read, gives)
+      by_kind kind.Unbounded read gives = absurd (has_ray d read.1.0 read.1.2)
+      by_kind kind.Interrupted read gives = absurd (none.1 read.2.0 read.2.1)
+  ended_so (Some q) end due led = by_kind led.kind led.read led.gives
     where
-      by_kind : (k : EndKind) (last : Last) → EndsBy d (Some q) k → IsReadAt d k last → RayIs d (Some q) last.changes → EndsWith value limit lp k last end → EndsSoBy value limit lp iterlim (IsAllowedBy Chosen d) Chosen pivots d end
-      by_kind kind.Optimal last by read ray gives = absurd (let e = by.2 in cc)
-      by_kind kind.Infeasible last by read ray gives = absurd (let e = by.2 in cc)
-      by_kind kind.Unbounded last by read ray gives = inl (kind.Unbounded, last, (due.0, (q, due.1, along_is q read.1.0 last read.1.2 ray)), gives)
-      by_kind kind.Interrupted last by read ray gives = absurd (let e = by.3 in cc)
+      by_kind : (k : EndKind) → IsReadAt d k (last_along d q) → EndsWith value limit lp k (last_along d q) end → EndsSoBy value limit lp iterlim (IsAllowedBy Chosen d) Chosen pivots d end
+      by_kind kind.Optimal read gives = absurd (has_ray d q (sym read.2))
+      by_kind kind.Infeasible read gives = absurd (has_ray d q (sym read.2))
+      by_kind kind.Unbounded read gives = inl (kind.Unbounded, last_along d q, (due.0, (q, due.1, refl)), gives)
+      by_kind kind.Interrupted read gives = absurd (has_ray d q (sym read.3))
 
   -- the end where the limit of pivots is met
   pub broken_off_so : (end : End F) → pivots ≡ iterlim → IsGoingOnBy Chosen d → IsBrokenOff value limit lp d end → EndsSoBy value limit lp iterlim (IsAllowedBy Chosen d) Chosen pivots d end
   broken_off_so end most goes (inl one) = inr (inl (most, one.0, goes, one.1))
-  broken_off_so end most goes (inr two) = by_kind two.1.kind two.1.last two.1.ends_by two.1.read two.1.gives
+  broken_off_so end most goes (inr two) = by_kind two.1.kind two.1.read two.1.gives
     where
       goes_or_not : NothingImproves d → ⊥
       goes_or_not none = elim goes [ inl due ↦ none.0 due | inr more ↦ none.1 more.1.0 (improves more.1.0 more.1.2) ]
 
-      by_kind : (k : EndKind) (last : Last) → EndsBy d None k → IsReadAt d k last → EndsWith value limit lp k last end → EndsSoBy value limit lp iterlim (IsAllowedBy Chosen d) Chosen pivots d end
-      by_kind kind.Optimal last by read gives = absurd (goes_or_not read.1)
-      by_kind kind.Infeasible last by read gives = absurd (goes_or_not read.1)
-      by_kind kind.Unbounded last by read gives = absurd (let e = by.1.2 in cc)
-      by_kind kind.Interrupted last by read gives = inl (kind.Interrupted, last, (read.0, read.1, (most, goes), read.3), gives)
+      by_kind : (k : EndKind) → IsReadAt d k (last_of d) → EndsWith value limit lp k (last_of d) end → EndsSoBy value limit lp iterlim (IsAllowedBy Chosen d) Chosen pivots d end
+      by_kind kind.Optimal read gives = absurd (goes_or_not read.1)
+      by_kind kind.Infeasible read gives = absurd (goes_or_not read.1)
+      by_kind kind.Unbounded read gives = absurd (has_ray d read.1.0 read.1.2)
+      by_kind kind.Interrupted read gives = inl (kind.Interrupted, last_of d, (read.0, read.1, (most, goes), refl), gives)
 
 -- the end of a walk that halted so
 pub halted_so : {F : Type 0} (value : F → Number) (limit : ℕ) (lp : Lp F) (iterlim : ℕ) (Chosen : ℕ → Type 0) (pivots : ℕ) (last : Dictionary) (h : Halt F) (end : End F) → ((q : ℕ) → Chosen q → Improves last q) → HaltsAt limit value Chosen iterlim pivots last h → EndsHalted value limit lp h end → EndsSoBy value limit lp iterlim (IsAllowedBy Chosen last) Chosen pivots last end

@@ -1,7 +1,6 @@
 pub mod Lists
 pub mod Stops
 pub mod Walking
-pub mod Rules
 pub mod Standing
 pub mod Steps
 pub mod Ending

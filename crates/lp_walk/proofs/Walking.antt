@@ -1,5 +1,5 @@
 -- What is due at a dictionary, and where pivots lead.
-use Rattle.std.proofs.Common.{◌≡◌, ℕ, zero, suc, ◌+◌, ◌<◌, ◌⊎◌, inl, inr, pos, List, [], ◌∷◌, ◌++◌, append_assoc, append-nil, length, Some, None, refl, sym, ap, ◌∙◌, subst, subst₂, arith}
+use Rattle.std.proofs.Common.{◌≡◌, ℕ, zero, suc, ◌+◌, ◌<◌, ◌≤◌, ◌⊎◌, inl, inr, pos, List, [], ◌∷◌, ◌++◌, append_assoc, append-nil, length, Some, None, refl, sym, ap, ◌∙◌, subst, subst₂, arith}
 use Rattle.std.specs.Prelude.{slice_get, unwrap_or}
 use Rattle.std.proofs.lemmas.Bool.{cases_lt}
 use Rattle.gq_number.specs.Number.{Number, whole}
@@ -8,7 +8,7 @@ use Rattle.gq_number.proofs.Order.{≤ℚ_or_above, not_above}
 use Rattle.lp_core.specs.declared.answer.Pivot.{Pivot}
 use Rattle.lp_core.specs.Ends.{IsGoingOnBy}
 use Rattle.lp_core.specs.declared.answer.StepName.{StepName}
-use Rattle.lp_core.specs.Dictionary.{Dictionary, entry_at, InPhaseOne, OpeningIsDue, Improves, Limits, IsOpening, IsStep, IsLegal, IsBland, exchanged}
+use Rattle.lp_core.specs.Dictionary.{Dictionary, entry_at, InPhaseOne, OpeningIsDue, Improves, Limits, IsOpening, IsStep, IsLegal, IsLeast, basic_at, exchanged}
 use Rattle.lp_core.specs.Steps.{AllFit, FirstStop, ratio_steps, exchange_steps}
 use Rattle.lp_core.specs.Pivots.{TestFits, IsTaken, IsAllowedBy, LeadsWithin}
 use Rattle.lp_core.specs.Choices.{leaving_row, after_pivot, reached}
@@ -28,9 +28,9 @@ leaves_row d p k legal = elim legal [ inl opening ↦ opening.leaves | inr step 
 
 -- ---- what is due
 
-pub opening_is_due : (Chosen : ℕ → Type 0) (limit n : ℕ) (d : Dictionary) (p : Pivot) → ((k : ℕ) × IsOpening d p k) → IsBland d p → (k : ℕ) × IsAllowedBy Chosen d p k × TestFits limit n d p
-opening_is_due Chosen limit n d p opening bland =
-    let taken : IsTaken Chosen d p = record { enters = λ none. absurd (none opening.1.due); leaves = bland.leaves; opens = bland.opens } in
+pub opening_is_due : (Chosen : ℕ → Type 0) (limit n : ℕ) (d : Dictionary) (p : Pivot) → ((k : ℕ) × IsOpening d p k) → ((i : ℕ) → IsLeast d i → p.leave ≤ basic_at d i) → (k : ℕ) × IsAllowedBy Chosen d p k × TestFits limit n d p
+opening_is_due Chosen limit n d p opening fewest =
+    let taken : IsTaken Chosen d p = record { enters = λ none. absurd (none opening.1.due); leaves = λ i none ties. absurd (none opening.1.due); opens = λ i due least. fewest i least } in
     (opening.0, (inl opening.1, taken), λ none. absurd (none opening.1.due))
 
 abbrev pub turn_of : ℕ → ℕ → Pivot

@@ -4,14 +4,14 @@ use Rattle.gq_number.specs.Number.{Number}
 use Rattle.lp_core.specs.declared.answer.End.{End}
 use Rattle.lp_core.specs.declared.answer.End.TheVariants.{Interrupted, Refused}
 use Rattle.lp_core.specs.declared.program.Lp.{Lp}
-use Rattle.lp_core.specs.StandardForm.{Standard, Last}
+use Rattle.lp_core.specs.StandardForm.{Standard}
 use Rattle.lp_core.specs.Dictionary.{Dictionary, OpeningIsDue, Improves}
 use Rattle.lp_core.specs.Answers.{EndsCrossed, EndsUnformed}
 use Rattle.lp_core.specs.declared.answer.EndKind.{EndKind}
 use Rattle.lp_std.specs.Last.{IsDictionaryOf, IsReadAt}
 use Rattle.lp_core.specs.Ends.{IsPhase, EndsWith}
 use Rattle.lp_dict.specs.Tableau.{dictionary}
-use Rattle.lp_exact.specs.Reading.{IsDone, EndsBy, RayIs}
+use Rattle.lp_exact.specs.Reading.{IsDone, last_with}
 use Rattle.lp_walk.specs.declared.walk.Halt.{Halt}
 use Rattle.lp_walk.specs.declared.walk.Halt.TheVariants as halt
 
@@ -30,11 +30,8 @@ module _ {F : Type 0} (value : F → Number) (limit : ℕ) (lp : Lp F) where
   -- An end is led back from a dictionary, along the ray of this variable, if there is one.
   pub record IsLedBack (d : Dictionary) (enter : Option ℕ) (end : End F) : Type 0 where
     pub kind : EndKind
-    pub last : Last
-    pub ends_by : EndsBy d enter kind
-    pub read : IsReadAt d kind last
-    pub ray : RayIs d enter last.changes
-    pub gives : EndsWith value limit lp kind last end
+    pub read : IsReadAt d kind (last_with d enter)
+    pub gives : EndsWith value limit lp kind (last_with d enter) end
 
   -- the end of a walk that is broken off: in phase 1 nothing is told, in phase 2 the point
   abbrev pub IsBrokenOff : Dictionary → End F → Type 0

@@ -1,6 +1,7 @@
 -- What the pieces of a walk over dictionaries promise each other (Chvatal, Linear Programming, chapters 2, 3 and 8).
-use Rattle.std.specs.Prelude.{◌≡◌, ℕ, ◌+◌, ◌-◌, ◌^◌, ◌<◌, ◌≤◌, min, List, [], ◌∷◌, ◌++◌, length, Option, Some, None}
+use Rattle.std.specs.Prelude.{◌≡◌, ℕ, ◌+◌, ◌<◌, ◌≤◌, List, [], ◌∷◌, ◌++◌, length, Option, Some, None}
 use Rattle.gq_number.specs.Number.{Number}
+use Rattle.lp_core.specs.Counts.{counted}
 use Rattle.lp_core.specs.declared.answer.Pivot.{Pivot}
 use Rattle.lp_core.specs.Ends.{IsUnlimitedBy, IsGoingOnBy, PivotStopsBy}
 use Rattle.lp_core.specs.declared.answer.StepName.{StepName}
@@ -50,7 +51,7 @@ module _ (limit : ℕ) where
       pub fit : AllFit (exchange_steps limit before.upcoming (dictionary value before) p.enter row)
       pub is_exchanged : dictionary value after ≡ exchanged (dictionary value before) p.enter row
       pub of_form : (s : Standard) → IsDictionaryOf s (dictionary value before) → IsDictionaryOf s (dictionary value after)
-      pub upcoming : after.upcoming ≡ min (before.upcoming + 1) (2 ^ 64 - 1)
+      pub upcoming : after.upcoming ≡ counted (before.upcoming + 1)
       pub known : Known (dictionary value after)
 
     -- A walk so far: pivots by the choice lead from a first dictionary to the one that it stands at, and all their steps fit.
@@ -58,7 +59,7 @@ module _ (limit : ℕ) where
       pub leads : LeadsWithin (ByChoice choice first) limit 1 [] first pivots (dictionary value at)
       pub proper : IsProper (dictionary value at)
       pub of_form : (s : Standard) → IsDictionaryOf s first → IsDictionaryOf s (dictionary value at)
-      pub upcoming : at.upcoming ≡ min (length pivots + 1) (2 ^ 64 - 1)
+      pub upcoming : at.upcoming ≡ counted (length pivots + 1)
       pub known : Known pivots (dictionary value at)
 
     -- what comes of one pivot after others, by what is chosen, and what is known of the pivots then

@@ -15,7 +15,7 @@ use lp_core::{Column, Lp, Row, Sequence};
 use std::alloc::{AllocError, AllocFailed, Global};
 
 /// Why something is not made narrow.
-#[derive(Clone, Copy, Debug, PartialEq, Eq)]
+#[derive(Clone, Copy)]
 enum Wide {
     /// A part of a number is too great.
     Number,

@@ -10,7 +10,7 @@ use Rattle.gq_number.specs.Number.{Number, whole, ratio, ◌/ℚ◌}
 use Rattle.gq_number.specs.Order.{◌<ℚ◌, ◌≤ℚ◌, number_cmp}
 use Rattle.gq_number.proofs.Order.{<ℚ_trans, <ℚ-≤ℚ_trans, ≤ℚ_from_<ℚ, ≤ℚ_from_≡, ≤ℚ_or_above, not_above, ≤ℚ-<ℚ_trans}
 use Rattle.gq_number.proofs.Compares.{number_cmp_decides}
-use Rattle.lp_core.specs.Dictionary.{Dictionary, basic_at, constant_at, entry_at, OpeningIsDue, IsOpening, IsBland, ratio_at, IsLeast}
+use Rattle.lp_core.specs.Dictionary.{Dictionary, basic_at, constant_at, entry_at, OpeningIsDue, IsOpening, ratio_at, IsLeast}
 use Rattle.lp_exact.specs.Pivots.{IsLeaving}
 use Rattle.lp_whole.specs.declared.line.Line.{Line}
 use Rattle.lp_whole.specs.declared.choice.Candidate.{Candidate}
@@ -156,15 +156,10 @@ module _ (d : Dictionary) where
       },
     )
 
-    pub opening_bland : IsBland d (record { enter = 0; leave = c.variable })
-    opening_bland =
-        record {
-          enters = λ q none improves. absurd (none (h.0, h.1, h.2));
-          leaves = λ i none ties. absurd (none (h.0, h.1, h.2));
-          opens = λ i due least.
-              subst (λ v. v ≤ basic_at d i) (sym h.4)
-              (least_variable (constant_at d h.0) (constant_at d i) (basic_at d h.0) (basic_at d i) (h.5 i least.0 (≤ℚ-<ℚ_trans (constant_at d i) (constant_at d h.0) (whole (pos 0)) (least.1 h.0 h.1) h.2)) (least.1 h.0 h.1));
-        }
+    pub opening_least : (i : ℕ) → IsLeast d i → c.variable ≤ basic_at d i
+    opening_least i least =
+        subst (λ v. v ≤ basic_at d i) (sym h.4)
+        (least_variable (constant_at d h.0) (constant_at d i) (basic_at d h.0) (basic_at d i) (h.5 i least.0 (≤ℚ-<ℚ_trans (constant_at d i) (constant_at d h.0) (whole (pos 0)) (least.1 h.0 h.1) h.2)) (least.1 h.0 h.1))
 
 -- ---- the ratio test
 

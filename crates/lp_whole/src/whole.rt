@@ -1,7 +1,7 @@
 //! The dictionary by whole numbers.
 ghost use Rattle.std.specs.Prelude.{◌≡◌, ◌≢◌, ℕ, ◌+◌, ◌<◌, ◌≤◌, ◌^◌, pos, nat_abs, length, slice_get, Some, None, false, IfOk, IfErr, IsTrue, MatchOption, Contains};
 ghost use Rattle.gq_number.specs.Number.{whole, ratio};
-ghost use Rattle.lp_core.specs.Dictionary.{OpeningIsDue, IsOpening, IsBland, IsLegal, Improves, exchanged};
+ghost use Rattle.lp_core.specs.Dictionary.{basic_at, OpeningIsDue, IsLeast, IsOpening, IsLegal, Improves, exchanged};
 ghost use Rattle.lp_core.specs.LargestCoefficient.{HasGreatest};
 ghost use Rattle.lp_core.specs.Steps.{AllFit, ratio_steps, exchange_steps};
 ghost use Rattle.lp_exact.specs.Pivots.{IsProper, IsLeaving};
@@ -124,7 +124,7 @@ impl Whole {
     /// which is below 0, the least leaves.
     pub fn opening(&self) -> Option<Pivot>
         ensures { MatchOption result (¬ (OpeningIsDue (dictionary self.now)))
-            (λ p. ((k : ℕ) × IsOpening (dictionary self.now) p k) × IsBland (dictionary self.now) p) }
+            (λ p. ((k : ℕ) × IsOpening (dictionary self.now) p k) × ((i : ℕ) → IsLeast (dictionary self.now) i → p.leave ≤ basic_at (dictionary self.now) i)) }
     {
         match least_constant(self.lines.as_slice(), self.deferred, self.basic.as_slice()) {
             Some(candidate) => Some(Pivot {

@@ -9,7 +9,7 @@ use Rattle.gms_expressions.proofs.read.control.Goals as goal
 
 pub returns-clause-read : goal.returns-clause-read
 returns-clause-read g c = said_of g.F.ExactField.limit (λ source. IsControl g.F.ExactField.value source) Control
-    (λ source names labels value tree part. control_in_numbers g.F.ExactField.value (control_tree part) ≡ trees.control source names labels value tree) (λ source names labels value tree part m. m)
+    (λ source names labels tree part. control_in_numbers g.F.ExactField.value (control_tree part) ≡ trees.control source names labels tree) (λ source names labels tree part m. m)
     c.reader.result c.args.from c.taken-tables.result c.control-read.new.tables c.control-read.result c.reader.ensures.source c.reader.ensures.tokens c.reader.ensures.unclosed c.taken-tables.ensures.names c.taken-tables.ensures.labels c.give_back.ensures.names c.give_back.ensures.labels c.control-read.ensures
 
 pub returns-clause-goes_on : goal.returns-clause-goes_on

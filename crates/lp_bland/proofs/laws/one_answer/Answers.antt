@@ -1,4 +1,4 @@
-use Rattle.lp_walk.proofs.Rules.{bland_choice, answer_bland}
+use Rattle.lp_core.proofs.Rules.{bland_choice, answer_bland}
 use Rattle.lp_walk.proofs.Unique.{one_answer_by}
 use Rattle.lp_bland.proofs.Few.{least_once}
 use Rattle.lp_bland.proofs.laws.one_answer.Goals as goal

@@ -1,5 +1,5 @@
 use Rattle.lp_core.specs.LargestCoefficient.{IsNext}
-use Rattle.lp_walk.proofs.Rules.{legal_answer}
+use Rattle.lp_core.proofs.Rules.{legal_answer}
 use Rattle.lp_dantzig.specs.Next.{next_improves}
 use Rattle.lp_dantzig.proofs.laws.answer_is_legal.Goals as goal
 

@@ -1,7 +1,7 @@
 use Rattle.std.proofs.Common.{◌+◌, ◌++◌, map, drop, ap₂, ◌∙◌, arith}
 use Rattle.lp_dict.specs.Tableau.{dictionary}
 use Rattle.lp_range.specs.Ranges.{span_value, right_spans}
-use Rattle.lp_range.proofs.Loops.{same_count, rows_left, spans_go}
+use Rattle.lp_range.proofs.Loops.{rows_left, spans_go}
 use Rattle.lp_range.proofs.rights.ranges_of.Goals as goal
 
 pub loop-row-preserved : goal.loop-row-preserved
@@ -10,7 +10,7 @@ loop-row-preserved g c =
     let rows = c.args.rows.now in
     let i = c.loop-row.row-index in
     let row = c.row-item.result in
-    let count = c.rows_by_sense-slack.ensures ∙ same_count row.sense in
+    let count = c.rows_by_sense-slack.ensures in
     let left = rows_left g.F.ExactField.value g.F.ExactField.limit d rows i row c.loop-row-test.true c.row-item.is in
     record {
       counted = omega (arith, left, count, c.loop-row.invariant.counted);

@@ -1,7 +1,7 @@
 use Rattle.std.proofs.Common.{◌∙◌}
 use Rattle.lp_walk.proofs.Answering.{legal_if_ok}
 use Rattle.lp_walk.proofs.Formless.{formless_answers}
-use Rattle.lp_walk.proofs.Rules.{legal_answer}
+use Rattle.lp_core.proofs.Rules.{legal_answer}
 use Rattle.lp_walk.proofs.answer.solve_by.Goals as goal
 
 pub returns-in_ok-formless-in-Err-clause-chosen : goal.returns-in_ok-formless-in-Err-clause-chosen

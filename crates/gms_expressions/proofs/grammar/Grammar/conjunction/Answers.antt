@@ -13,7 +13,8 @@ use Rattle.gms_expressions.proofs.Made.{numbers_in_parts, views_push}
 use Rattle.gms_expressions.proofs.Signs.{handed_on}
 use Rattle.gms_expressions.proofs.Steps.{refuses_the, refuses_first, refuses_memory}
 use Rattle.gms_expressions.proofs.Nexts.{unled_next, falls}
-use Rattle.gms_expressions.proofs.Chains.{chain_first, chain_alone, chain_start, chain_on, chain_got, chain_refuses, chain_memory}
+use Rattle.gms_expressions.proofs.Loops.{loop_memory}
+use Rattle.gms_expressions.proofs.Chains.{chain_first, chain_alone, chain_start, chain_on, chain_got, chain_refuses}
 use Rattle.gms_grammar.specs.Terminals.{is}
 use Rattle.gms_expressions.specs.Readings.{seen_from}
 use Rattle.gms_expressions.proofs.Grows.{some_led, none_led}
@@ -36,7 +37,7 @@ pub returns-in_err-part : goal.returns-in_err-part
 returns-in_err-part g c = handed_on _ _ c.from_residual-in_err-part.result _ c.from_residual-in_err-part.ensures.1 (chain_refuses c.loop-behind.invariant c.in-Some.ensures refl c.in_err-part.ensures)
 
 pub returns-in_err-push-2 : goal.returns-in_err-push-2
-returns-in_err-push-2 g c = handed_on _ _ c.from_residual-in_err-push-2.result _ c.from_residual-in_err-push-2.ensures.1 (chain_memory c.loop-behind.invariant c.in_ok-part.ensures.gives refl)
+returns-in_err-push-2 g c = handed_on _ _ c.from_residual-in_err-push-2.result _ c.from_residual-in_err-push-2.ensures.1 (loop_memory c.loop-behind.invariant.looping c.in_ok-part.ensures.gives refl)
 
 pub loop-behind-smaller : goal.loop-behind-smaller
 loop-behind-smaller g c = falls c.in-Some.ensures _ c.in_ok-part.ensures.further

@@ -7,14 +7,14 @@ use Rattle.gms_expressions.proofs.Parts.{in_node}
 use Rattle.gms_expressions.proofs.Signs.{handed_on, got_the, got_behind}
 use Rattle.gms_expressions.proofs.Steps.{refuses_the, refuses_first, refuses_second, refuses_memory}
 use Rattle.gms_expressions.proofs.Nexts.{gives_next, led_next, falls}
-use Rattle.gms_expressions.proofs.Made.{views_push}
+use Rattle.gms_expressions.proofs.Made.{views_push, numbers_in_parts}
 use Rattle.gms_expressions.proofs.Grows.{none_led}
-use Rattle.gms_expressions.proofs.Sums.{guards_none, guards_alone, guards_on, guards_got, guards_refuses, guards_memory}
+use Rattle.gms_expressions.proofs.Loops.{loop_memory}
+use Rattle.gms_expressions.proofs.Sums.{guards_none, guards_alone, guards_on, guards_got, guards_refuses}
 use Rattle.gms_expressions.proofs.Guarding.{guards_begin, not_begun, some_begun}
 use Rattle.gms_ast.proofs.TreeEquations.{tree_of-Guard}
 use Rattle.gms_ast.specs.TreeView.{tree_of}
 use Rattle.gms_ast.specs.Numbers.{in_numbers}
-use Rattle.gms_expressions.proofs.Made.{numbers_in_parts}
 use Rattle.gms_expressions.proofs.Going.{went_by}
 use Rattle.gms_expressions.proofs.grammar.Grammar.guarded.Goals as goal
 
@@ -35,7 +35,7 @@ returns-in_err-guard g c = handed_on _ _ c.from_residual-in_err-guard.result _ c
     (guards_refuses c.loop-behind.invariant.0 (led_next c.in-Some.ensures) (refuses_the Condition (refuses_second (gives_next _ c.in-Some.ensures refl) c.in_err-guard.ensures)))
 
 pub returns-in_err-push : goal.returns-in_err-push
-returns-in_err-push g c = handed_on _ _ c.from_residual-in_err-push.result _ c.from_residual-in_err-push.ensures.1 (guards_memory c.loop-behind.invariant.0 c.in_ok-guard.ensures.gives refl)
+returns-in_err-push g c = handed_on _ _ c.from_residual-in_err-push.result _ c.from_residual-in_err-push.ensures.1 (loop_memory c.loop-behind.invariant.0.looping c.in_ok-guard.ensures.gives refl)
 
 pub loop-behind-smaller : goal.loop-behind-smaller
 loop-behind-smaller g c = falls c.in-Some.ensures _ c.in_ok-guard.ensures.further

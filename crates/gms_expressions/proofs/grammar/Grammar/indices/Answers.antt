@@ -12,7 +12,7 @@ use Rattle.gms_expressions.proofs.Nesting.{deeper_inside}
 use Rattle.gms_expressions.proofs.Closings.{next_inside, closing_answer}
 use Rattle.gms_expressions.proofs.Operands.{at_inside, refused_inside}
 use Rattle.gms_expressions.proofs.Grows.{none_led, some_led}
-use Rattle.gms_expressions.proofs.Indexing.{no_indices, indices_start, indices_on, indices_got, indices_refuses, some_answer, indices_memory}
+use Rattle.gms_expressions.proofs.Indexing.{no_indices, indices_start, indices_on, indices_got, indices_refuses, some_answer}
 use Rattle.gms_expressions.proofs.Going.{went_by}
 use Rattle.gms_expressions.proofs.grammar.Grammar.indices.Goals as goal
 
@@ -49,7 +49,7 @@ returns-in_err-index g c = handed_on _ _ c.from_residual-in_err-index.result _ c
 pub returns-in_err-push-2 : goal.returns-in_err-push-2
 returns-in_err-push-2 g c = handed_on _ _ c.from_residual-in_err-push-2.result _ c.from_residual-in_err-push-2.ensures.1
     (refuses_some (some_led (is LeftParen) (the IndexList · token RightParen) (seen_from c.args.self.now.reader c.args.at) c.is_next.ensures c.if-not-is_next.false)
-    (refuses_inside c.in_ok-inner.ensures (indices_memory c.loop-behind.invariant (next_inside (c.args.self.now.reader.unclosed + 1) c.in-Some.ensures) (at_inside (λ r. IsIndex g.F.ExactField.value r.source.now) c.in_ok-inner.ensures c.in_ok-index.ensures) refl)))
+    (refuses_inside c.in_ok-inner.ensures (c.loop-behind.invariant.within.refuses _ _ (refuses_memory (went_by (at_inside (λ r. IsIndex g.F.ExactField.value r.source.now) c.in_ok-inner.ensures c.in_ok-index.ensures).gives) refl))))
 
 pub loop-behind-smaller : goal.loop-behind-smaller
 loop-behind-smaller g c = falls c.in-Some.ensures _ c.in_ok-index.ensures.further

@@ -2,7 +2,7 @@ use Rattle.std.proofs.Common.{Err, refl, sym, ap, ◌∙◌, subst}
 use Rattle.std.proofs.lemmas.Str.{IsUtf8-from_ascii}
 use Rattle.std.specs.Str.{IsUtf8}
 use Rattle.gms_labels.specs.declared.fault.LabelFault.{LabelFault}
-use Rattle.gms_expressions.specs.ExpressionTrees.{unquoted}
+use Rattle.gms_lex.specs.TokenTexts.{unquoted}
 use Rattle.gms_expressions.proofs.Signs.{handed_on}
 use Rattle.gms_expressions.proofs.Nexts.{refuses_lacking}
 use Rattle.gms_expressions.proofs.Spelled.{label_spelled}

@@ -1,7 +1,6 @@
-use Rattle.gms_expressions.proofs.Signs.{handed_on}
+use Rattle.gms_expressions.proofs.Signs.{handed_on, answered}
 use Rattle.std.proofs.Common.{refl}
 use Rattle.gms_grammar.specs.declared.terminal.Terminal.TheVariants.{Using}
-use Rattle.gms_expressions.proofs.Signs.{answered}
 use Rattle.gms_parse.proofs.Steps.{refuses_first, refuses_second}
 use Rattle.gms_parse.proofs.Nexts.{refuses_lacking, gives_exact, plain_stays}
 use Rattle.gms_parse.proofs.Acts.{method_got}

@@ -12,4 +12,4 @@ returns-in_err-target g c walk s other = handed_on _ _ c.from_residual.result _ 
 
 pub returns : goal.returns
 returns g c walk s other = formula_got Target refl s other c.args.at c.requires.within c.in_ok-target.ensures.read (IsTarget g.F.ExactField.value c.args.self.now.source.now)
-    (λ sense tree k h. target_is c.args.self.now.source.now sense.names sense.labels sense.value (shown_target g.F.ExactField.value c.in_ok-target.field-0.0) tree k h)
+    (λ sense tree k h. target_is c.args.self.now.source.now sense.names sense.labels (shown_target g.F.ExactField.value c.in_ok-target.field-0.0) tree k h)

@@ -2,7 +2,7 @@ use Rattle.std.proofs.Common.{ap, subst, ◌∙◌, Some}
 use Rattle.lp_exact.specs.Tableau.{dictionary, IsTableau}
 use Rattle.lp_exact.specs.Lines.{rows_of}
 use Rattle.lp_exact.proofs.Kept.{some_rows}
-use Rattle.lp_exact.proofs.Choices.{kept_first, opening_there, opening_bland}
+use Rattle.lp_exact.proofs.Choices.{kept_first, opening_there, opening_least}
 use Rattle.lp_exact.proofs.dict.ExactDict.opening.Goals as goal
 
 pub least_constant-requires-clause-rows : goal.least_constant-requires-clause-rows
@@ -12,4 +12,4 @@ least_constant-requires-clause-rows g c =
 pub returns-in-Some : goal.returns-in-Some
 returns-in-Some g c =
     let h = kept_first g.F.ExactField.value g.F.ExactField.limit c.args.self.now (rows_of c.as_slice.result.now) c.as_slice-2.result.now (ap rows_of c.as_slice.ensures.value ∙ ap (λ t. t.rows) c.self.view_is) (c.as_slice-2.ensures.value ∙ ap (λ t. t.basic) c.self.view_is) (Some c.in-Some.candidate) c.in-Some.ensures in
-    (opening_there g.F.ExactField.value (dictionary g.F.ExactField.value c.args.self.now) c.in-Some.candidate h, opening_bland g.F.ExactField.value (dictionary g.F.ExactField.value c.args.self.now) c.in-Some.candidate h)
+    (opening_there g.F.ExactField.value (dictionary g.F.ExactField.value c.args.self.now) c.in-Some.candidate h, opening_least g.F.ExactField.value (dictionary g.F.ExactField.value c.args.self.now) c.in-Some.candidate h)

@@ -4,7 +4,7 @@ use Rattle.lp_core.specs.Pivots.{last_along}
 use Rattle.lp_exact.specs.declared.row.Entry.{Entry}
 use Rattle.lp_exact.specs.Lines.{rows_of}
 use Rattle.lp_exact.specs.Tableau.{Tableau, dictionary}
-use Rattle.lp_exact.specs.Reading.{AreByVariable, IsDone, RayIs}
+use Rattle.lp_exact.specs.Reading.{AreByVariable, IsDone, last_with}
 use Rattle.lp_exact.proofs.Kept.{some_rows}
 use Rattle.lp_exact.proofs.Finals.{changes_are}
 use Rattle.lp_exact.proofs.dict.ExactDict.ray.Goals as goal
@@ -19,6 +19,6 @@ returns g c =
     let none = subst (λ (t : Tableau _). ¬ (Contains t.basic c.in-Some.enter)) (sym c.self.view_is) done.1.1.not_basic in
     let there = subst (λ (t : Tableau _). c.in-Some.enter ≤ t.variables) (sym c.self.view_is) done.1.1.there in
     let numbers = subst₂ (λ (rs : List (List (Entry _))) (b : List ℕ). AreByVariable g.F.ExactField.value rs b (c.self.inside.variables + 1) (c.in-Some.enter + 1) (length b) c.in_ok-numbers.numbers.items) (ap rows_of c.as_slice-rows.ensures.value) c.as_slice.ensures.value c.in_ok-numbers.ensures in
-    subst (λ e. RayIs (dictionary g.F.ExactField.value c.args.self.now) e (map g.F.ExactField.value c.changes.result.items)) (sym c.in-Some.is)
+    subst (λ e. map g.F.ExactField.value c.changes.result.items ≡ (last_with (dictionary g.F.ExactField.value c.args.self.now) e).changes) (sym c.in-Some.is)
     (subst (λ (t : Tableau _). map g.F.ExactField.value c.changes.result.items ≡ (last_along (dictionary g.F.ExactField.value t) c.in-Some.enter).changes) c.self.view_is
     (changes_are g.F.ExactField.value (record { variables = c.self.inside.variables; basic = c.self.inside.basic.items; rows = rows_of c.self.inside.rows.items; objective = c.self.inside.objective.items; upcoming = c.self.inside.upcoming }) c.self.invariant c.in-Some.enter (length c.self.inside.basic.items) c.in_ok-numbers.numbers.items c.changes.result.items (omega arith) none refl numbers c.changes.ensures))

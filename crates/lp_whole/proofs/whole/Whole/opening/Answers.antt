@@ -2,7 +2,7 @@ use Rattle.std.proofs.Common.{◌+◌, length, Some, None, sym, ap, ◌∙◌, s
 use Rattle.lp_whole.specs.Room.{AreWhole}
 use Rattle.lp_whole.specs.Whole.{WholeTableau, dictionary}
 use Rattle.lp_whole.proofs.Wholes.{kept_constant}
-use Rattle.lp_whole.proofs.Choices.{no_opening, opening_there, opening_bland}
+use Rattle.lp_whole.proofs.Choices.{no_opening, opening_there, opening_least}
 use Rattle.lp_whole.proofs.whole.Whole.opening.Goals as goal
 
 pub least_constant-requires-clause-lines : goal.least_constant-requires-clause-lines
@@ -19,7 +19,7 @@ least_constant-requires-clause-paired c =
 pub returns-in-Some : goal.returns-in-Some
 returns-in-Some c =
     let h = kept_constant c.args.self.now c.self.inside.deferred c.as_slice.result.now c.as_slice-2.result.now (ap (λ (t : WholeTableau). t.deferred) c.self.view_is) (c.as_slice.ensures.value ∙ (ap (λ (t : WholeTableau). t.lines) c.self.view_is)) (c.as_slice-2.ensures.value ∙ (ap (λ (t : WholeTableau). t.basic) c.self.view_is)) (Some c.in-Some.candidate) c.in-Some.ensures in
-    (opening_there (dictionary c.args.self.now) c.in-Some.candidate h, opening_bland (dictionary c.args.self.now) c.in-Some.candidate h)
+    (opening_there (dictionary c.args.self.now) c.in-Some.candidate h, opening_least (dictionary c.args.self.now) c.in-Some.candidate h)
 
 pub returns-in-None : goal.returns-in-None
 returns-in-None c =

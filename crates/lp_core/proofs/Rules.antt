@@ -12,7 +12,7 @@ use Rattle.lp_core.specs.declared.answer.Answer.{Answer}
 use Rattle.lp_core.specs.declared.program.Lp.{Lp}
 use Rattle.lp_core.specs.StandardForm.{standard_form, Last}
 use Rattle.lp_core.specs.Dictionary.{Dictionary, Improves, IsLegal, first_dictionary, exchanged}
-use Rattle.lp_core.specs.Pivots.{IsAllowed, IsChosen, IsTaken, IsAllowedBy, ByRule, ByChoice, LeadsWithin}
+use Rattle.lp_core.specs.Pivots.{IsAllowed, IsChosen, ByRule, ByChoice, LeadsWithin}
 use Rattle.lp_core.specs.Ends.{IsUnlimitedBy, IsGoingOnBy, PivotStopsBy, EndsAt, EndsSoBy}
 use Rattle.lp_core.specs.Answers.{IsAnswerBy, IsAnswer, IsAnswerByChoice}
 
@@ -31,20 +31,6 @@ legal_of Legal d p k allowed = allowed
 -- Bland's rule as a choice, which does not look at the pivots so far
 abbrev pub bland_choice : Dictionary → List Pivot → Dictionary → ℕ → Type 0
 bland_choice first pivots d q = IsChosen Bland d q
-
-pub bland_of : (d : Dictionary) (p : Pivot) (k : ℕ) → IsAllowedBy (IsChosen Bland d) d p k → IsAllowed Bland d p k
-bland_of d p k allowed = (
-  allowed.0,
-  record { enters = λ q none improves. (allowed.1.enters none).1 q improves; leaves = allowed.1.leaves; opens = allowed.1.opens },
-)
-
-pub taken_of : (d : Dictionary) (p : Pivot) (k : ℕ) → IsAllowed Bland d p k → IsTaken (IsChosen Bland d) d p
-taken_of d p k allowed =
-    record {
-      enters = λ none. elim allowed.0 [ inl opening ↦ absurd (none opening.due) | inr step ↦ (step.improves, λ v improves. allowed.1.enters v none improves) ];
-      leaves = allowed.1.leaves;
-      opens = allowed.1.opens;
-    }
 
 -- ---- ends by what is allowed and chosen
 
@@ -100,12 +86,12 @@ module _ {F : Type 0} (value : F → Number) (limit : ℕ) (lp : Lp F) (iterlim 
   pub bland_answer : (answer : Answer F) → IsAnswerByChoice value limit lp iterlim bland_choice answer → IsAnswer value limit lp iterlim Bland answer
   bland_answer answer h =
       let first = first_dictionary (standard_form value lp) in
-      answers_by (ByChoice bland_choice first) (ByRule Bland) (λ done d p k allowed. bland_of d p k allowed) value limit lp iterlim (bland_choice first) (λ done d. IsChosen Bland d) answer (λ done d q chosen. chosen) h
+      answers_by (ByChoice bland_choice first) (ByRule Bland) (λ done d p k allowed. allowed) value limit lp iterlim (bland_choice first) (λ done d. IsChosen Bland d) answer (λ done d q chosen. chosen) h
 
   pub answer_bland : (answer : Answer F) → IsAnswer value limit lp iterlim Bland answer → IsAnswerByChoice value limit lp iterlim bland_choice answer
   answer_bland answer h =
       let first = first_dictionary (standard_form value lp) in
-      answers_by (ByRule Bland) (ByChoice bland_choice first) (λ done d p k allowed. (allowed.0, taken_of d p k allowed)) value limit lp iterlim (λ done d. IsChosen Bland d) (bland_choice first) answer (λ done d q chosen. chosen) h
+      answers_by (ByRule Bland) (ByChoice bland_choice first) (λ done d p k allowed. allowed) value limit lp iterlim (λ done d. IsChosen Bland d) (bland_choice first) answer (λ done d q chosen. chosen) h
 
   -- Bland's pivots are legal, and what it chooses improves
   pub bland_is_legal : (answer : Answer F) → IsAnswer value limit lp iterlim Bland answer → IsAnswer value limit lp iterlim Legal answer

@@ -1,6 +1,6 @@
-use Rattle.lp_walk.proofs.Rules.{bland_is_legal}
-use Rattle.lp_bland.proofs.Answered.{optimum_within, over_numbers}
-use Rattle.lp_bland.proofs.laws.answers_too.Goals as goal
+use Rattle.lp_core.proofs.Rules.{bland_is_legal}
+use Rattle.lp_core.proofs.Optimum.{optimum_within}
+use Rattle.lp_core.proofs.laws.answers_too.Goals as goal
 
 pub returns-clause-legal : goal.returns-clause-legal
 returns-clause-legal g c lp iterlim answer is = bland_is_legal g.F.ExactField.value g.F.ExactField.limit lp iterlim answer is
@@ -8,7 +8,3 @@ returns-clause-legal g c lp iterlim answer is = bland_is_legal g.F.ExactField.va
 pub returns-clause-within : goal.returns-clause-within
 returns-clause-within g c lp iterlim other rule answer levels row_levels duals reduced is few answers =
     optimum_within g.F.ExactField.value g.F.ExactField.limit lp iterlim rule answer levels row_levels duals reduced other is few answers
-
-pub returns-clause-numbers : goal.returns-clause-numbers
-returns-clause-numbers g c lp iterlim rule answer formed is =
-    over_numbers g.F.ExactField.value g.F.ExactField.limit lp iterlim rule formed answer is

@@ -1,0 +1,13 @@
+pub mod Tests
+pub mod FrontWalks
+pub mod Throughouts
+pub mod NameRoles
+pub mod IndexTexts
+pub mod Kin
+pub mod KinLists
+pub mod KinDeclarations
+pub mod KinStatements
+pub mod KinPrograms
+pub mod RangeLabels
+pub mod Kinships
+pub mod FrontPrograms

@@ -1,0 +1,11 @@
+pub mod CleanNames
+pub mod Declared
+pub mod ProgramNames
+pub mod Closing
+pub mod Padding
+pub mod Keeping
+pub mod Begins
+pub mod Models
+pub mod Equations
+pub mod SolvesAlike
+pub mod Joining

@@ -1,0 +1,24 @@
+use Rattle.gms_going_on.proofs.Begins.{begins-with}
+use Rattle.gms_going_on.proofs.Closing.{loaded-closed}
+use Rattle.gms_going_on.proofs.Joining.{says}
+use Rattle.gms_going_on.proofs.ProgramNames.{program-named}
+use Rattle.gms_going_on.proofs.SolvesAlike.{solves-alike}
+use Rattle.gms_going_on.proofs.laws.going_on_laws.Goals as goal
+
+pub returns-clause-names : goal.returns-clause-names
+returns-clause-names g c world accepted = program-named g.F.ExactField.value world accepted
+
+pub returns-clause-closed : goal.returns-clause-closed
+returns-clause-closed g c program accepted = loaded-closed g.F.ExactField.value program accepted
+
+pub returns-clause-begins : goal.returns-clause-begins
+returns-clause-begins g c saved joint others accepted goes_on =
+    begins-with g.F.ExactField.value saved joint others accepted goes_on
+
+pub returns-clause-solves : goal.returns-clause-solves
+returns-clause-solves g c saved joint others accepted both goes_on =
+    solves-alike g.F.ExactField.value saved joint others accepted both goes_on.names goes_on.own goes_on.statements goes_on.solvers
+
+pub returns-clause-says : goal.returns-clause-says
+returns-clause-says g c saved joint others answers behind accepted both goes_on done none reached =
+    says g.F.ExactField.value g.F.ExactField.limit saved joint others answers behind accepted both goes_on done none reached

@@ -1,0 +1,51 @@
+-- A program that goes on where a saved one ended (GAMS User's Guide, "Save and Restart").
+use Rattle.std.specs.Prelude.{◌≡◌, ◌≤◌, ℕ, nat_lt, Bool, not, List, [], ◌++◌, length, map, flat_map, if◌then◌else◌}
+use Rattle.gq_number.specs.Number.{Number}
+use Rattle.gms_ast.specs.declared.declaration.Decl.{Decl}
+use Rattle.gms_ast.specs.declared.program.Act.{Act}
+use Rattle.gms_ast.specs.declared.program.Act.TheVariants.{Declare}
+use Rattle.gms_ast.specs.declared.program.Program.{Program}
+use Rattle.gms_ast.specs.declared.program.Stmt.{Stmt}
+use Rattle.gms_store.specs.Declarations.{content_of}
+use Rattle.gms_store.specs.Overlays.{overlaid}
+use Rattle.gms_store.specs.State.{State, symbol_at}
+use Rattle.gms_check.specs.Loaded.{loaded}
+use Rattle.gms_check.specs.Names.{is_variable}
+use Rattle.gms_check.specs.Past.{names_declared}
+use Rattle.gms_exec.specs.Run.{World, run_from}
+use Rattle.gms_frames.specs.Names.{Each}
+use Rattle.gms_joint.specs.JointRun.{behind_run}
+use Rattle.lp_core.specs.declared.answer.Answer.{Answer}
+
+module _ {F : Type 0} where
+  -- the names that an act gives the type of a variable
+  abbrev pub typed_by : Act F → List ℕ
+  typed_by (Declare kind items) = if is_variable (content_of kind) then map (λ (item : Decl F). item.named.name) items else []
+  typed_by act = []
+
+  -- the names that a program declares are of its table
+  abbrev pub DeclaresItsOwn : Program F → Type 0
+  DeclaresItsOwn program = Each (λ n. nat_lt n (length program.names)) (flat_map (λ (s : Stmt F). names_declared s.act) program.statements.items)
+
+  -- statements type no variable of a state
+  abbrev pub TypesNone : State → List (Stmt F) → Type 0
+  TypesNone state statements = Each (λ n. not (is_variable (symbol_at state n).content)) (flat_map (λ (s : Stmt F). typed_by s.act) statements)
+
+module _ {F : Type 0} (value : F → Number) where
+  -- The program of a world goes on behind that of another: its table of names is no shorter, its statements are the other's, which declare names of its own
+  -- table, and some behind them, which type no variable of the other once more; and the solvers are the same.
+  pub record GoesOn (saved joint : World F) (others : List (Stmt F)) : Type 0 where
+    pub names : length saved.program.names ≤ length joint.program.names
+    pub own : DeclaresItsOwn saved.program
+    pub statements : joint.program.statements.items ≡ saved.program.statements.items ++ others
+    pub types : TypesNone (loaded value saved.program) others
+    pub solvers : joint.solvers ≡ saved.solvers
+
+  module _ (limit : ℕ) (saved joint : World F) (others : List (Stmt F)) (answers behind : List (Answer Number)) where
+    -- The long run, whose first answers are those of the saved one, is the part of the saved statements, and behind it the run of the others that goes on from the
+    -- saved state. The saved part takes as many answers as the saved run had: each answer of the others has its place so much later.
+    pub record SaysTheSame : Type 0 where
+      pub is : run_from value limit joint (loaded value joint.program) (answers ++ behind) joint.program.statements.items
+          ≡ behind_run (run_from value limit joint (loaded value joint.program) (answers ++ behind) saved.program.statements.items)
+          (run_from value limit joint (overlaid (loaded value joint.program) (run_from value limit saved (loaded value saved.program) answers saved.program.statements.items).state) behind others)
+      pub taken : (run_from value limit joint (loaded value joint.program) (answers ++ behind) saved.program.statements.items).taken ≡ length answers
