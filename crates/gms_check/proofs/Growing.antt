@@ -23,11 +23,10 @@ use Rattle.gms_tuple.proofs.Ordered.{ordered-nil}
 use Rattle.gms_store.specs.declared.kind.VariableType.{VariableType}
 use Rattle.gms_store.specs.declared.kind.VariableType.TheVariants as type
 use Rattle.gms_store.specs.State.{State, Attributes, Entries, Content, undeclared, alias_of, set_of, parameter_of, variable_of, equation_of, model_with, Symbol, no_symbol, symbol_at, behind, base_of, symbol_of, members_in, with_content, if_fits, with_membership, with_value, after_membership, after_value}
-use Rattle.gms_store.specs.Declarations.{names_of, positions_of, content_of, symbol_of_kind, retyped, is_set, is_undeclared, declared_again, put_at, declare, alias_symbol, model_symbol, join_name, can_join, declare_alias, declare_model, declare_models, declare_each, declared_by}
+use Rattle.gms_store.specs.Declarations.{names_of, positions_of, content_of, symbol_of_kind, retyped, is_set, is_undeclared, declared_again, put_at, declare, alias_symbol, model_symbol, join_name, can_join, declare_alias, declare_model, declare_models, declare_each, declared_by, kind_in}
 use Rattle.gms_set.specs.declared.fault.SetFault.{SetFault}
 use Rattle.gms_set.specs.Expansion.{Given, expanded}
 use Rattle.gms_known.specs.Data.{with_datum}
-use Rattle.gms_check.specs.Names.{is_variable}
 use Rattle.gms_check.specs.Past.{Past, with_data, with_name, with_item, after_act, after_statement}
 
 -- what is read of a list after a write: what was there, or at that place the new element
@@ -58,12 +57,12 @@ pub record IsFitting (symbol : Symbol) : Type 0 where
   pub arity : HaveLength (length symbol.domain) (members_in symbol.content)
   pub ordered : IsOrdered (members_in symbol.content)
 
--- A symbol that is declared, after another: over the same domain, another name of the same set where that is one, and a variable where that is one.
+-- A symbol that is declared, after another: over the same domain, another name of the same set where that is one, and of the same kind.
 pub record IsAfter (old new : Symbol) : Type 0 where
   pub domain : new.domain ≡ old.domain
   pub alike : (n : ℕ) → behind n new.content ≡ behind n old.content
   pub declared : is_undeclared new.content ≡ false
-  pub variable : is_variable new.content ≡ is_variable old.content
+  pub same_kind : kind_in new.content ≡ kind_in old.content
 
 -- a symbol later: it was not declared, or it comes after
 abbrev pub IsLater : Symbol → Symbol → Type 0
@@ -82,13 +81,13 @@ later-itself s = by (is_undeclared s.content) refl
   where
     by : (b : Bool) → is_undeclared s.content ≡ b → IsLater s s
     by true none = inl none
-    by false there = inr (record { domain = refl; alike = λ n. refl; declared = there; variable = refl })
+    by false there = inr (record { domain = refl; alike = λ n. refl; declared = there; same_kind = refl })
 
 later-both : (a b c : Symbol) → IsLater a b → IsLater b c → IsLater a c
 later-both a b c (inl none) second = inl none
 later-both a b c (inr first) (inl none) = absurd (let no : true ≡ false = sym none ∙ first.declared in cc)
 later-both a b c (inr first) (inr second) =
-    inr (record { domain = second.domain ∙ first.domain; alike = λ n. second.alike n ∙ first.alike n; declared = second.declared; variable = second.variable ∙ first.variable })
+    inr (record { domain = second.domain ∙ first.domain; alike = λ n. second.alike n ∙ first.alike n; declared = second.declared; same_kind = second.same_kind ∙ first.same_kind })
 
 grows_to-itself : (s : Symbol) → GrowsTo s s
 grows_to-itself s fits = (fits, later-itself s)
@@ -120,10 +119,10 @@ record IsAlike (old new : Content) : Type 0 where
   behind_same : (n : ℕ) → behind n new ≡ behind n old
   members : members_in new ≡ members_in old
   declared : is_undeclared new ≡ is_undeclared old
-  variable : is_variable new ≡ is_variable old
+  same_kind : kind_in new ≡ kind_in old
 
 alike-itself : (c : Content) → IsAlike c c
-alike-itself c = record { behind_same = λ n. refl; members = refl; declared = refl; variable = refl }
+alike-itself c = record { behind_same = λ n. refl; members = refl; declared = refl; same_kind = refl }
 
 grows-alike : (s : Symbol) (new : Content) → IsAlike s.content new → GrowsTo s (with_content s new)
 grows-alike s new alike fits = (
@@ -134,12 +133,12 @@ grows-alike s new alike fits = (
   },
   elim (later-itself s) [
     | inl none ↦ inl none
-    | inr after ↦ inr (record { domain = refl; alike = alike.behind_same; declared = alike.declared ∙ after.declared; variable = alike.variable })
+    | inr after ↦ inr (record { domain = refl; alike = alike.behind_same; declared = alike.declared ∙ after.declared; same_kind = alike.same_kind })
   ],
 )
 
 alike-variables : (old new : VariableType) (some none : Entries Attributes) → IsAlike (variable_of old some) (variable_of new none)
-alike-variables old new some none = record { behind_same = λ n. refl; members = refl; declared = refl; variable = refl }
+alike-variables old new some none = record { behind_same = λ n. refl; members = refl; declared = refl; same_kind = refl }
 
 alike-free : (entries : Entries Attributes) (later : Content) → IsAlike (variable_of type.Free entries) (retyped (variable_of type.Free entries) later)
 alike-free entries undeclared = alike-itself (variable_of type.Free entries)
@@ -291,7 +290,7 @@ grows-inserted : (domain : List (Option ℕ)) (content : Content) (t : List ℕ)
 grows-inserted domain undeclared t long = grows_to-itself (record { domain = domain; content = undeclared })
 grows-inserted domain (alias_of base) t long = grows_to-itself (record { domain = domain; content = alias_of base })
 grows-inserted domain (set_of members) t long =
-    λ fits. (record { blank = λ none. cc; arity = length-inserted (length domain) members t long fits.arity; ordered = IsOrdered-inserted members t fits.ordered }, inr (record { domain = refl; alike = λ n. refl; declared = refl; variable = refl }))
+    λ fits. (record { blank = λ none. cc; arity = length-inserted (length domain) members t long fits.arity; ordered = IsOrdered-inserted members t fits.ordered }, inr (record { domain = refl; alike = λ n. refl; declared = refl; same_kind = refl }))
 grows-inserted domain (parameter_of values) t long = grows_to-itself (record { domain = domain; content = parameter_of values })
 grows-inserted domain (variable_of type entries) t long = grows_to-itself (record { domain = domain; content = variable_of type entries })
 grows-inserted domain (equation_of entries) t long = grows_to-itself (record { domain = domain; content = equation_of entries })
@@ -301,7 +300,7 @@ alike-value : (c : Content) (t : List ℕ) (x : extended.Extended) → IsAlike c
 alike-value undeclared t x = alike-itself undeclared
 alike-value (alias_of base) t x = alike-itself (alias_of base)
 alike-value (set_of members) t x = alike-itself (set_of members)
-alike-value (parameter_of values) t x = record { behind_same = λ n. refl; members = refl; declared = refl; variable = refl }
+alike-value (parameter_of values) t x = record { behind_same = λ n. refl; members = refl; declared = refl; same_kind = refl }
 alike-value (variable_of type entries) t x = alike-itself (variable_of type entries)
 alike-value (equation_of others) t x = alike-itself (equation_of others)
 alike-value (model_with m s) t x = alike-itself (model_with m s)

@@ -12,13 +12,14 @@ use Rattle.gms_ast.specs.declared.program.Stmt.{Stmt}
 use Rattle.gms_tuple.specs.TupleOrder.{IsOrdered}
 use Rattle.gms_tuple.proofs.Ordered.{ordered-nil}
 use Rattle.gms_store.specs.State.{State, Content, undeclared, alias_of, set_of, parameter_of, variable_of, equation_of, model_with, Symbol, no_symbol, symbol_at, base_of, symbol_of, members_in, members_of}
-use Rattle.gms_store.specs.Declarations.{is_set, is_undeclared, blank_state}
-use Rattle.gms_known.specs.Names.{is_set_name, has_one_position, is_index_set}
+use Rattle.gms_store.specs.Declarations.{is_set, is_undeclared, blank_state, kind_in}
+use Rattle.gms_known.specs.Names.{is_set_name, has_one_position, is_index_set, kind_of}
 use Rattle.gms_check.specs.Checked.{StandsAfter}
+use Rattle.gms_check.specs.Kinds.{is_variable_kind}
 use Rattle.gms_check.specs.Loaded.{sound, loaded}
 use Rattle.gms_check.specs.Names.{is_variable}
 use Rattle.gms_check.specs.Past.{state_after, after_statement}
-use Rattle.gms_check.proofs.Growing.{IsFitting, IsLater, HaveLength, Grows, grows-past}
+use Rattle.gms_check.proofs.Growing.{IsFitting, IsAfter, IsLater, HaveLength, Grows, grows-past}
 
 -- where two tests hold, each does
 first-holds : (a b : Bool) → (a && b) ≡ true → a ≡ true
@@ -35,7 +36,7 @@ none-declared zero n = refl
 none-declared (suc names) zero = refl
 none-declared (suc names) (suc n) = none-declared names n
 
-blank-fits : (names n : ℕ) → IsFitting (symbol_at (blank_state names) n)
+pub blank-fits : (names n : ℕ) → IsFitting (symbol_at (blank_state names) n)
 blank-fits names n =
     subst IsFitting (sym (none-declared names n)) (record { blank = λ none. refl; arity = All-nil (λ (t : List ℕ). length t ≡ 0); ordered = ordered-nil })
 
@@ -48,6 +49,16 @@ set-declared (parameter_of values) e = refl
 set-declared (variable_of type entries) e = refl
 set-declared (equation_of entries) e = refl
 set-declared (model_with model solver) e = refl
+
+-- a variable is one by its kind
+by-kind : (content : Content) → is_variable content ≡ is_variable_kind (kind_in content)
+by-kind undeclared = refl
+by-kind (alias_of base) = refl
+by-kind (set_of members) = refl
+by-kind (parameter_of values) = refl
+by-kind (variable_of type entries) = refl
+by-kind (equation_of entries) = refl
+by-kind (model_with model solver) = refl
 
 -- no list without elements has one
 none-is-no-one : (xs : List (Option ℕ)) → xs ≡ [] → length xs ≡ 1 → ⊥
@@ -110,14 +121,28 @@ module _ {F : Type 0} (value : F → Number) (program : Program F) where
   index-set-loaded before statement stands set is =
       stays-one (before_state before) (loaded value program) (fits-before before) (grows-on before statement stands) set is
 
-  -- a name that is declared before a statement is a variable then just where it is one when the program begins
-  pub variable-loaded : (before : List (Stmt F)) (statement : Stmt F) → StandsAfter program before statement → (name : ℕ) → is_undeclared (symbol_at (before_state before) name).content ≡ false → is_variable (symbol_at (loaded value program) name).content ≡ is_variable (symbol_at (before_state before) name).content
-  variable-loaded before statement stands name declared =
+  -- a name that is declared before a statement comes after itself when the program begins
+  after-itself : (before : List (Stmt F)) (statement : Stmt F) → StandsAfter program before statement → (name : ℕ) → is_undeclared (symbol_at (before_state before) name).content ≡ false → IsAfter (symbol_at (before_state before) name) (symbol_at (loaded value program) name)
+  after-itself before statement stands name declared =
       by (grows-on before statement stands name (fits-before before name)).1
     where
-      by : IsLater (symbol_at (before_state before) name) (symbol_at (loaded value program) name) → is_variable (symbol_at (loaded value program) name).content ≡ is_variable (symbol_at (before_state before) name).content
+      by : IsLater (symbol_at (before_state before) name) (symbol_at (loaded value program) name) → IsAfter (symbol_at (before_state before) name) (symbol_at (loaded value program) name)
       by (inl none) = absurd (let no : true ≡ false = sym none ∙ declared in cc)
-      by (inr after) = after.variable
+      by (inr after) = after
+
+  -- so it is of the same kind then, over the same domain
+  pub kind-loaded : (before : List (Stmt F)) (statement : Stmt F) → StandsAfter program before statement → (name : ℕ) → is_undeclared (symbol_at (before_state before) name).content ≡ false → kind_of (loaded value program) name ≡ kind_of (before_state before) name
+  kind-loaded before statement stands name declared = (after-itself before statement stands name declared).same_kind
+
+  pub domain-loaded : (before : List (Stmt F)) (statement : Stmt F) → StandsAfter program before statement → (name : ℕ) → is_undeclared (symbol_at (before_state before) name).content ≡ false → (symbol_at (loaded value program) name).domain ≡ (symbol_at (before_state before) name).domain
+  domain-loaded before statement stands name declared = (after-itself before statement stands name declared).domain
+
+  -- and a variable just where it is one when the program begins
+  pub variable-loaded : (before : List (Stmt F)) (statement : Stmt F) → StandsAfter program before statement → (name : ℕ) → is_undeclared (symbol_at (before_state before) name).content ≡ false → is_variable (symbol_at (loaded value program) name).content ≡ is_variable (symbol_at (before_state before) name).content
+  variable-loaded before statement stands name declared =
+      by-kind (symbol_at (loaded value program) name).content
+      ∙ ap is_variable_kind (kind-loaded before statement stands name declared)
+      ∙ sym (by-kind (symbol_at (before_state before) name).content)
 
   -- and each name has members in order, with a label for each of its positions
   pub loaded-fits : (n : ℕ) → IsFitting (symbol_at (loaded value program) n)

@@ -93,18 +93,22 @@ module _ {F : Type 0} (known : Known F) where
   clean-one_of sets (first ∷ before) rest statement clean =
       clean-one_of sets before rest statement (clean-right known (statement_uses first known.state sets) (flat_map (λ (s : Stmt F). statement_uses s known.state sets) (before ++ statement ∷ rest)) clean)
 
-  -- and of an assignment in the loops of a statement
-  inner-left : (depth : ℕ) (outer inner : Stmt F) (controlled : List ℕ) (target : Target F) (condition : Option (Expr F)) (right_at : Place) (right : Expr F) → StandsIn depth inner outer → inner.act ≡ Assign target condition right_at (Value right) → AreClean known (statement_uses outer known.state controlled) → AreLeftIndices known.state (index_list target.indices)
-  inner-left zero outer inner controlled target condition right_at right same is clean =
-      assigned-left inner controlled target condition right_at right is (subst (λ (s : Stmt F). AreClean known (statement_uses s known.state controlled)) same clean)
-  inner-left (suc depth) outer inner controlled target condition right_at right inside is clean =
+  -- a statement in the loops of another one uses what has no error, with the sets of the loops controlled
+  inner-clean : (depth : ℕ) (outer inner : Stmt F) (controlled : List ℕ) → StandsIn depth inner outer → AreClean known (statement_uses outer known.state controlled) → (sets : List ℕ) × AreClean known (statement_uses inner known.state sets)
+  inner-clean zero outer inner controlled same clean = (controlled, subst (λ (s : Stmt F). AreClean known (statement_uses s known.state controlled)) same clean)
+  inner-clean (suc depth) outer inner controlled inside clean =
       let sets = controlled ++ sets_of (control_tree inside.control) in
       let whole = subst (AreClean known) (uses-act outer known.state controlled ∙ ap (λ (act : Act F). act_uses act known.state outer.at controlled) inside.loop ∙ uses-Loop known.state outer.at controlled inside.control inside.body) clean in
       let body = clean-right known (control_uses outer.at controlled (control_tree inside.control)) (flat_map (λ (s : Stmt F). statement_uses s known.state sets) inside.body.items) whole in
-      inner-left depth inside.next inner sets target condition right_at right inside.holds is (clean-one_of sets inside.before inside.rest inside.next (subst (λ (statements : List (Stmt F)). AreClean known (flat_map (λ (s : Stmt F). statement_uses s known.state sets) statements)) inside.stands body))
+      inner-clean depth inside.next inner sets inside.holds (clean-one_of sets inside.before inside.rest inside.next (subst (λ (statements : List (Stmt F)). AreClean known (flat_map (λ (s : Stmt F). statement_uses s known.state sets) statements)) inside.stands body))
 
 module _ {F : Type 0} (value : F → Number) where
+  pub program-inner : (program : Program F) (solvers : List (List ℕ)) (before : List (Stmt F)) (outer inner : Stmt F) (depth : ℕ) → compile_errors value program solvers ≡ [] → StandsAfter program before outer → StandsIn depth inner outer → (sets : List ℕ) × AreClean (known_after value program solvers (sound before)) (statement_uses inner (known_after value program solvers (sound before)).state sets)
+  program-inner program solvers before outer inner depth none stands inside =
+      let known = known_after value program solvers (sound before) in
+      inner-clean known depth outer inner [] inside (statement-clean known outer (after-sound value program solvers before [] outer stands.0 (sym (ap (errors_after value program solvers []) stands.1) ∙ none)))
+
   pub program-left : (program : Program F) (solvers : List (List ℕ)) (before : List (Stmt F)) (outer inner : Stmt F) (depth : ℕ) (target : Target F) (condition : Option (Expr F)) (right_at : Place) (right : Expr F) → compile_errors value program solvers ≡ [] → StandsAfter program before outer → StandsIn depth inner outer → inner.act ≡ Assign target condition right_at (Value right) → AreLeftIndices (known_after value program solvers (sound before)).state (index_list target.indices)
   program-left program solvers before outer inner depth target condition right_at right none stands inside is =
-      let known = known_after value program solvers (sound before) in
-      inner-left known depth outer inner [] target condition right_at right inside is (statement-clean known outer (after-sound value program solvers before [] outer stands.0 (sym (ap (errors_after value program solvers []) stands.1) ∙ none)))
+      let one = program-inner program solvers before outer inner depth none stands inside in
+      assigned-left (known_after value program solvers (sound before)) inner one.0 target condition right_at right is one.1

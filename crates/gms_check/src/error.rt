@@ -3,77 +3,54 @@ ghost use Rattle.std.specs.Prelude.{◌≡◌, Some};
 ghost use Rattle.gms_check.specs.Errors.{comes_first, earlier, error_code, error_name};
 
 use gms_labels::Place;
-use thiserror::Error;
 
 /// A compile error. Each example is a source that has it, after `set i /a,b/, s(i); parameter p(i); variables x, z; equation e;`.
-#[derive(Clone, Copy, Debug, PartialEq, Eq, Error)]
+#[derive(Clone, Copy)]
 pub enum ErrorKind {
     /// A name that no statement before declares, as `q = 1;`, or a word that is no option, as `option foo = 1;`.
-    #[error("the name is not declared")]
     UnknownName,
     /// A name that is declared again, as `set i;`. A variable may be given a type once more while its type is free.
-    #[error("the name is declared already")]
     Redeclared,
     /// A symbol, a suffix, `yes`, `no` or an infinity where its kind does not stand, as `p("a") = yes;`.
-    #[error("its kind does not stand here")]
     WrongKind,
     /// Another number of indices than declared, or over 10, as `p = 1;`.
-    #[error("the number of indices is wrong")]
     WrongArity,
     /// An index set that is not below the set of its position, as `p(j) = 1;` after `set j /a/;`.
-    #[error("the set is not below the set of its position")]
     DomainOfSet,
     /// A label that the set of its position does not have, as `p("c") = 1;`.
-    #[error("the label is not in the set of its position")]
     DomainOfLabel,
     /// An index set that nothing controls, as `p("a") = p(i);`.
-    #[error("nothing controls the set")]
     Uncontrolled,
     /// A control of a set that is controlled already, as `p(i) = sum(i, 1);`.
-    #[error("the set is controlled already")]
     ControlledTwice,
     /// `ord` or a lag of a set that is not ordered, as `p(s) = ord(s); s(i) = yes;`.
-    #[error("the set is not ordered")]
     NotOrdered,
     /// A set that some statement assigns, as a domain: `parameter q(s); s(i) = yes;`.
-    #[error("a dynamic set is no domain")]
     DynamicDomain,
     /// A step of an equation that is not linear, as `e.. x*z =e= 1;`.
-    #[error("the equation is not linear")]
     Nonlinear,
     /// A variable whose values are not continuous, as `binary variable b;`.
-    #[error("the variables are not continuous")]
     Discrete,
     /// A kind of model that is not linear, as `solve m using nlp minimizing z;`.
-    #[error("the kind of model is not lp")]
     ModelType,
     /// A solve of a model with an equation that no statement before defines, as `model m /e/; solve m using lp minimizing z;`.
-    #[error("an equation of the model is not defined")]
     NotDefined,
     /// A second definition of an equation, as `e.. x =e= 1; e.. z =e= 2;`.
-    #[error("the equation is defined already")]
     DefinedTwice,
     /// An objective that is no variable of type free without indices.
-    #[error("the objective is no free variable without indices")]
     Objective,
     /// A name that no solver has, as `option lp = nobody;`.
-    #[error("no solver has this name")]
     UnknownSolver,
     /// A value of an option that is outside its range, as `option decimals = 9;`.
-    #[error("the value is outside the range of the option")]
     OptionRange,
     /// A variable without suffix where it is no unknown of an equation, as `p("a") = x;`.
-    #[error("a variable stands here by its attributes alone")]
     Endogenous,
     /// A function that this language leaves out, or a wrong number of arguments, as `p("a") = exp(1);`.
-    #[error("the function is left out, or takes another number of arguments")]
     Function,
     /// A range that is none, an element that is given twice, or too many of them, as `set k /a3*a1/;`.
-    #[error("the data are wrong")]
     DataFault,
     /// In a restarted run, a statement of the new file that gives a type to a saved variable, or that assigns a saved set
     /// which the saved source does not assign.
-    #[error("the saved run does not allow this")]
     Restart,
 }
 
@@ -140,7 +117,7 @@ impl ErrorKind {
 }
 
 /// A compile error and its place: that of the smallest part of the statement around it that has one.
-#[derive(Clone, Copy, Debug, PartialEq, Eq)]
+#[derive(Clone, Copy)]
 pub struct CompileError {
     /// The error.
     pub kind: ErrorKind,

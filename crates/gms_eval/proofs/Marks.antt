@@ -1,5 +1,5 @@
 -- The marks and the answers of the parts of each kind of chain.
-use Rattle.std.proofs.Common.{◌≡◌, ℕ, Bool, Option, None, Err, unwrap_or, option_map, refl, ap, ◌∙◌, Some}
+use Rattle.std.proofs.Common.{◌≡◌, ℕ, Bool, Option, None, Err, unwrap_or, option_map, refl, ap, ◌∙◌, subst, Some}
 use Rattle.gms_labels.specs.declared.place.Place.{Place}
 use Rattle.gq_number.specs.Number.{Number}
 use Rattle.gq_extended.specs.Extended.{Extended}
@@ -9,6 +9,7 @@ use Rattle.gms_ast.specs.declared.expression.RelOp.{RelOp}
 use Rattle.gms_ast.specs.declared.expression.Expr.{Expr}
 use Rattle.gms_ast.specs.Trees as tree
 use Rattle.gms_store.specs.State.{State}
+use Rattle.gms_eval.specs.declared.stop.StopKind.{StopKind}
 use Rattle.gms_eval.specs.declared.stop.StopOrMemory.{StopOrMemory}
 use Rattle.gms_eval.specs.declared.stop.StopOrMemory.TheVariants.{Memory, Stop}
 use Rattle.gms_eval.specs.Bindings.{Pairs}
@@ -54,3 +55,8 @@ value_or v (Some x) z e = refl
 pub stops-shown : {F A : Type 0} (v : F → Number) (stop : StopOrMemory F) (fault : Fault) (a : Answer A) → a ≡ Err fault → Shows v stop fault → Stops v stop a
 stops-shown v Memory fault a e s = tt
 stops-shown v (Stop stop) fault a e s = e ∙ ap Err s
+
+-- a stop whose operands are 0 shows a fault without operands
+pub shows-nothing : {F : Type 0} (v : F → Number) (stop : StopOrMemory F) (kind : StopKind) (at : Place) (binding : Pairs) (count : ℕ) (x y : Extended) → x ≡ nothing → y ≡ nothing → Shows v stop (record { kind = kind; at = at; binding = binding; left = x; right = y; count = count }) → Shows v stop (record { kind = kind; at = at; binding = binding; left = nothing; right = nothing; count = count })
+shows-nothing v stop kind at binding count x y e f s =
+    subst (λ z. Shows v stop (record { kind = kind; at = at; binding = binding; left = nothing; right = z; count = count })) f (subst (λ z. Shows v stop (record { kind = kind; at = at; binding = binding; left = z; right = y; count = count })) e s)

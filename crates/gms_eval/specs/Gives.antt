@@ -1,5 +1,6 @@
 -- What a call answers, as what the definitions give.
-use Rattle.std.specs.Prelude.{◌≡◌, Result, Ok, Err}
+use Rattle.std.specs.Prelude.{◌≡◌, Result, Ok, Err, Box}
+use Rattle.std.specs.declared.alloc.Global.{Global}
 use Rattle.gq_number.specs.Number.{Number}
 use Rattle.gq_extended.specs.Meaning.{extended}
 use Rattle.gms_eval.specs.declared.stop.ExecStop.{ExecStop}
@@ -9,9 +10,13 @@ use Rattle.gms_eval.specs.Faults.{Fault, Answer}
 
 module _ {F : Type 0} (number_of : F → Number) where
   -- the fault that a stop shows
-  abbrev pub fault_of : ExecStop F → Fault
-  fault_of stop =
+  abbrev pub shown_by : ExecStop F → Fault
+  shown_by stop =
       record { kind = stop.kind; at = stop.at; binding = stop.binding; left = extended number_of stop.left; right = extended number_of stop.right; count = stop.count }
+
+  -- the same of a stop on the heap
+  abbrev pub fault_of : Box (ExecStop F) Global → Fault
+  fault_of stop = shown_by stop.value
 
   -- a stop shows this fault; want of memory says nothing of it
   abbrev pub Shows : StopOrMemory F → Fault → Type 0

@@ -1,15 +1,16 @@
 //! The value of an expression, when a condition holds, and the elements of a domain.
-ghost use Rattle.std.specs.Prelude.{◌≡◌, map, Ok, IfOk, option_map, option_copied};
+ghost use Rattle.std.specs.Prelude.{◌≡◌, map, not, Ok, IfOk, option_map, option_copied};
+ghost use Rattle.gq_extended.specs.Extended.{negated};
 ghost use Rattle.gq_extended.specs.Meaning.{extended};
 ghost use Rattle.gms_ast.specs.TreeView.{tree_of, control_tree};
 ghost use Rattle.gms_ast.specs.Trees.{plain, signed, placed, related, chosen};
-ghost use Rattle.gms_eval.specs.Nodes.{chain, power_step, relation_step, all_step, one_step, in_order, each_holds, folded, signed_step};
+ghost use Rattle.gms_eval.specs.Nodes.{chain, power_step, relation_step, all_step, one_step, in_order, each_holds, folded, signed_step, called, is_so, truth};
 ghost use Rattle.gms_eval.specs.Bindings.{controlled};
 ghost use Rattle.gms_eval.specs.Domain.{those_where};
 ghost use Rattle.gms_eval.specs.Faults.{◌and_then◌};
 ghost use Rattle.gms_eval.specs.Gives.{Gives};
 ghost use Rattle.gms_eval.specs.Holds.{holds};
-ghost use Rattle.gms_eval.specs.References.{tuple_of};
+ghost use Rattle.gms_eval.specs.References.{tuple_of, entry_of};
 ghost use Rattle.gms_eval.specs.Value.{value, domain, control_over, label_answer};
 ghost use Rattle.gms_eval.specs.InnerWalks.{those_of, IsCounted};
 
@@ -24,7 +25,7 @@ use crate::steps::{
     power_part, related_part, signed_part, start, truth, zero,
 };
 use crate::stop::{StopKind, StopOrMemory};
-use gms_ast::{Control, Expr, FoldOp, Index, RelOp};
+use gms_ast::{Control, Expr, FoldOp, Function, Index, RelOp, Suffix};
 use gms_labels::Place;
 use gms_store::Store;
 use gms_tuple::Tuple;
@@ -63,16 +64,10 @@ pub fn value<F: ExactField>(
             name,
             suffix,
             indices,
-        } => {
-            let tuple = tuple_of(alloc, store, indices, b)?;
-            entry_of(alloc, store, *at, *name, *suffix, tuple, b)
-        }
+        } => referred(alloc, store, *at, *name, *suffix, indices, b),
         Expr::Ord { at, set } => counted(alloc, *at, place_in_set(alloc, store, *set, b)?, b),
         Expr::Card { at, set } => counted(alloc, *at, store.members(*set).len(), b),
-        Expr::Call { at, function, args } => {
-            let args = arguments(alloc, store, args, b)?;
-            called(alloc, *at, *function, args.as_slice(), b)
-        }
+        Expr::Call { at, function, args } => call(alloc, store, *at, *function, args, b),
         Expr::Fold {
             at,
             op,
@@ -91,12 +86,12 @@ pub fn value<F: ExactField>(
                 b,
             )
         }
-        Expr::Neg(operand) => Ok(value(alloc, store, operand, b)?.neg()),
+        Expr::Neg(operand) => negative(alloc, store, operand, b),
         Expr::Plus(parts) => signed_chain(alloc, store, Signed::Sum, parts, b),
         Expr::Times(parts) => signed_chain(alloc, store, Signed::Product, parts, b),
         Expr::Power(parts) => powers(alloc, store, parts, b),
         Expr::Relate(parts) => relations(alloc, store, parts, b),
-        Expr::Not(operand) => Ok(truth(!is_so(value(alloc, store, operand, b)?))),
+        Expr::Not(operand) => denied(alloc, store, operand, b),
         Expr::And(parts) => all_of(alloc, store, parts, b),
         Expr::Or(parts) => one_of(alloc, store, parts, b),
         Expr::Guard { operand, guards } => {
@@ -109,10 +104,80 @@ pub fn value<F: ExactField>(
     }
 }
 
+/// What a reference reads at the tuple of its indices.
+#[cycle(value)]
+#[inline(never)]
+fn referred<F: ExactField>(
+    alloc: Global,
+    store: &Store<F>,
+    at: Place,
+    name: u32,
+    suffix: Suffix,
+    indices: &[Index<F>],
+    b: &Binding,
+) -> Result<Ext<F>, StopOrMemory<F>>
+    ensures { Gives F.value (extended F.value) result
+        ((in_order (map (λ index. label_answer F.value F.limit store.now b.now index) indices.now) and_then λ those. Ok (tuple_of those)) and_then entry_of F.limit store.now b.now at name suffix) }
+{
+    let tuple = tuple_of(alloc, store, indices, b)?;
+    entry_of(alloc, store, at, name, suffix, tuple, b)
+}
+
+/// The value of a function at the values of its arguments.
+#[cycle(value)]
+#[inline(never)]
+fn call<F: ExactField>(
+    alloc: Global,
+    store: &Store<F>,
+    at: Place,
+    function: Function,
+    args: &[Expr<F>],
+    b: &Binding,
+) -> Result<Ext<F>, StopOrMemory<F>>
+    ensures { Gives F.value (extended F.value) result
+        (in_order (map (λ arg. value F.value F.limit store.now b.now (tree_of arg)) args.now) and_then λ xs. called F.limit b.now at function xs) }
+{
+    let values = arguments(alloc, store, args, b)?;
+    called(alloc, at, function, values.as_slice(), b)
+}
+
+/// The value of an operand behind a minus sign.
+#[cycle(value)]
+#[inline(never)]
+fn negative<F: ExactField>(
+    alloc: Global,
+    store: &Store<F>,
+    operand: &Expr<F>,
+    b: &Binding,
+) -> Result<Ext<F>, StopOrMemory<F>>
+    ensures { Gives F.value (extended F.value) result
+        (value F.value F.limit store.now b.now (tree_of operand.now) and_then λ x. Ok (negated x)) }
+{
+    let x = value(alloc, store, operand, b)?;
+    Ok(x.neg())
+}
+
+/// The value of an operand behind `not`, 1 or 0.
+#[cycle(value)]
+#[inline(never)]
+fn denied<F: ExactField>(
+    alloc: Global,
+    store: &Store<F>,
+    operand: &Expr<F>,
+    b: &Binding,
+) -> Result<Ext<F>, StopOrMemory<F>>
+    ensures { Gives F.value (extended F.value) result
+        (value F.value F.limit store.now b.now (tree_of operand.now) and_then λ x. Ok (truth (not (is_so x)))) }
+{
+    let x = value(alloc, store, operand, b)?;
+    Ok(truth(!is_so(x)))
+}
+
 /// The value of a sum or a product of parts, joined from the left to the right; that of no parts is 0.
 ///
 /// Each part has its place, and whether it is subtracted, or divides, which says nothing of the first. A stop is the first fault of a part or a step.
 #[cycle(value)]
+#[inline(never)]
 pub fn signed_chain<F: ExactField>(
     alloc: Global,
     store: &Store<F>,
@@ -173,6 +238,7 @@ fn relations<F: ExactField>(
 
 /// 1 where each part holds, and else 0: no part behind one that does not hold is taken.
 #[cycle(value)]
+#[inline(never)]
 fn all_of<F: ExactField>(
     alloc: Global,
     store: &Store<F>,
@@ -196,6 +262,7 @@ fn all_of<F: ExactField>(
 
 /// The value of a choice, 1 or 0: a part joined by `or` is not taken where what stands before it holds.
 #[cycle(value)]
+#[inline(never)]
 fn one_of<F: ExactField>(
     alloc: Global,
     store: &Store<F>,
@@ -219,6 +286,7 @@ fn one_of<F: ExactField>(
 
 /// Whether each guard holds: they are taken from the last to the first, up to one that does not hold.
 #[cycle(value)]
+#[inline(never)]
 pub fn all_hold<F: ExactField>(
     alloc: Global,
     store: &Store<F>,
@@ -278,6 +346,7 @@ pub fn tuple_of<F: ExactField>(
 
 /// The label of an index, where there is one: that of its set, or the one that its lag reaches.
 #[cycle(value)]
+#[inline(never)]
 fn label_of<F: ExactField>(
     alloc: Global,
     store: &Store<F>,
@@ -352,6 +421,7 @@ fn chosen<F: ExactField>(
 
 /// The values of a fold's bodies joined one after another.
 #[cycle(value)]
+#[inline(never)]
 fn folded<F: ExactField>(
     alloc: Global,
     store: &Store<F>,

@@ -12,43 +12,31 @@ use gms_labels::Place;
 use gq_extended::{Ext, ExtendedFault};
 use gq_field::ExactField;
 use std::alloc::{AllocError, AllocFailed, Global};
-use thiserror::Error;
 
 /// Why an execution stops. GAMS User's Guide, "GAMS Output", execution errors.
-#[derive(Clone, Copy, Debug, PartialEq, Eq, Error)]
+#[derive(Clone, Copy)]
 pub enum StopKind {
     /// A number does not fit under the limit.
-    #[error("a number passes the limit of the numbers")]
     Limit,
     /// A division by 0, or 0 to a power below 0.
-    #[error("division by zero")]
     Divide,
     /// The amount of a lag is no whole number.
-    #[error("the amount of a lag is no whole number")]
     LagNotWhole,
     /// The least or the greatest of no values.
-    #[error("the least or the greatest of no values")]
     EmptyExtreme,
     /// An exponent that is no whole number, or is above 1,024 in magnitude.
-    #[error("an exponent that is not whole, or above 1,024 in magnitude")]
     Exponent,
     /// The product of the sets of a domain has more than 16,777,216 elements.
-    #[error("a domain of more than 16,777,216 elements")]
     DomainSize,
     /// A linear program has too many rows.
-    #[error("a linear program of too many rows")]
     TooManyRows,
     /// A linear program has too many columns.
-    #[error("a linear program of too many columns")]
     TooManyColumns,
     /// A solve without a solver.
-    #[error("there is no solver")]
     NoSolver,
     /// An `abort`.
-    #[error("the program aborts")]
     Aborted,
     /// A step that has no meaning, as an infinity less itself.
-    #[error("a step that has no meaning")]
     Undefined,
 }
 
@@ -140,8 +128,8 @@ impl<F: Drop> Drop for ExecStop<F> {
 pub enum StopOrMemory<F> {
     /// A growth found no memory.
     Memory,
-    /// The execution stops so.
-    Stop(ExecStop<F>),
+    /// The execution stops so. On the heap, so that what an expression answers stays small where expressions stand in each other.
+    Stop(Box<ExecStop<F>>),
 }
 
 impl<F> From<AllocError> for StopOrMemory<F> {
@@ -161,6 +149,35 @@ impl<F, T: Drop> From<AllocFailed<T>> for StopOrMemory<F> {
 }
 
 impl<F: ExactField> StopOrMemory<F> {
+    /// The stop with these contents, on the heap.
+    fn made(
+        alloc: Global,
+        kind: StopKind,
+        at: Place,
+        left: Ext<F>,
+        right: Ext<F>,
+        count: u64,
+        b: &Binding,
+    ) -> StopOrMemory<F>
+        ensures { Shows F.value result (record { kind = kind; at = at; binding = b.now; left = extended F.value left; right = extended F.value right; count = count }) }
+    {
+        let Ok(binding) = b.copy(alloc) else {
+            return StopOrMemory::Memory;
+        };
+        let stop = ExecStop {
+            kind,
+            at,
+            binding,
+            left,
+            right,
+            count,
+        };
+        match Box::new(alloc, stop) {
+            Ok(stop) => StopOrMemory::Stop(stop),
+            Err(_) => StopOrMemory::Memory,
+        }
+    }
+
     /// The stop of a step.
     #[inline(never)]
     pub fn at_step(
@@ -173,20 +190,11 @@ impl<F: ExactField> StopOrMemory<F> {
     ) -> StopOrMemory<F>
         ensures { Shows F.value result (faulted kind at b.now (extended F.value left) (extended F.value right)) }
     {
-        match b.copy(alloc) {
-            Ok(binding) => StopOrMemory::Stop(ExecStop {
-                kind,
-                at,
-                binding,
-                left,
-                right,
-                count: 0,
-            }),
-            Err(_) => StopOrMemory::Memory,
-        }
+        StopOrMemory::made(alloc, kind, at, left, right, 0, b)
     }
 
     /// The stop of a domain, or of a linear program, that has so many elements, rows or columns.
+    #[inline(never)]
     pub fn counted(
         alloc: Global,
         kind: StopKind,
@@ -196,17 +204,7 @@ impl<F: ExactField> StopOrMemory<F> {
     ) -> StopOrMemory<F>
         ensures { Shows F.value result (record { kind = kind; at = at; binding = b.now; left = nothing; right = nothing; count = count }) }
     {
-        match b.copy(alloc) {
-            Ok(binding) => StopOrMemory::Stop(ExecStop {
-                kind,
-                at,
-                binding,
-                left: zero(),
-                right: zero(),
-                count,
-            }),
-            Err(_) => StopOrMemory::Memory,
-        }
+        StopOrMemory::made(alloc, kind, at, zero(), zero(), count, b)
     }
 
     /// The stop of a domain whose product has so many elements.

@@ -45,7 +45,7 @@ pub enum Event<F> {
         items: Sequence<Shown<F>>,
     },
     /// The run stops.
-    Fault(ExecStop<F>),
+    Fault(Box<ExecStop<F>>),
 }
 
 /// What a `display` or an `abort` shows for one of its items: a text, or the values of a symbol.

@@ -24,7 +24,8 @@ use Rattle.gms_eval.specs.Bindings.{Pairs, label_of}
 use Rattle.gms_eval.specs.Faults.{Answer, Fault, ◌and_then◌}
 use Rattle.gms_eval.specs.Gives.{fault_of, Stops}
 use Rattle.gms_eval.proofs.Answering.{and_then_assoc}
-use Rattle.gms_exec.specs.Assignment.{sets_among, each_once, newly_controlled, those_there}
+use Rattle.gms_rows.specs.Rows.{sets_among, each_once}
+use Rattle.gms_exec.specs.Assignment.{newly_controlled, those_there}
 use Rattle.gms_exec.specs.Given.{Given, AllGiven}
 use Rattle.gms_exec.specs.InnerWalks.{first_set, behind_others, noted, with_found}
 

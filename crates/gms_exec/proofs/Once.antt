@@ -36,7 +36,8 @@ use Rattle.gms_eval.specs.declared.stop.StopKind.TheVariants.{LagNotWhole}
 use Rattle.gms_eval.proofs.Entries.{there, tuple-labels, label-inside}
 use Rattle.gms_eval.proofs.Places.{place-below}
 use Rattle.gms_eval.proofs.Simple.{elements-ordered, element-length}
-use Rattle.gms_exec.specs.Assignment.{sets_among, each_once, newly_controlled, given_under, element_under, those_there, given_by}
+use Rattle.gms_rows.specs.Rows.{sets_among, each_once}
+use Rattle.gms_exec.specs.Assignment.{newly_controlled, given_under, element_under, those_there, given_by}
 use Rattle.gms_exec.specs.Given.{Given, AllGiven}
 use Rattle.gms_exec.specs.Once.{is_fixed, AreLeft, IsOnce}
 

@@ -1,7 +1,7 @@
 -- The state after an assignment: a new state made of the old one, in which all values are taken (GAMS User's Guide, "Data Manipulations
 -- with Parameters", indexed assignments; "Conditional Expressions, Assignments and Equations", dollar on the left; "Sets as Sequences:
 -- Ordered Sets", lags and leads in assignments; "Dynamic Sets"). In which order faults come is this project's own rule.
-use Rattle.std.specs.Prelude.{ℕ, Bool, true, false, not, List, [], ◌∷◌, map, Option, Some, None, is_none, Ok, Err, if◌then◌else◌, filter, ◌==◌}
+use Rattle.std.specs.Prelude.{ℕ, Bool, true, false, List, [], ◌∷◌, map, Option, Some, None, is_none, Ok, Err, if◌then◌else◌, filter}
 use Rattle.gms_labels.specs.declared.place.Place.{Place}
 use Rattle.gq_number.specs.Number.{Number}
 use Rattle.gq_extended.specs.Extended.{Extended, number, plus_infinity, minus_infinity, na}
@@ -18,22 +18,11 @@ use Rattle.gms_eval.specs.Faults.{Answer, nothing, faulted, ◌and_then◌}
 use Rattle.gms_eval.specs.References.{tuple_of}
 use Rattle.gms_eval.specs.Value.{value, labels, domain, control_over}
 use Rattle.gms_eval.specs.declared.stop.StopKind.TheVariants.{Undefined}
+use Rattle.gms_rows.specs.Rows.{sets_among, each_once}
 use Rattle.gms_exec.specs.Given.{Given, member, value_is, AllGiven, after_given}
 use Rattle.gms_exec.specs.Membership.{membership}
 
 -- ---- what the left side controls
-
--- the sets among indices, in order
-abbrev pub sets_among : {N : Type 0} → tree.Indices N → List ℕ
-sets_among tree.no_index = []
-sets_among (tree.label label rest) = sets_among rest
-sets_among (tree.set set rest) = set ∷ sets_among rest
-sets_among (tree.lagged set op at amount rest) = set ∷ sets_among rest
-
--- numbers, each where it stands first
-abbrev pub each_once : List ℕ → List ℕ
-each_once [] = []
-each_once (n ∷ ns) = n ∷ filter (λ m. not (m == n)) (each_once ns)
 
 -- the sets of a left side that no loop controls
 abbrev pub newly_controlled : {N : Type 0} → Pairs → tree.Indices N → List ℕ

@@ -1,6 +1,7 @@
 //! The elements of the domain of a name, by their numbers.
 ghost use Rattle.std.specs.Prelude.{◌≡◌, ◌<◌, [], map, length, min, slice_index_or, IfOk};
 ghost use Rattle.gms_store.specs.State.{symbol_of};
+ghost use Rattle.gms_eval.specs.Domain.{most_counted};
 ghost use Rattle.gms_eval.specs.Lag.{label_in};
 ghost use Rattle.gms_exec.specs.Showing.{labels_at, elements_at};
 
@@ -73,7 +74,7 @@ impl<'s, F: ExactField> Walk<'s, F> {
 
     /// How many elements there are, or the greatest number of a `u64` where they pass it.
     pub(crate) fn count(&self) -> u64
-        ensures { result ≡ min (length (elements_at self.now.labels self.now.store.now self.now.positions.now)) 18446744073709551615 }
+        ensures { result ≡ min (length (elements_at self.now.labels self.now.store.now self.now.positions.now)) most_counted }
     {
         if self.positions.len() > MOST_LABELS {
             return 0;

@@ -11,16 +11,15 @@ use Rattle.gms_store.specs.Declarations.{is_undeclared}
 use Rattle.gms_store.specs.Overlays.{chosen, overlaid_symbols, overlaid}
 use Rattle.gms_store.specs.State.{State, Attributes, Content, undeclared, alias_of, set_of, parameter_of, variable_of, equation_of, model_with, Symbol, no_symbol, symbol_at, behind, base_of, symbol_of, with_symbol, with_content, if_fits, with_attributes, with_statuses, attributes_in, with_level, with_marginal, after_statuses, with_settings}
 use Rattle.lp_core.specs.declared.answer.End.{End}
-use Rattle.lp_core.specs.declared.answer.End.TheVariants.{Optimal, Infeasible, Unbounded, Interrupted, Refused}
 use Rattle.lp_core.specs.declared.program.Lp.{Lp}
 use Rattle.gms_exec.specs.Given.{AllGiven, with_given, fitting, after_given}
-use Rattle.gms_exec.specs.Solved.{Point, with_point, statuses_of, points_of, after_end, points, column_keys, row_keys, behind_first}
+use Rattle.gms_exec.specs.Solved.{Point, with_point, statuses_of, points_of, after_end}
 use Rattle.gms_exec.proofs.Assigned.{behind-given}
 use Rattle.gms_exec.proofs.Levels.{behind-fitted}
 use Rattle.gms_exec.proofs.Symbols.{at-after}
-use Rattle.lp_form.specs.declared.key.Key.{Key}
 use Rattle.gms_frames.specs.Agreeing.{AgreeOn, declares, IsClosed, HasAll}
-use Rattle.gms_frames.proofs.FormKeys.{AreKeys, EachHas}
+use Rattle.gms_frames.proofs.FormKeys.{of_name}
+use Rattle.gms_frames.proofs.Points.{ArePut, end-put}
 use Rattle.gms_frames.proofs.RowElements.{IsOver}
 
 -- ---- lists of symbols
@@ -233,38 +232,14 @@ module _ (first base : State) where
       alike = λ s m. behind-fitted s point.key.tuple (with_marginal (with_level (attributes_in s.content point.key.tuple) point.level) point.marginal) m;
     }
 
-    abbrev ArePut : List Point → Type 0
-    ArePut = EachHas (λ (point : Point). declares first point.key.symbol ≡ true)
-
-    over-points : (those : List Point) → ArePut those → (a b : State) → Over a b → Over (fold with_point a those) (fold with_point b those)
+    over-points : (those : List Point) → ArePut (of_name (declares first)) those → (a b : State) → Over a b → Over (fold with_point a those) (fold with_point b those)
     over-points [] all a b over = over
     over-points (point ∷ those) all a b over =
         over-points those all.1 (with_point a point) (with_point b point) (over-change a b over point.key.symbol all.0 (put point) (put-change point))
 
-    points-put : (keys : List Key) (levels marginals : List Number) → AreKeys (declares first) keys → ArePut (points keys levels marginals)
-    points-put [] levels marginals all = tt
-    points-put (key ∷ keys) levels marginals all = (all.0, points-put keys (behind_first levels) (behind_first marginals) all.1)
-
-    both-put : (those others : List Point) → ArePut those → ArePut others → ArePut (those ++ others)
-    both-put [] others all more = more
-    both-put (point ∷ those) others all more = (all.0, both-put those others all.1 more)
-
-    end-put : (lp : Lp Number) → IsOver (declares first) lp → (end : End Number) → ArePut (points_of lp end)
-    end-put lp keys (Optimal levels row_levels duals reduced) =
-        both-put (points (column_keys lp) levels reduced) (points (row_keys lp) row_levels duals) (points-put (column_keys lp) levels reduced keys.0) (points-put (row_keys lp) row_levels duals keys.1)
-    end-put lp keys (Infeasible duals crossed) = tt
-    end-put lp keys (Unbounded levels row_levels ray) =
-        both-put (points (column_keys lp) levels []) (points (row_keys lp) row_levels []) (points-put (column_keys lp) levels [] keys.0) (points-put (row_keys lp) row_levels [] keys.1)
-    end-put lp keys (Interrupted phase levels row_levels) = by (phase == 2)
-      where
-        by : (b : Bool) → ArePut (cond b (points (column_keys lp) levels [] ++ points (row_keys lp) row_levels []) [])
-        by true = both-put (points (column_keys lp) levels []) (points (row_keys lp) row_levels []) (points-put (column_keys lp) levels [] keys.0) (points-put (row_keys lp) row_levels [] keys.1)
-        by false = tt
-    end-put lp keys (Refused name) = tt
-
-    pub over-end : (a b : State) (model : ℕ) (lp : Lp Number) (end : End Number) → declares first model ≡ true → IsOver (declares first) lp → Over a b → Over (after_end a model lp end) (after_end b model lp end)
+    pub over-end : (a b : State) (model : ℕ) (lp : Lp Number) (end : End Number) → declares first model ≡ true → IsOver (of_name (declares first)) lp → Over a b → Over (after_end a model lp end) (after_end b model lp end)
     over-end a b model lp end is keys over =
-        over-points (points_of lp end) (end-put lp keys end) (after_statuses a model (statuses_of end).0 (statuses_of end).1) (after_statuses b model (statuses_of end).0 (statuses_of end).1) (over-statuses a b model (statuses_of end).0 (statuses_of end).1 is over)
+        over-points (points_of lp end) (end-put (of_name (declares first)) lp keys end) (after_statuses a model (statuses_of end).0 (statuses_of end).1) (after_statuses b model (statuses_of end).0 (statuses_of end).1) (over-statuses a b model (statuses_of end).0 (statuses_of end).1 is over)
 
     pub over-settings : (a b : State) (settings : Settings) → Over a b → Over (with_settings a settings) (with_settings b settings)
     over-settings a b settings over = record {

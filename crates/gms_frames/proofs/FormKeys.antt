@@ -1,4 +1,4 @@
--- The elements that stand in the form of an expression are of names in it.
+-- The elements that stand in the form of an expression pass a test where those of its references do.
 use Rattle.std.proofs.Common.{◌≡◌, ℕ, pos, zero, suc, Bool, true, false, not, ◌||◌, cond, List, [], ◌∷◌, ◌++◌, map, take, drop, Option, Some, None, is_some, Result, Ok, Err, refl, sym, ap, ◌∙◌}
 use Rattle.std.specs.Prelude.{if◌then◌else◌}
 use Rattle.std.specs.FinMap as finite
@@ -65,9 +65,14 @@ in_order-has P (a ∷ answers) all =
     then-has P (EachHas P) a (λ x. in_order answers and_then λ xs. Ok (x ∷ xs)) all.0
     (λ x p. then-has (EachHas P) (EachHas P) (in_order answers) (λ xs. Ok (x ∷ xs)) (in_order-has P answers all.1) (λ xs ps. (p, ps)))
 
-pub map-has : {A B : Type 0} (P : B → Type 0) (f : A → B) → ((x : A) → P (f x)) → (xs : List A) → EachHas P (map f xs)
-map-has P f each [] = tt
-map-has P f each (x ∷ xs) = (each x, map-has P f each xs)
+-- where it holds of all it holds of these
+pub ok-any : {A : Type 0} (P : A → Type 0) (a : Answer A) → ((x : A) → P x) → OkHas P a
+ok-any P (Ok x) each = each x
+ok-any P (Err fault) each = tt
+
+pub each-any : {A : Type 0} (P : A → Type 0) → ((x : A) → P x) → (xs : List A) → EachHas P xs
+each-any P each [] = tt
+each-any P each (x ∷ xs) = (each x, each-any P each xs)
 
 or-left : (a b : Bool) → a ≡ true → (a || b) ≡ true
 or-left a b e = ap (λ (x : Bool). x || b) e
@@ -80,23 +85,23 @@ or-either : (a b c : Bool) → (a ≡ true → c ≡ true) → (b ≡ true → c
 or-either true b c left right e = left refl
 or-either false b c left right e = right e
 
-module _ (test : ℕ → Bool) where
-  -- ---- keys of names that pass the test
+module _ (test : Key → Bool) where
+  -- ---- keys that pass the test
 
   abbrev pub AreKeys : List Key → Type 0
-  AreKeys = EachHas (λ (key : Key). test key.symbol ≡ true)
+  AreKeys = EachHas (λ (key : Key). test key ≡ true)
 
-  pub among-key : (keys : List Key) → AreKeys keys → (q : Key) → is_among keys q ≡ true → test q.symbol ≡ true
+  pub among-key : (keys : List Key) → AreKeys keys → (q : Key) → is_among keys q ≡ true → test q ≡ true
   among-key [] all q there = absurd (cc)
   among-key (key ∷ keys) all q there =
-      or-either (same_key q key) (is_among keys q) (test q.symbol) (λ same. ap (λ (k : Key). test k.symbol) (same_key-is q key same) ∙ all.0) (among-key keys all.1 q) there
+      or-either (same_key q key) (is_among keys q) (test q) (λ same. ap test (same_key-is q key same) ∙ all.0) (among-key keys all.1 q) there
 
-  pub keys-from_among : (keys : List Key) → ((q : Key) → is_among keys q ≡ true → test q.symbol ≡ true) → AreKeys keys
+  pub keys-from_among : (keys : List Key) → ((q : Key) → is_among keys q ≡ true → test q ≡ true) → AreKeys keys
   keys-from_among [] each = tt
   keys-from_among (key ∷ keys) each =
       (each key (or-left (same_key key key) (is_among keys key) (same_key_refl key)), keys-from_among keys (λ q there. each q (or-right (same_key q key) (is_among keys q) there)))
 
-  -- the elements of a form are of such names
+  -- the elements of a form pass it
   abbrev pub IsKeyed : Form → Type 0
   IsKeyed form = AreKeys (finite.keys form.numbers)
 
@@ -104,24 +109,29 @@ module _ (test : ℕ → Bool) where
   among-get : {X : Type 0} (m : finite.FinMap key_cmp X) (q : Key) → is_among (finite.keys m) q ≡ is_some (finite.get m q)
   among-get m q = sym (finite.contains_key-keys m q)
 
-  keyed-from_get : (form : Form) → ((q : Key) → is_some (finite.get form.numbers q) ≡ true → test q.symbol ≡ true) → IsKeyed form
+  keyed-from_get : (form : Form) → ((q : Key) → is_some (finite.get form.numbers q) ≡ true → test q ≡ true) → IsKeyed form
   keyed-from_get form each = keys-from_among (finite.keys form.numbers) (λ q there. each q (sym (among-get form.numbers q) ∙ there))
 
-  constant-keyed : (x : Number) → IsKeyed (constant_form x)
+  pub constant-keyed : (x : Number) → IsKeyed (constant_form x)
   constant-keyed x = keyed-from_get (constant_form x) (λ q there. absurd (none q there))
     where
       none : (q : Key) → is_some (finite.get (constant_form x).numbers q) ≡ true → ⊥
       none q there = let e : false ≡ true = sym (ap is_some (finite.get-empty {X = Number} key_cmp q)) ∙ there in cc
 
-  column-keyed : (key : Key) → test key.symbol ≡ true → IsKeyed (column_form key)
+  column-keyed : (key : Key) → test key ≡ true → IsKeyed (column_form key)
   column-keyed key is =
       keyed-from_get (column_form key) (λ q there. by q (eq_by_cmp key_cmp q key) refl (sym (ap is_some (finite.get-insert key_cmp-total (finite.empty {X = Number} {R = key_cmp}) key (whole (pos 1)) q)) ∙ there))
     where
-      by : (q : Key) (b : Bool) → same_key q key ≡ b → is_some (cond b (Some (whole (pos 1))) (finite.get (finite.empty {X = Number} {R = key_cmp}) q)) ≡ true → test q.symbol ≡ true
-      by q true same there = ap (λ (k : Key). test k.symbol) (same_key-is q key same) ∙ is
+      by : (q : Key) (b : Bool) → same_key q key ≡ b → is_some (cond b (Some (whole (pos 1))) (finite.get (finite.empty {X = Number} {R = key_cmp}) q)) ≡ true → test q ≡ true
+      by q true same there = ap test (same_key-is q key same) ∙ is
       by q false same there = let e : false ≡ true = sym (ap is_some (finite.get-empty {X = Number} key_cmp q)) ∙ there in absurd (cc)
 
-  pub element-keyed : (name : ℕ) (t : Option (List ℕ)) → test name ≡ true → IsKeyed (element_form name t)
+  -- the element of a name at a tuple, where there is one
+  abbrev pub IsElement : ℕ → Option (List ℕ) → Type 0
+  IsElement name None = Unit {0}
+  IsElement name (Some t) = test (record { symbol = name; tuple = t }) ≡ true
+
+  pub element-keyed : (name : ℕ) (t : Option (List ℕ)) → IsElement name t → IsKeyed (element_form name t)
   element-keyed name None is = constant-keyed (whole (pos 0))
   element-keyed name (Some t) is = column-keyed (record { symbol = name; tuple = t }) is
 
@@ -165,7 +175,7 @@ module _ (test : ℕ → Bool) where
 
   two-keys : (a b : Form) → IsKeyed a → IsKeyed b → AreKeys (keys_of_two a b)
   two-keys a b one other =
-      keys-from_among (keys_of_two a b) (λ q there. or-either (is_among (finite.keys a.numbers) q) (is_among (finite.keys b.numbers) q) (test q.symbol) (among-key (finite.keys a.numbers) one q) (among-key (finite.keys b.numbers) other q) (sym (parts q) ∙ there))
+      keys-from_among (keys_of_two a b) (λ q there. or-either (is_among (finite.keys a.numbers) q) (is_among (finite.keys b.numbers) q) (test q) (among-key (finite.keys a.numbers) one q) (among-key (finite.keys b.numbers) other q) (sym (parts q) ∙ there))
     where
       parts : (q : Key) → is_among (keys_of_two a b) q ≡ (is_among (finite.keys a.numbers) q || is_among (finite.keys b.numbers) q)
       parts q =
@@ -190,7 +200,7 @@ module _ (test : ℕ → Bool) where
     sum-keyed subtracts a b one other =
         fits-keyed at binding (entry_of a) (entry_of b) (entries_of_two (if subtracts then steps.difference_step limit else steps.sum_step limit) a b) (of_two-keyed (if subtracts then steps.difference_step limit else steps.sum_step limit) a b one other)
 
-    scaled-keyed : (divides : Bool) (a : Form) (x : Number) → IsKeyed a → OkHas IsKeyed (scaled limit at binding divides a x)
+    pub scaled-keyed : (divides : Bool) (a : Form) (x : Number) → IsKeyed a → OkHas IsKeyed (scaled limit at binding divides a x)
     scaled-keyed divides a x one =
         fits-keyed at binding (entry_of a) (λ key. number x) (entries_by (if divides then steps.quotient_step limit else steps.product_step limit) a x) (by-keyed (if divides then steps.quotient_step limit else steps.product_step limit) a x one)
 
@@ -214,29 +224,29 @@ module _ (test : ℕ → Bool) where
   of-keyed at binding minus_infinity = tt
   of-keyed at binding na = tt
 
-  abbrev JoinsKeyed : Join → Type 0
+  abbrev pub JoinsKeyed : Join → Type 0
   JoinsKeyed join = (mark : Mark) (a b : Form) → IsKeyed a → IsKeyed b → OkHas IsKeyed (join mark a b)
 
-  plus-keyed : (limit : ℕ) (binding : Pairs) → JoinsKeyed (plus limit binding)
+  pub plus-keyed : (limit : ℕ) (binding : Pairs) → JoinsKeyed (plus limit binding)
   plus-keyed limit binding mark a b one other = sum-keyed limit (place_of mark) binding (is_inverse mark) a b one other
 
-  times-keyed : (limit : ℕ) (binding : Pairs) → JoinsKeyed (times limit binding)
+  pub times-keyed : (limit : ℕ) (binding : Pairs) → JoinsKeyed (times limit binding)
   times-keyed limit binding mark a b one other =
       either-has (OkHas IsKeyed) (is_inverse mark) (quotient_of limit (place_of mark) binding a b.constant) (product_of limit (place_of mark) binding a b) (quotient-keyed limit (place_of mark) binding a b.constant one) (product-keyed limit (place_of mark) binding a b one other)
 
   -- the form so far, where there is one
-  abbrev SoFar : Option Form → Type 0
+  abbrev pub SoFar : Option Form → Type 0
   SoFar None = Unit {0}
   SoFar (Some form) = IsKeyed form
 
-  abbrev PartHas : Mark × Answer Form → Type 0
+  abbrev pub PartHas : Mark × Answer Form → Type 0
   PartHas part = OkHas IsKeyed part.1
 
   next-keyed : (join : Join) → JoinsKeyed join → (mark : Mark) (so_far : Option Form) (form : Form) → SoFar so_far → IsKeyed form → OkHas IsKeyed (with_next join mark so_far form)
   next-keyed join keyed mark None form so has = has
   next-keyed join keyed mark (Some left) form so has = keyed mark left form so has
 
-  joined-keyed : (join : Join) → JoinsKeyed join → (so_far : Option Form) (parts : List (Mark × Answer Form)) → SoFar so_far → EachHas PartHas parts → OkHas IsKeyed (joined join so_far parts)
+  pub joined-keyed : (join : Join) → JoinsKeyed join → (so_far : Option Form) (parts : List (Mark × Answer Form)) → SoFar so_far → EachHas PartHas parts → OkHas IsKeyed (joined join so_far parts)
   joined-keyed join keyed None [] so all = constant-keyed (whole (pos 0))
   joined-keyed join keyed (Some form) [] so all = so
   joined-keyed join keyed so_far (part ∷ parts) so all =
@@ -249,7 +259,7 @@ module _ (test : ℕ → Bool) where
       after-has SoFar (chain step (first ∷ rest)) (λ x. form_of (place_of first.0) binding x and_then λ form. Ok (Some form))
       (λ x. then-has IsKeyed SoFar (form_of (place_of first.0) binding x) (λ form. Ok (Some form)) (of-keyed (place_of first.0) binding x) (λ form has. has))
 
-  chained-keyed : (binding : Pairs) (step : Step) (join : Join) → JoinsKeyed join → (count : ℕ) (values : Marked) (forms : List (Mark × Answer Form)) → EachHas PartHas forms → OkHas IsKeyed (chained binding step join count values forms)
+  pub chained-keyed : (binding : Pairs) (step : Step) (join : Join) → JoinsKeyed join → (count : ℕ) (values : Marked) (forms : List (Mark × Answer Form)) → EachHas PartHas forms → OkHas IsKeyed (chained binding step join count values forms)
   chained-keyed binding step join keyed count values forms all =
       then-has SoFar IsKeyed (front binding step (take count values)) (λ so_far. joined join so_far (drop count forms)) (front-keyed binding step (take count values))
       (λ so_far so. joined-keyed join keyed so_far (drop count forms) so (drop-has PartHas count forms all))
@@ -257,48 +267,112 @@ module _ (test : ℕ → Bool) where
   -- ---- expressions
 
   module _ {F : Type 0} (v : F → Number) (limit : ℕ) (state : State) where
-    constant_at-keyed : (at : Place) (binding : Pairs) (e : tree.Tree F) → OkHas IsKeyed (constant_at v limit state at binding e)
+    pub constant_at-keyed : (at : Place) (binding : Pairs) (e : tree.Tree F) → OkHas IsKeyed (constant_at v limit state at binding e)
     constant_at-keyed at binding e = after-has IsKeyed (value v limit state binding e) (form_of at binding) (of-keyed at binding)
 
-    mutual
-      linear-keyed : (e : tree.Tree F) → Each test (names e) → (at : Place) (binding : Pairs) → OkHas IsKeyed (linear v limit state at binding e)
-      linear-keyed (tree.reference place name suffix indices) all at binding =
-          after-has IsKeyed (in_order (labels v limit state binding indices)) (λ those. Ok (element_form name (tuple_of those))) (λ those. element-keyed name (tuple_of those) all.0)
-      linear-keyed (tree.fold_over place op control body) all at binding =
-          after-has IsKeyed (domain v limit state binding place control) (λ elements. joined (plus limit binding) (Some zero_form) (map (λ element. (signed place false, linear v limit state place (controlled binding (sets_of control) element) body)) elements))
-          (λ elements. joined-keyed (plus limit binding) (plus-keyed limit binding) (Some zero_form) (map (λ element. (signed place false, linear v limit state place (controlled binding (sets_of control) element) body)) elements) (constant-keyed (whole (pos 0)))
-          (map-has PartHas (λ element. (signed place false, linear v limit state place (controlled binding (sets_of control) element) body)) (λ element. linear-keyed body (each-right test (control_names control) (names body) all) place (controlled binding (sets_of control) element)) elements))
-      linear-keyed (tree.negated operand) all at binding =
-          then-has IsKeyed IsKeyed (linear v limit state at binding operand) (λ form. scaled limit at binding false form (neg_ℚ (whole (pos 1)))) (linear-keyed operand all at binding) (λ form has. scaled-keyed limit at binding false form (neg_ℚ (whole (pos 1))) has)
-      linear-keyed (tree.sum parts) all at binding =
-          chained-keyed binding (sum_step limit binding) (plus limit binding) (plus-keyed limit binding) (in_front state parts) (values v limit state binding parts) (forms v limit state binding parts) (forms-keyed parts all binding)
-      linear-keyed (tree.product parts) all at binding =
-          chained-keyed binding (product_step limit binding) (times limit binding) (times-keyed limit binding) (in_front state parts) (values v limit state binding parts) (forms v limit state binding parts) (forms-keyed parts all binding)
-      linear-keyed (tree.guarded operand guards) all at binding =
-          after-has IsKeyed (each_holds (unmarked (values v limit state binding guards))) (λ hold. if hold then linear v limit state at binding operand else Ok zero_form)
-          (λ hold. either-has (OkHas IsKeyed) hold (linear v limit state at binding operand) (Ok zero_form) (linear-keyed operand (each-left test (names operand) (part_names guards) all) at binding) (constant-keyed (whole (pos 0))))
-      linear-keyed (tree.number n) all at binding = constant_at-keyed at binding (tree.number n)
-      linear-keyed tree.plus_infinity all at binding = constant_at-keyed at binding tree.plus_infinity
-      linear-keyed tree.not_available all at binding = constant_at-keyed at binding tree.not_available
-      linear-keyed tree.yes all at binding = constant_at-keyed at binding tree.yes
-      linear-keyed tree.no all at binding = constant_at-keyed at binding tree.no
-      linear-keyed (tree.place_in_set place set) all at binding = constant_at-keyed at binding (tree.place_in_set place set)
-      linear-keyed (tree.size_of_set place set) all at binding = constant_at-keyed at binding (tree.size_of_set place set)
-      linear-keyed (tree.call place function args) all at binding = constant_at-keyed at binding (tree.call place function args)
-      linear-keyed (tree.power parts) all at binding = constant_at-keyed at binding (tree.power parts)
-      linear-keyed (tree.relation parts) all at binding = constant_at-keyed at binding (tree.relation parts)
-      linear-keyed (tree.not_so operand) all at binding = constant_at-keyed at binding (tree.not_so operand)
-      linear-keyed (tree.all_of parts) all at binding = constant_at-keyed at binding (tree.all_of parts)
-      linear-keyed (tree.one_of parts) all at binding = constant_at-keyed at binding (tree.one_of parts)
+    abbrev mutual
+      -- under a binding the elements of the references pass, also under the labels of the elements of folds
+      pub Passes : Pairs → tree.Tree F → Type 0
+      Passes binding (tree.reference place name suffix indices) =
+          OkHas (λ those. IsElement name (tuple_of those)) (in_order (labels v limit state binding indices))
+      Passes binding (tree.fold_over place op control body) =
+          OkHas (EachHas (λ element. Passes (controlled binding (sets_of control) element) body)) (domain v limit state binding place control)
+      Passes binding (tree.negated operand) = Passes binding operand
+      Passes binding (tree.sum parts) = EachPasses binding parts
+      Passes binding (tree.product parts) = EachPasses binding parts
+      Passes binding (tree.guarded operand guards) = Passes binding operand
+      Passes binding e = Unit {0}
 
-      forms-keyed : (parts : tree.Parts F) → Each test (part_names parts) → (binding : Pairs) → EachHas PartHas (forms v limit state binding parts)
-      forms-keyed tree.no_part all binding = tt
-      forms-keyed (tree.part mark part rest) all binding = (
+      pub EachPasses : Pairs → tree.Parts F → Type 0
+      EachPasses binding tree.no_part = Unit {0}
+      EachPasses binding (tree.part mark part rest) = Passes binding part × EachPasses binding rest
+
+    elements-keyed : (place : Place) (op_sets : List ℕ) (binding : Pairs) (body : tree.Tree F) → ((element : List ℕ) → Passes (controlled binding op_sets element) body → OkHas IsKeyed (linear v limit state place (controlled binding op_sets element) body)) → (elements : List (List ℕ)) → EachHas (λ element. Passes (controlled binding op_sets element) body) elements → EachHas PartHas (map (λ element. (signed place false, linear v limit state place (controlled binding op_sets element) body)) elements)
+    elements-keyed place sets binding body each [] all = tt
+    elements-keyed place sets binding body each (element ∷ elements) all = (each element all.0, elements-keyed place sets binding body each elements all.1)
+
+    mutual
+      linear-keyed : (e : tree.Tree F) (at : Place) (binding : Pairs) → Passes binding e → OkHas IsKeyed (linear v limit state at binding e)
+      linear-keyed (tree.reference place name suffix indices) at binding passes =
+          then-has (λ those. IsElement name (tuple_of those)) IsKeyed (in_order (labels v limit state binding indices)) (λ those. Ok (element_form name (tuple_of those))) passes (λ those is. element-keyed name (tuple_of those) is)
+      linear-keyed (tree.fold_over place op control body) at binding passes =
+          let form : List ℕ → Mark × Answer Form = λ element. (signed place false, linear v limit state place (controlled binding (sets_of control) element) body) in
+          then-has (EachHas (λ element. Passes (controlled binding (sets_of control) element) body)) IsKeyed (domain v limit state binding place control) (λ elements. joined (plus limit binding) (Some zero_form) (map form elements)) passes
+          (λ elements all. joined-keyed (plus limit binding) (plus-keyed limit binding) (Some zero_form) (map form elements) (constant-keyed (whole (pos 0)))
+          (elements-keyed place (sets_of control) binding body (λ element has. linear-keyed body place (controlled binding (sets_of control) element) has) elements all))
+      linear-keyed (tree.negated operand) at binding passes =
+          then-has IsKeyed IsKeyed (linear v limit state at binding operand) (λ form. scaled limit at binding false form (neg_ℚ (whole (pos 1)))) (linear-keyed operand at binding passes) (λ form has. scaled-keyed limit at binding false form (neg_ℚ (whole (pos 1))) has)
+      linear-keyed (tree.sum parts) at binding passes =
+          chained-keyed binding (sum_step limit binding) (plus limit binding) (plus-keyed limit binding) (in_front state parts) (values v limit state binding parts) (forms v limit state binding parts) (forms-keyed parts binding passes)
+      linear-keyed (tree.product parts) at binding passes =
+          chained-keyed binding (product_step limit binding) (times limit binding) (times-keyed limit binding) (in_front state parts) (values v limit state binding parts) (forms v limit state binding parts) (forms-keyed parts binding passes)
+      linear-keyed (tree.guarded operand guards) at binding passes =
+          after-has IsKeyed (each_holds (unmarked (values v limit state binding guards))) (λ hold. if hold then linear v limit state at binding operand else Ok zero_form)
+          (λ hold. either-has (OkHas IsKeyed) hold (linear v limit state at binding operand) (Ok zero_form) (linear-keyed operand at binding passes) (constant-keyed (whole (pos 0))))
+      linear-keyed (tree.number n) at binding passes = constant_at-keyed at binding (tree.number n)
+      linear-keyed tree.plus_infinity at binding passes = constant_at-keyed at binding tree.plus_infinity
+      linear-keyed tree.not_available at binding passes = constant_at-keyed at binding tree.not_available
+      linear-keyed tree.yes at binding passes = constant_at-keyed at binding tree.yes
+      linear-keyed tree.no at binding passes = constant_at-keyed at binding tree.no
+      linear-keyed (tree.place_in_set place set) at binding passes = constant_at-keyed at binding (tree.place_in_set place set)
+      linear-keyed (tree.size_of_set place set) at binding passes = constant_at-keyed at binding (tree.size_of_set place set)
+      linear-keyed (tree.call place function args) at binding passes = constant_at-keyed at binding (tree.call place function args)
+      linear-keyed (tree.power parts) at binding passes = constant_at-keyed at binding (tree.power parts)
+      linear-keyed (tree.relation parts) at binding passes = constant_at-keyed at binding (tree.relation parts)
+      linear-keyed (tree.not_so operand) at binding passes = constant_at-keyed at binding (tree.not_so operand)
+      linear-keyed (tree.all_of parts) at binding passes = constant_at-keyed at binding (tree.all_of parts)
+      linear-keyed (tree.one_of parts) at binding passes = constant_at-keyed at binding (tree.one_of parts)
+
+      forms-keyed : (parts : tree.Parts F) (binding : Pairs) → EachPasses binding parts → EachHas PartHas (forms v limit state binding parts)
+      forms-keyed tree.no_part binding passes = tt
+      forms-keyed (tree.part mark part rest) binding passes = (
         either-has (OkHas IsKeyed) (has_variables state part) (linear v limit state (place_of mark) binding part) (constant_at v limit state (place_of mark) binding part)
-            (linear-keyed part (each-left test (names part) (part_names rest) all) (place_of mark) binding) (constant_at-keyed (place_of mark) binding part),
-        forms-keyed rest (each-right test (names part) (part_names rest) all) binding,
+            (linear-keyed part (place_of mark) binding passes.0) (constant_at-keyed (place_of mark) binding part),
+        forms-keyed rest binding passes.1,
       )
 
-    pub affine-keyed : (e : tree.Tree F) → Each test (names e) → (at : Place) (binding : Pairs) → OkHas IsKeyed (affine v limit state at binding e)
-    affine-keyed e all at binding =
-        either-has (OkHas IsKeyed) (has_variables state e) (linear v limit state at binding e) (constant_at v limit state at binding e) (linear-keyed e all at binding) (constant_at-keyed at binding e)
+    pub affine-keyed : (e : tree.Tree F) (at : Place) (binding : Pairs) → Passes binding e → OkHas IsKeyed (affine v limit state at binding e)
+    affine-keyed e at binding passes =
+        either-has (OkHas IsKeyed) (has_variables state e) (linear v limit state at binding e) (constant_at v limit state at binding e) (linear-keyed e at binding passes) (constant_at-keyed at binding e)
+
+-- ---- keys of names that pass a test
+
+-- a key of a name that does
+abbrev pub of_name : (ℕ → Bool) → Key → Bool
+of_name test key = test key.symbol
+
+module _ (test : ℕ → Bool) {F : Type 0} (v : F → Number) (limit : ℕ) (state : State) where
+  pub element-named : (name : ℕ) (t : Option (List ℕ)) → test name ≡ true → IsElement (of_name test) name t
+  element-named name None is = tt
+  element-named name (Some t) is = is
+
+  mutual
+    -- where the names in an expression pass, the elements of its references do
+    pub names-pass : (e : tree.Tree F) → Each test (names e) → (binding : Pairs) → Passes (of_name test) v limit state binding e
+    names-pass (tree.reference place name suffix indices) all binding =
+        ok-any (λ those. IsElement (of_name test) name (tuple_of those)) (in_order (labels v limit state binding indices)) (λ those. element-named name (tuple_of those) all.0)
+    names-pass (tree.fold_over place op control body) all binding =
+        ok-any (EachHas (λ element. Passes (of_name test) v limit state (controlled binding (sets_of control) element) body)) (domain v limit state binding place control)
+        (each-any (λ element. Passes (of_name test) v limit state (controlled binding (sets_of control) element) body) (λ element. names-pass body (each-right test (control_names control) (names body) all) (controlled binding (sets_of control) element)))
+    names-pass (tree.negated operand) all binding = names-pass operand all binding
+    names-pass (tree.sum parts) all binding = parts-pass parts all binding
+    names-pass (tree.product parts) all binding = parts-pass parts all binding
+    names-pass (tree.guarded operand guards) all binding = names-pass operand (each-left test (names operand) (part_names guards) all) binding
+    names-pass (tree.number n) all binding = tt
+    names-pass tree.plus_infinity all binding = tt
+    names-pass tree.not_available all binding = tt
+    names-pass tree.yes all binding = tt
+    names-pass tree.no all binding = tt
+    names-pass (tree.place_in_set place set) all binding = tt
+    names-pass (tree.size_of_set place set) all binding = tt
+    names-pass (tree.call place function args) all binding = tt
+    names-pass (tree.power parts) all binding = tt
+    names-pass (tree.relation parts) all binding = tt
+    names-pass (tree.not_so operand) all binding = tt
+    names-pass (tree.all_of parts) all binding = tt
+    names-pass (tree.one_of parts) all binding = tt
+
+    parts-pass : (parts : tree.Parts F) → Each test (part_names parts) → (binding : Pairs) → EachPasses (of_name test) v limit state binding parts
+    parts-pass tree.no_part all binding = tt
+    parts-pass (tree.part mark part rest) all binding =
+        (names-pass part (each-left test (names part) (part_names rest) all) binding, parts-pass rest (each-right test (names part) (part_names rest) all) binding)

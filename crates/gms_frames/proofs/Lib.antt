@@ -3,6 +3,7 @@ pub mod Values
 pub mod Linear
 pub mod FormKeys
 pub mod RowElements
+pub mod Points
 pub mod ModelRows
 pub mod Changing
 pub mod Assigning

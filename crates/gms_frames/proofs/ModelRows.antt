@@ -19,11 +19,10 @@ use Rattle.gms_rows.specs.Forms.{Form, sum_of}
 use Rattle.gms_rows.specs.ModelPoints.{definitions_of_model}
 use Rattle.gms_rows.specs.ProgramLp.{column_keys, column_of, placed, place_of, program_of, sized, program_lp}
 use Rattle.gms_rows.specs.Rows.{Definition, FormRow, each_once, sets_among, sense_of, those_there, row_form, row_under, rows_of, rows_of_model}
-use Rattle.gms_exec.specs.Assignment as assigning
 use Rattle.gms_frames.specs.Agreeing.{AgreeOn}
 use Rattle.gms_frames.specs.Names.{Each, names, index_names, condition_names, definition_names}
 use Rattle.gms_frames.proofs.Eaches.{each-left, each-right}
-use Rattle.gms_frames.proofs.FormKeys.{OkHas, EachHas, then-has, after-has, in_order-has, map-has, AreKeys, IsKeyed, affine-keyed, sum-keyed}
+use Rattle.gms_frames.proofs.FormKeys.{OkHas, EachHas, then-has, in_order-has, AreKeys, IsKeyed, IsElement, Passes, affine-keyed, sum-keyed, of_name, ok-any, each-any, element-named, names-pass}
 use Rattle.gms_frames.proofs.Linear.{affine-same}
 use Rattle.gms_frames.proofs.RowElements.{HasKeys, MayHaveKeys, there-keyed, joined-keyed, column-elements, columns-over, rows-over, IsOver, sized-over}
 use Rattle.gms_frames.proofs.Values.{attributes-same, indices-same, where-same}
@@ -53,21 +52,6 @@ module _ (test : ℕ → Bool) where
   pub sets-each : {F : Type 0} (indices : tree.Indices F) → Each test (index_names indices) → Each test (each_once (sets_among indices))
   sets-each indices all = once-each (sets_among indices) (among-each indices all)
 
-  -- the same in the words of assignments
-  left-once : (ns : List ℕ) → Each test ns → Each test (assigning.each_once ns)
-  left-once [] all = tt
-  left-once (n ∷ ns) all = (all.0, filter-each (λ m. not (m == n)) (assigning.each_once ns) (left-once ns all.1))
-
-  left-among : {F : Type 0} (indices : tree.Indices F) → Each test (index_names indices) → Each test (assigning.sets_among indices)
-  left-among tree.no_index all = tt
-  left-among (tree.label label rest) all = left-among rest all
-  left-among (tree.set set rest) all = (all.0, left-among rest all.1)
-  left-among (tree.lagged set op at amount rest) all =
-      (all.0, left-among rest (each-right test (names amount) (index_names rest) all.1))
-
-  pub left-sets : {F : Type 0} (indices : tree.Indices F) → Each test (index_names indices) → Each test (assigning.each_once (assigning.sets_among indices))
-  left-sets indices all = left-once (assigning.sets_among indices) (left-among indices all)
-
 -- ---- rows
 
 -- What is known of the names in a definition.
@@ -89,6 +73,63 @@ parts-of test d all =
       left = each-left test (names d.left) (names d.right) two;
       right = each-right test (names d.left) (names d.right) two;
     }
+
+-- the elements of a definition, and of the references in its sides, pass for each element of its domain
+module _ (ok : Key → Bool) {F : Type 0} (v : F → Number) (limit : ℕ) (state : State) where
+  abbrev pub RowPasses : Definition F → Pairs → Type 0
+  RowPasses d binding =
+      OkHas (λ those. IsElement ok d.equation (tuple_of those)) (in_order (labels v limit state binding d.indices)) × (Passes ok v limit state binding d.left × Passes ok v limit state binding d.right)
+
+  abbrev pub DefinitionPasses : Definition F → Type 0
+  DefinitionPasses d =
+      let sets = each_once (sets_among d.indices) in
+      OkHas (EachHas (λ element. RowPasses d (controlled [] sets element))) (domain v limit state [] d.at (control_over sets d.condition))
+
+  row-keyed : (d : Definition F) (binding : Pairs) → RowPasses d binding → OkHas (MayHaveKeys ok) (row_under v limit state d binding)
+  row-keyed d binding passes =
+      then-has (λ those. IsElement ok d.equation (tuple_of those)) (MayHaveKeys ok) (in_order (labels v limit state binding d.indices)) (λ those. elim (tuple_of those) [
+        | None ↦ Ok None
+        | Some t ↦ row_form v limit state d binding and_then λ form. Ok (Some (record { key = record { symbol = d.equation; tuple = t }; sense = sense_of d.side; form = form }))
+      ]) passes.0 (λ those is. by (tuple_of those) is)
+    where
+      by : (o : Option (List ℕ)) → IsElement ok d.equation o → OkHas (MayHaveKeys ok) (elim o [
+        | None ↦ Ok None
+        | Some t ↦ row_form v limit state d binding and_then λ form. Ok (Some (record { key = record { symbol = d.equation; tuple = t }; sense = sense_of d.side; form = form }))
+      ])
+      by None is = tt
+      by (Some t) is =
+          then-has (IsKeyed ok) (MayHaveKeys ok) (row_form v limit state d binding) (λ form. Ok (Some (record { key = record { symbol = d.equation; tuple = t }; sense = sense_of d.side; form = form })))
+          (then-has (IsKeyed ok) (IsKeyed ok) (affine v limit state d.left_at binding d.left) (λ left. affine v limit state d.right_at binding d.right and_then λ right. sum_of limit d.right_at binding true left right) (affine-keyed ok v limit state d.left d.left_at binding passes.1.0)
+          (λ left one. then-has (IsKeyed ok) (IsKeyed ok) (affine v limit state d.right_at binding d.right) (λ right. sum_of limit d.right_at binding true left right) (affine-keyed ok v limit state d.right d.right_at binding passes.1.1) (λ right other. sum-keyed ok limit d.right_at binding true left right one other)))
+          (λ form keyed. (is, keyed))
+
+  each-row : (d : Definition F) (sets : List ℕ) (elements : List (List ℕ)) → EachHas (λ element. RowPasses d (controlled [] sets element)) elements → EachHas (OkHas (MayHaveKeys ok)) (map (λ element. row_under v limit state d (controlled [] sets element)) elements)
+  each-row d sets [] all = tt
+  each-row d sets (element ∷ elements) all = (row-keyed d (controlled [] sets element) all.0, each-row d sets elements all.1)
+
+  definition-keyed : (d : Definition F) → DefinitionPasses d → OkHas (EachHas (HasKeys ok)) (rows_of v limit state d)
+  definition-keyed d passes =
+      let sets = each_once (sets_among d.indices) in
+      then-has (EachHas (λ element. RowPasses d (controlled [] sets element))) (EachHas (HasKeys ok)) (domain v limit state [] d.at (control_over sets d.condition)) (λ elements. in_order (map (λ element. row_under v limit state d (controlled [] sets element)) elements) and_then λ rows. Ok (those_there rows)) passes
+      (λ elements all. then-has (EachHas (MayHaveKeys ok)) (EachHas (HasKeys ok)) (in_order (map (λ element. row_under v limit state d (controlled [] sets element)) elements)) (λ rows. Ok (those_there rows))
+      (in_order-has (MayHaveKeys ok) (map (λ element. row_under v limit state d (controlled [] sets element)) elements) (each-row d sets elements all))
+      (there-keyed ok))
+
+  definitions-keyed : (ds : List (Definition F)) → EachHas DefinitionPasses ds → EachHas (OkHas (EachHas (HasKeys ok))) (map (rows_of v limit state) ds)
+  definitions-keyed [] all = tt
+  definitions-keyed (d ∷ ds) all = (definition-keyed d all.0, definitions-keyed ds all.1)
+
+  model-keyed : (statements : List (Stmt F)) (model : ℕ) → EachHas DefinitionPasses (definitions_of_model statements model) → OkHas (EachHas (HasKeys ok)) (rows_of_model v limit state statements model)
+  model-keyed statements model all =
+      then-has (EachHas (EachHas (HasKeys ok))) (EachHas (HasKeys ok)) (in_order (map (rows_of v limit state) (definitions_of_model statements model))) (λ rows. Ok (flat_map (λ some. some) rows))
+      (in_order-has (EachHas (HasKeys ok)) (map (rows_of v limit state) (definitions_of_model statements model)) (definitions-keyed (definitions_of_model statements model) all)) (joined-keyed ok)
+
+  -- the linear program of a model of such definitions is over elements that pass
+  pub program-keyed : (statements : List (Stmt F)) (model objective : ℕ) (maximize : Bool) (at : Place) → EachHas DefinitionPasses (definitions_of_model statements model) → ok (record { symbol = objective; tuple = [] }) ≡ true → OkHas (IsOver ok) (program_lp v limit state statements model objective maximize at)
+  program-keyed statements model objective maximize at all is =
+      let key : Key = record { symbol = objective; tuple = [] } in
+      then-has (EachHas (HasKeys ok)) (IsOver ok) (rows_of_model v limit state statements model) (λ rows. sized at (program_of state rows key maximize)) (model-keyed statements model all)
+      (λ rows has. sized-over ok at (program_of state rows key maximize) (columns-over ok state (column_keys rows key) (column-elements ok rows key has is), rows-over ok (column_keys rows key) rows has))
 
 module _ (test : ℕ → Bool) {F : Type 0} (v : F → Number) (limit : ℕ) where
   module _ (one other : State) (agree : AgreeOn test one other) where
@@ -125,52 +166,28 @@ module _ (test : ℕ → Bool) {F : Type 0} (v : F → Number) (limit : ℕ) whe
         ap (λ (rows : Answer (List FormRow)). rows ∷ map (rows_of v limit other) ds) (definition-same d (parts-of test d (each-left test (definition_names d) (flat_map definition_names ds) all)))
         ∙ ap (λ (all_rows : List (Answer (List FormRow))). rows_of v limit one d ∷ all_rows) (definitions-same ds (each-right test (definition_names d) (flat_map definition_names ds) all))
 
-  module _ (state : State) where
-    row-keyed : (d : Definition F) → Parts test d → (binding : Pairs) → OkHas (MayHaveKeys test) (row_under v limit state d binding)
-    row-keyed d parts binding =
-        after-has (MayHaveKeys test) (in_order (labels v limit state binding d.indices)) (λ those. elim (tuple_of those) [
-          | None ↦ Ok None
-          | Some t ↦ row_form v limit state d binding and_then λ form. Ok (Some (record { key = record { symbol = d.equation; tuple = t }; sense = sense_of d.side; form = form }))
-        ]) (λ those. by (tuple_of those))
-      where
-        by : (o : Option (List ℕ)) → OkHas (MayHaveKeys test) (elim o [
-          | None ↦ Ok None
-          | Some t ↦ row_form v limit state d binding and_then λ form. Ok (Some (record { key = record { symbol = d.equation; tuple = t }; sense = sense_of d.side; form = form }))
-        ])
-        by None = tt
-        by (Some t) =
-            then-has (IsKeyed test) (MayHaveKeys test) (row_form v limit state d binding) (λ form. Ok (Some (record { key = record { symbol = d.equation; tuple = t }; sense = sense_of d.side; form = form })))
-            (then-has (IsKeyed test) (IsKeyed test) (affine v limit state d.left_at binding d.left) (λ left. affine v limit state d.right_at binding d.right and_then λ right. sum_of limit d.right_at binding true left right) (affine-keyed test v limit state d.left parts.left d.left_at binding)
-            (λ left one. then-has (IsKeyed test) (IsKeyed test) (affine v limit state d.right_at binding d.right) (λ right. sum_of limit d.right_at binding true left right) (affine-keyed test v limit state d.right parts.right d.right_at binding) (λ right other. sum-keyed test limit d.right_at binding true left right one other)))
-            (λ form keyed. (parts.equation, keyed))
+  -- where the names in definitions pass, so do their elements
+  row-named : (state : State) (d : Definition F) → Parts test d → (binding : Pairs) → RowPasses (of_name test) v limit state d binding
+  row-named state d parts binding =
+      (ok-any (λ those. IsElement (of_name test) d.equation (tuple_of those)) (in_order (labels v limit state binding d.indices)) (λ those. element-named test v limit state d.equation (tuple_of those) parts.equation), (names-pass test v limit state d.left parts.left binding, names-pass test v limit state d.right parts.right binding))
 
-    definition-keyed : (d : Definition F) → Parts test d → OkHas (EachHas (HasKeys test)) (rows_of v limit state d)
-    definition-keyed d parts =
-        let sets = each_once (sets_among d.indices) in
-        after-has (EachHas (HasKeys test)) (domain v limit state [] d.at (control_over sets d.condition)) (λ elements. in_order (map (λ element. row_under v limit state d (controlled [] sets element)) elements) and_then λ rows. Ok (those_there rows))
-        (λ elements. then-has (EachHas (MayHaveKeys test)) (EachHas (HasKeys test)) (in_order (map (λ element. row_under v limit state d (controlled [] sets element)) elements)) (λ rows. Ok (those_there rows))
-        (in_order-has (MayHaveKeys test) (map (λ element. row_under v limit state d (controlled [] sets element)) elements) (map-has (OkHas (MayHaveKeys test)) (λ element. row_under v limit state d (controlled [] sets element)) (λ element. row-keyed d parts (controlled [] sets element)) elements))
-        (there-keyed test))
-
-    definitions-keyed : (ds : List (Definition F)) → Each test (flat_map definition_names ds) → EachHas (OkHas (EachHas (HasKeys test))) (map (rows_of v limit state) ds)
-    definitions-keyed [] all = tt
-    definitions-keyed (d ∷ ds) all =
-        (definition-keyed d (parts-of test d (each-left test (definition_names d) (flat_map definition_names ds) all)), definitions-keyed ds (each-right test (definition_names d) (flat_map definition_names ds) all))
-
-    model-keyed : (statements : List (Stmt F)) (model : ℕ) → Each test (flat_map definition_names (definitions_of_model statements model)) → OkHas (EachHas (HasKeys test)) (rows_of_model v limit state statements model)
-    model-keyed statements model all =
-        then-has (EachHas (EachHas (HasKeys test))) (EachHas (HasKeys test)) (in_order (map (rows_of v limit state) (definitions_of_model statements model))) (λ rows. Ok (flat_map (λ some. some) rows))
-        (in_order-has (EachHas (HasKeys test)) (map (rows_of v limit state) (definitions_of_model statements model)) (definitions-keyed (definitions_of_model statements model) all)) (joined-keyed test)
+  definitions-named : (state : State) (ds : List (Definition F)) → Each test (flat_map definition_names ds) → EachHas (DefinitionPasses (of_name test) v limit state) ds
+  definitions-named state [] all = tt
+  definitions-named state (d ∷ ds) all =
+      let parts = parts-of test d (each-left test (definition_names d) (flat_map definition_names ds) all) in
+      let sets = each_once (sets_among d.indices) in (
+        ok-any (EachHas (λ element. RowPasses (of_name test) v limit state d (controlled [] sets element))) (domain v limit state [] d.at (control_over sets d.condition))
+            (each-any (λ element. RowPasses (of_name test) v limit state d (controlled [] sets element)) (λ element. row-named state d parts (controlled [] sets element))),
+        definitions-named state ds (each-right test (definition_names d) (flat_map definition_names ds) all),
+      )
 
   -- ---- the linear program
 
-  pub program-over : (state : State) (statements : List (Stmt F)) (model objective : ℕ) (maximize : Bool) (at : Place) → Each test (flat_map definition_names (definitions_of_model statements model)) → test objective ≡ true → OkHas (IsOver test) (program_lp v limit state statements model objective maximize at)
+  pub program-over : (state : State) (statements : List (Stmt F)) (model objective : ℕ) (maximize : Bool) (at : Place) → Each test (flat_map definition_names (definitions_of_model statements model)) → test objective ≡ true → OkHas (IsOver (of_name test)) (program_lp v limit state statements model objective maximize at)
   program-over state statements model objective maximize at all is =
-      let key : Key = record { symbol = objective; tuple = [] } in
-      then-has (EachHas (HasKeys test)) (IsOver test) (rows_of_model v limit state statements model) (λ rows. sized at (program_of state rows key maximize)) (model-keyed state statements model all)
-      (λ rows has. sized-over test at (program_of state rows key maximize) (columns-over test state (column_keys rows key) (column-elements test rows key has is), rows-over test (column_keys rows key) rows has))
+      program-keyed (of_name test) v limit state statements model objective maximize at (definitions-named state (definitions_of_model statements model) all) is
 
-  columns-same : (one other : State) → AgreeOn test one other → (keys : List Key) → AreKeys test keys → map (column_of other) keys ≡ map (column_of one) keys
+  columns-same : (one other : State) → AgreeOn test one other → (keys : List Key) → AreKeys (of_name test) keys → map (column_of other) keys ≡ map (column_of one) keys
   columns-same one other agree [] all = refl
   columns-same one other agree (key ∷ keys) all =
       ap (λ (a : Attributes). record { key = key; lower = a.lower; upper = a.upper } ∷ map (column_of other) keys) (attributes-same test one other agree key.symbol all.0 key.tuple)
@@ -188,5 +205,5 @@ module _ (test : ℕ → Bool) {F : Type 0} (v : F → Number) (limit : ℕ) whe
       let rows : List (Answer (List FormRow)) → Answer (List FormRow) = λ those. in_order those and_then λ rows. Ok (flat_map (λ some. some) rows) in
       ap (λ (ds : List (Definition F)). rows (map (rows_of v limit other) ds) and_then λ rows. sized at (program_of other rows key maximize)) alike
       ∙ ap (λ (those : List (Answer (List FormRow))). rows those and_then λ rows. sized at (program_of other rows key maximize)) (definitions-same one other agree (definitions_of_model statements model) all)
-      ∙ then-same (EachHas (HasKeys test)) (rows_of_model v limit one statements model) (λ rows. sized at (program_of other rows key maximize)) (λ rows. sized at (program_of one rows key maximize)) (model-keyed one statements model all)
-      (λ rows has. ap (λ (columns : List (Column Number)). sized at (record { columns = columns; rows = map (placed (column_keys rows key)) rows; objective = place_of (column_keys rows key) key; maximize = maximize })) (columns-same one other agree (column_keys rows key) (column-elements test rows key has is)))
+      ∙ then-same (EachHas (HasKeys (of_name test))) (rows_of_model v limit one statements model) (λ rows. sized at (program_of other rows key maximize)) (λ rows. sized at (program_of one rows key maximize)) (model-keyed (of_name test) v limit one statements model (definitions-named one (definitions_of_model statements model) all))
+      (λ rows has. ap (λ (columns : List (Column Number)). sized at (record { columns = columns; rows = map (placed (column_keys rows key)) rows; objective = place_of (column_keys rows key) key; maximize = maximize })) (columns-same one other agree (column_keys rows key) (column-elements (of_name test) rows key has is)))

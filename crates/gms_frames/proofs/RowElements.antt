@@ -1,4 +1,4 @@
--- Rows, and linear programs, over elements of names that pass a test.
+-- Rows, and linear programs, over elements that pass a test.
 use Rattle.std.proofs.Common.{◌≡◌, ℕ, nat_lt, Bool, true, false, List, [], ◌∷◌, ◌++◌, map, Option, Some, None, Ok, Err, sym, ◌∙◌}
 use Rattle.std.specs.Prelude.{flat_map, if◌then◌else◌}
 use Rattle.std.specs.FinMap as finite
@@ -17,11 +17,11 @@ use Rattle.gms_rows.proofs.ColumnKeys.{among-ordered}
 use Rattle.gms_exec.specs.Solved as solved
 use Rattle.gms_frames.proofs.FormKeys.{OkHas, EachHas, AreKeys, among-key, keys-from_among, IsKeyed}
 
-module _ (test : ℕ → Bool) where
+module _ (test : Key → Bool) where
   -- ---- rows
 
   abbrev pub HasKeys : FormRow → Type 0
-  HasKeys row = (test row.key.symbol ≡ true) × IsKeyed test row.form
+  HasKeys row = (test row.key ≡ true) × IsKeyed test row.form
 
   abbrev pub MayHaveKeys : Option FormRow → Type 0
   MayHaveKeys None = Unit {0}
@@ -50,12 +50,12 @@ module _ (test : ℕ → Bool) where
       both [] one rest = rest
       both (key ∷ keys) one rest = (one.0, both keys one.1 rest)
 
-  pub column-elements : (rows : List FormRow) (objective : Key) → EachHas HasKeys rows → test objective.symbol ≡ true → AreKeys test (column_keys rows objective)
+  pub column-elements : (rows : List FormRow) (objective : Key) → EachHas HasKeys rows → test objective ≡ true → AreKeys test (column_keys rows objective)
   column-elements rows objective all is =
       let those = objective ∷ flat_map (λ (row : FormRow). finite.keys row.form.numbers) rows in
       keys-from_among test (ordered those) (λ q there. among-key test those (is, row-elements rows all) q (sym (among-ordered those q) ∙ there))
 
-  -- its columns and its rows are of such names
+  -- its columns and its rows are such
   abbrev pub IsOver : Lp Number → Type 0
   IsOver lp = AreKeys test (solved.column_keys lp) × AreKeys test (solved.row_keys lp)
 

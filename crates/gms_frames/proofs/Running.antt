@@ -38,7 +38,7 @@ use Rattle.gms_frames.specs.Names.{Each, names, index_names, condition_names, de
 use Rattle.gms_frames.proofs.Assigning.{given-same}
 use Rattle.gms_frames.proofs.Changing.{Over, over-agree, over-given, over-end, over-settings, over-first, over-is}
 use Rattle.gms_frames.proofs.Eaches.{each-left, each-right}
-use Rattle.gms_frames.proofs.FormKeys.{OkHas}
+use Rattle.gms_frames.proofs.FormKeys.{OkHas, of_name}
 use Rattle.gms_frames.proofs.ModelRows.{program-over, program-same}
 use Rattle.gms_frames.proofs.RowElements.{IsOver}
 use Rattle.gms_frames.proofs.Values.{domain-same}
@@ -189,7 +189,7 @@ module _ (first base : State) (behind : List (Answer Number)) (count : ℕ) wher
     one_more : (taken : ℕ) (left : List (Answer Number)) → taken + suc (length left) ≡ count → (taken + 1) + length left ≡ count
     one_more taken left total = omega (arith, total)
 
-    do-answered : (solvers : List (List ℕ)) (model objective : ℕ) (equations others : List ℕ) (at : Place) (lp : Lp Number) → test model ≡ true → IsOver test lp → (a b : Course) → Alike a b → (left : List (Answer Number)) → a.taken + length left ≡ count →
+    do-answered : (solvers : List (List ℕ)) (model objective : ℕ) (equations others : List ℕ) (at : Place) (lp : Lp Number) → test model ≡ true → IsOver (of_name test) lp → (a b : Course) → Alike a b → (left : List (Answer Number)) → a.taken + length left ≡ count →
         Comes (answered v limit solvers model equations objective at (record a { left = left }) lp) (answered v limit solvers model others objective at (record b { left = left ++ behind }) lp)
     do-answered solvers model objective equations others at lp is keys a b alike [] total = λ one two. halted-not waiting (Some waiting) refl one
     do-answered solvers model objective equations others at lp is keys a b alike (answer ∷ left) total = λ one two. record {
@@ -210,7 +210,7 @@ module _ (first base : State) (behind : List (Answer Number)) (count : ℕ) wher
         (sym (program-same test v limit a.state b.state (over-agree first base closed a.state b.state alike.over) statements others model objective maximize at same all.1.1 all.1.0))
         (by lp (program-over test v limit a.state statements model objective maximize at all.1.1 all.1.0))
       where
-        by : (r : Evaluated (Lp Number)) → OkHas (IsOver test) r → Comes (with_value r (answered v limit (solver ∷ solvers) model (equations_of world.program.statements.items model) objective at a) a) (with_value r (answered v limit (solver ∷ solvers) model (equations_of other.program.statements.items model) objective at b) b)
+        by : (r : Evaluated (Lp Number)) → OkHas (IsOver (of_name test)) r → Comes (with_value r (answered v limit (solver ∷ solvers) model (equations_of world.program.statements.items model) objective at a) a) (with_value r (answered v limit (solver ∷ solvers) model (equations_of other.program.statements.items model) objective at b) b)
         by (Ok lp) keys =
             subst (λ (left : List (Answer Number)). Comes (answered v limit (solver ∷ solvers) model (equations_of world.program.statements.items model) objective at a lp) (answered v limit (solver ∷ solvers) model (equations_of other.program.statements.items model) objective at (record b { left = left }) lp)) (sym alike.left)
             (do-answered (solver ∷ solvers) model objective (equations_of world.program.statements.items model) (equations_of other.program.statements.items model) at lp all.0 keys a b alike a.left alike.total)

@@ -1,5 +1,5 @@
 -- The program of a joint source has the names, the labels and the statements of the saved one in front.
-use Rattle.std.proofs.Common.{◌≡◌, ℕ, List, [], ◌∷◌, ◌++◌, Some, position, refl, sym, ap, ap₂, ◌∙◌, subst, append_assoc, append-nil}
+use Rattle.std.proofs.Common.{◌≡◌, ℕ, List, [], ◌∷◌, ◌++◌, Some, refl, sym, ap, ◌∙◌, subst, append_assoc, append-nil}
 use Rattle.gms_labels.specs.Labels.{is_same, place_of}
 use Rattle.gms_labels.proofs.Places.{position-push_kept}
 use Rattle.gq_number.specs.Number.{Number}
@@ -12,11 +12,10 @@ use Rattle.gms_parse.specs.Outcomes.{ProgramView, HasProgram}
 use Rattle.gms_parse.specs.Programs.{segment, segments, statements_of}
 use Rattle.gms_parse.specs.Readings.{Derivation}
 use Rattle.gms_parse.specs.Walks.{start, walk_behind}
-use Rattle.gms_seam.specs.Fronts.{joint_source, HaveFront, Derives, attach, BeginsWith}
+use Rattle.gms_seam.specs.Fronts.{joint_source, attach, BeginsWith}
 use Rattle.gms_seam.proofs.SeamSeen.{have_front, begins_with}
 use Rattle.gms_front.specs.Programs.{IsFront}
 use Rattle.gms_front.proofs.FrontWalks.{FrontSeen, front_seen, front_names, front_labels}
-use Rattle.gms_front.proofs.Throughouts.{Stands}
 use Rattle.gms_front.proofs.Kin.{Kin}
 use Rattle.gms_front.proofs.Kinships.{program_kin}
 use Rattle.gms_front.proofs.KinPrograms.{statements_same}
@@ -38,7 +37,7 @@ followed_all (statement at act a) b c = ap (λ (s : Statements Number). statemen
 
 module _ (source : List ℕ) (names labels : List (List ℕ)) where
   -- semicolons with what stands behind each, and more of them
-  attached : (others tree : Derivation) → IsTree productions (many (token Semicolon · the Segment)) others → segments source names labels (attach others tree) ≡ followed_by (segments source names labels others) (segments source names labels tree)
+  pub attached : (others tree : Derivation) → IsTree productions (many (token Semicolon · the Segment)) others → segments source names labels (attach others tree) ≡ followed_by (segments source names labels others) (segments source names labels tree)
   attached none tree h = refl
   attached (more (pair semicolon one) others) tree h =
       ap (λ (s : Statements Number). followed_by (segment source names labels one) s) (attached others tree h.1)
@@ -61,7 +60,7 @@ module _ (source : List ℕ) (names labels : List (List ℕ)) where
 -- ---- programs
 
 module _ (limit : ℕ) (saved file : List ℕ) (first whole : ProgramView) (p : HasProgram limit saved first) (q : HasProgram limit (joint_source saved file) whole) where
-  abbrev Joint : List ℕ
+  abbrev pub Joint : List ℕ
   Joint = joint_source saved file
 
   front : FrontSeen saved file (yield p.is.tree) (yield q.is.tree)
@@ -75,7 +74,7 @@ module _ (limit : ℕ) (saved file : List ℕ) (first whole : ProgramView) (p : 
   labels_go_on = subst (λ (ls : List (List ℕ)). GoesOn ls whole.labels) (sym p.is.labels_are) (subst (λ (ls : List (List ℕ)). GoesOn (walk_behind saved start (yield p.is.tree) End).labels ls) (sym q.is.labels_are) (front_labels saved file (yield p.is.tree) (yield q.is.tree) front))
 
   -- the derivation of the saved program, in both
-  kin : Kin saved Joint first.names whole.names first.labels whole.labels (the Program) p.is.tree
+  pub kin : Kin saved Joint first.names whole.names first.labels whole.labels (the Program) p.is.tree
   kin =
       program_kin limit saved Joint first.names whole.names first.labels whole.labels (place_kept first.names whole.names names_go_on) (place_kept first.labels whole.labels labels_go_on) p.is.tree p.is.is_tree p.is.tables
       (record { names_are = p.is.names_are; labels_are = p.is.labels_are; parts = refl; alike = front.alike })

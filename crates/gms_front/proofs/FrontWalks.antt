@@ -1,5 +1,5 @@
 -- What the tokens of a saved source leave is what they leave in a joint source, and others behind them only add names and labels.
-use Rattle.std.proofs.Common.{◌≡◌, ℕ, suc, ◌+◌, ◌-◌, ◌≤◌, cond, take, Bool, true, false, not, ◌&&◌, ◌||◌, if◌then◌else◌, List, [], ◌∷◌, ◌++◌, length, map, reverse, take_while, All, Option, Some, None, refl, sym, ap, ap₂, ◌∙◌, subst, arith, append_assoc}
+use Rattle.std.proofs.Common.{◌≡◌, ℕ, suc, ◌+◌, ◌-◌, cond, take, Bool, true, false, not, ◌&&◌, ◌||◌, if◌then◌else◌, List, [], ◌∷◌, ◌++◌, map, reverse, take_while, All, Option, Some, None, refl, sym, ap, ap₂, ◌∙◌, subst, arith, append_assoc}
 use Rattle.std.specs.List.{prefix_len}
 use Rattle.std.proofs.lemmas.List.{map-append, reverse-append}
 use Rattle.std.proofs.lemmas.List.Elements.{All-head, All-tail}
@@ -9,13 +9,11 @@ use Rattle.gms_lexemes.specs.declared.kind.Kind.TheVariants as token_kind
 use Rattle.gms_lex.specs.declared.token.Token.{Token}
 use Rattle.gms_lex.specs.TokenTexts.{token_text, unquoted, IsPlaced}
 use Rattle.gms_lex.specs.Tokens.{IsTokens, end_token}
-use Rattle.gms_lex.proofs.LineTextLemmas.{on_line}
 use Rattle.gms_lex.proofs.PlacedLemmas.{tokens_placed}
 use Rattle.gms_labels.specs.Labels.{entered}
 use Rattle.gms_grammar.specs.declared.terminal.Terminal.{Terminal}
 use Rattle.gms_grammar.specs.declared.terminal.Terminal.TheVariants as terminal
-use Rattle.gms_grammar.specs.Terminals.{is, is_among}
-use Rattle.gms_grammar.specs.Grammar.{yield}
+use Rattle.gms_grammar.specs.Terminals.{is}
 use Rattle.gms_grammar.proofs.Rules.{walk_append, all_keep}
 use Rattle.gms_table.specs.Words.{Word, words_of}
 use Rattle.gms_table.specs.TableEntries.{table_of, texts_of}

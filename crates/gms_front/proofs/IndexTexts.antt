@@ -1,23 +1,23 @@
 -- Each text of an index in a derivation of a program is one that the walk over its tokens enters: it stands in parentheses of its statement. So it
 -- has the same number where more labels were entered behind it.
-use Rattle.std.proofs.Common.{◌≡◌, ℕ, ◌+◌, ◌-◌, ◌<◌, ◌≤◌, Bool, true, false, not, ◌&&◌, ◌||◌, ◌==◌, if◌then◌else◌, List, [], ◌∷◌, ◌++◌, Option, Some, None, is_some, IsSome, refl, sym, ap, ◌∙◌, subst, inl, inr, arith}
+use Rattle.std.proofs.Common.{◌≡◌, ℕ, ◌+◌, ◌-◌, ◌<◌, ◌≤◌, Bool, true, false, not, ◌&&◌, ◌||◌, ◌==◌, if◌then◌else◌, List, [], ◌∷◌, Option, Some, None, is_some, IsSome, refl, sym, ap, ◌∙◌, subst, inl, inr, arith}
 use Rattle.std.proofs.lemmas.Bool.{not-true, eqb-true}
 use Rattle.gms_lines.proofs.LineLemmas.{true_or_false}
-use Rattle.gms_labels.specs.Labels.{place_of, entered}
+use Rattle.gms_labels.specs.Labels.{place_of}
 use Rattle.gms_labels.proofs.Places.{place_of-entered}
 use Rattle.gms_lex.specs.TokenTexts.{token_text, unquoted}
 use Rattle.gms_grammar.specs.declared.terminal.Terminal.{Terminal}
 use Rattle.gms_grammar.specs.declared.terminal.Terminal.TheVariants as terminal
 use Rattle.gms_grammar.specs.Terminals.{is, is_among}
-use Rattle.gms_grammar.specs.Grammar.{one, the, ◌·◌, ◌∣◌, opt, many, pair, left, right, none, some, more, node, yield, IsTree}
+use Rattle.gms_grammar.specs.Grammar.{one, the, some, node, yield, IsTree}
 use Rattle.gms_grammar.specs.Reading.{read, Reads, taken, entered as entered_by, both, in_left, in_right, left_out, there, no_more, again}
-use Rattle.gms_grammar.specs.GamsGrammar.{Nonterminal, Expression, IndexList, Index, Program, Segment, NamedStatement, AfterName, HeadIndices, AfterHeadName, AfterHeadIndex, AfterLag, AfterHead, AfterTarget, Sides, InnerStatement, Assignment, LoopBody, ShownList, Shown, productions}
+use Rattle.gms_grammar.specs.GamsGrammar.{Nonterminal, Expression, Program, Segment, NamedStatement, AfterName, HeadIndices, AfterHeadName, AfterHeadIndex, AfterLag, AfterHead, AfterTarget, Sides, InnerStatement, Assignment, LoopBody, ShownList, Shown, productions}
 use Rattle.gms_grammar.specs.GamsLookAhead.{look_ahead}
 use Rattle.gms_grammar.proofs.Basics.{and_both, not_true}
 use Rattle.gms_grammar.proofs.Checks.{left_and, right_and}
 use Rattle.gms_grammar.proofs.Sound.{sound}
 use Rattle.gms_expressions.specs.Outcomes.{open_after}
-use Rattle.gms_expressions.proofs.TokenKinds.{implies, implied, also}
+use Rattle.gms_expressions.proofs.TokenKinds.{implied, also}
 use Rattle.gms_table.specs.WordLabels.{all_entered}
 use Rattle.gms_parse.specs.Walks.{Seen, Walk, is_index, new_labels, walk_after, kind_of, start}
 use Rattle.gms_parse.specs.Readings.{Derivation, GamsPart}

@@ -1,16 +1,15 @@
 -- An expression means the same in two sources in which its tokens have the same bytes, and its names and labels the same numbers.
-use Rattle.std.proofs.Common.{◌≡◌, ℕ, Bool, true, false, if◌then◌else◌, List, [], ◌∷◌, codes, refl, sym, ap, ap₂, ◌∙◌}
+use Rattle.std.proofs.Common.{◌≡◌, ℕ, Bool, false, if◌then◌else◌, List, [], ◌∷◌, codes, refl, ap, ap₂, ◌∙◌}
 use Rattle.gq_number.specs.Number.{Number as Rational}
-use Rattle.gms_labels.specs.declared.place.Place.{Place}
 use Rattle.gms_labels.specs.Labels.{place_of}
 use Rattle.gms_lex.specs.declared.token.Token.{Token}
 use Rattle.gms_lex.specs.TokenTexts.{token_text, unquoted}
 use Rattle.gms_ast.specs.declared.expression.Suffix.{Suffix}
 use Rattle.gms_ast.specs.declared.expression.Suffix.TheVariants as suffix
 use Rattle.gms_ast.specs.declared.expression.RelOp.TheVariants as rel_op
-use Rattle.gms_ast.specs.Trees.{plain, placed, signed, related, chosen, Tree as Syntax, number, reference, place_in_set, size_of_set, call, fold_over, sum, product, power, relation, all_of, one_of, guarded, Parts, no_part, part, Indices, no_index, label, set, lagged, Control, over, over_where}
+use Rattle.gms_ast.specs.Trees.{plain, placed, signed, related, chosen, Tree as Syntax, number, reference, place_in_set, size_of_set, call, fold_over, sum, product, power, relation, all_of, one_of, guarded, Parts, part, Indices, no_index, label, set, lagged, Control, over, over_where}
 use Rattle.gms_grammar.specs.declared.terminal.Terminal.{Terminal}
-use Rattle.gms_grammar.specs.declared.terminal.Terminal.TheVariants.{Text, Number, Dot, Suffix as SuffixWord, Or, And, Not, Sign, Star, Slash, Power, Dollar, Comma, Relation, RelationWord, Equals, Infinity, NotAvailable, YesNo, Circular, LeftParen, RightParen}
+use Rattle.gms_grammar.specs.declared.terminal.Terminal.TheVariants.{Text, Or, And, Sign, Star, Slash, Power, Comma, Relation, RelationWord, Equals}
 use Rattle.gms_grammar.specs.Grammar.{one, the, ◌·◌, ◌∣◌, opt, many, leaf, pair, left, right, none, some, more, node, yield}
 use Rattle.gms_grammar.specs.GamsGrammar.{Nonterminal, Expression, Conjunction, Negation, Comparison, Sum, Product, PowerTerm, Guarded, Condition, Primary, Target, Attribute, IndexList, Index, Lag, LagAmount, Call, ExpressionList, Fold, Control as ControlPart, NameList, Range, TableStatement, productions, token, any_of, name, bracketed}
 use Rattle.gms_front.proofs.Tests.{IsNameTest, IsTextTest}
@@ -18,7 +17,7 @@ pub use Rattle.gms_parse.specs.Readings.{Derivation, GamsPart}
 use Rattle.gms_expressions.specs.Valuations.{number_in as number_meant}
 use Rattle.gms_parse.specs.DataLists.{labels_in_range}
 use Rattle.gms_parse.specs.Tables.{items_given}
-use Rattle.gms_expressions.specs.ExpressionTrees.{is_word, suffix_of, fold_op_of, function_of, relation_of, lag_op_of, is_minus, is_slash, or_0, token_of, terminal_in, negated_by, with_sign, or_alone, place_in, constant_of, text_in, name_in, label_in, suffix_in, names_behind, names_in, sets_in, set_call, number_in, constant_in, scalar, expression, choices, conjunction, conjuncts, negation, comparison, relations, sum_of, terms, product_of, factors, signed_power, power_of, exponents, signed_guarded, guarded_of, guards, condition, negated_primary, primary, bracketed_expression, call_of, function_call, bracketed_arguments, arguments, more_arguments, fold_of, target, optional_indices, indices, more_indices, index, lag, lag_amount, control, second_in, inside}
+use Rattle.gms_expressions.specs.ExpressionTrees.{is_word, suffix_of, fold_op_of, function_of, relation_of, lag_op_of, is_minus, is_slash, or_0, token_of, terminal_in, negated_by, with_sign, or_alone, place_in, constant_of, text_in, name_in, label_in, suffix_in, names_behind, names_in, sets_in, number_in, constant_in, expression, choices, conjunction, conjuncts, negation, comparison, relations, sum_of, terms, product_of, factors, power_of, exponents, guarded_of, guards, condition, primary, bracketed_expression, call_of, arguments, more_arguments, fold_of, target, optional_indices, indices, more_indices, index, lag, lag_amount, control, second_in, inside}
 
 pub ap₃ : {A B C D : Type 0} (f : A → B → C → D) {a x : A} {b y : B} {c z : C} → a ≡ x → b ≡ y → c ≡ z → f a b c ≡ f x y z
 ap₃ f {x = x} {y = y} {c = c} p q r = ap₂ (λ u v. f u v c) p q ∙ ap (f x y) r

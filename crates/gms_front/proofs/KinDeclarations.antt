@@ -1,9 +1,8 @@
 -- Declarations mean the same in two sources that a derivation is kin in.
-use Rattle.std.proofs.Common.{◌≡◌, ℕ, Bool, true, false, List, [], ◌∷◌, Option, Some, None, refl, sym, ap, ap₂, ◌∙◌}
+use Rattle.std.proofs.Common.{◌≡◌, ℕ, Bool, false, List, [], ◌∷◌, Option, Some, refl, ap, ap₂}
 use Rattle.gq_number.specs.Number.{Number as Rational}
 use Rattle.gq_extended.specs.declared.extended.Ext.{Ext}
 use Rattle.gms_labels.specs.declared.place.Place.{Place}
-use Rattle.gms_lex.specs.declared.token.Token.{Token}
 use Rattle.gms_lex.specs.TokenTexts.{token_text}
 use Rattle.gms_ast.specs.declared.word.Named.{Named}
 use Rattle.gms_ast.specs.declared.declaration.DeclKind.{DeclKind}
@@ -11,15 +10,15 @@ use Rattle.gms_ast.specs.declared.declaration.DeclKind.TheVariants as kind
 use Rattle.gms_ast.specs.declared.declaration.Decl.{Decl}
 use Rattle.gms_ast.specs.declared.declaration.Item.{Item}
 use Rattle.gms_ast.specs.declared.declaration.ModelDecl.{ModelDecl}
-use Rattle.gms_ast.specs.StatementTrees.{Act, declares, declares_models}
+use Rattle.gms_ast.specs.StatementTrees.{declares, declares_models}
 use Rattle.gms_grammar.specs.declared.terminal.Terminal.{Terminal}
 use Rattle.gms_grammar.specs.declared.terminal.Terminal.TheVariants as terminal
-use Rattle.gms_grammar.specs.Grammar.{Part, one, the, ◌·◌, ◌∣◌, opt, many, Tree, leaf, pair, left, right, none, some, more, node}
-use Rattle.gms_grammar.specs.GamsGrammar.{Nonterminal, Value, SetList, ParameterList, SetStatement, SetItems, SetItem, ParameterStatement, ParameterItems, ParameterItem, ScalarStatement, ScalarItems, ScalarItem, TableStatement, VariableStatement, EquationStatement, PlainItems, PlainItem, ModelStatement, ModelItems, ModelItem, ModelList, Domain, DomainList, DomainPosition, productions, token, any_of, name, separated, items}
-use Rattle.gms_expressions.specs.ExpressionTrees.{token_of, first_in, second_in, inside, place_in, name_in}
-use Rattle.gms_parse.specs.DataLists.{each_in, listed_in, optional_in, between, value_in, elements_in, entries_in, scalar_in}
+use Rattle.gms_grammar.specs.Grammar.{one, the, ◌·◌, ◌∣◌, opt, many, node}
+use Rattle.gms_grammar.specs.GamsGrammar.{Nonterminal, Value, SetList, ParameterList, SetStatement, SetItems, SetItem, ParameterStatement, ParameterItems, ParameterItem, ScalarStatement, ScalarItems, ScalarItem, TableStatement, VariableStatement, EquationStatement, PlainItems, PlainItem, ModelStatement, ModelItems, ModelItem, ModelList, Domain, DomainList, DomainPosition, productions, token, name, items}
+use Rattle.gms_expressions.specs.ExpressionTrees.{token_of, second_in, inside, place_in}
+use Rattle.gms_parse.specs.DataLists.{each_in, listed_in, optional_in, between, elements_in, entries_in, scalar_in}
 use Rattle.gms_parse.specs.Declarations.{items_in, further_items, variable_kind, named_in, position_in, domain_in, optional_domain, plain_in, has_all, equations_in, model_in, variable_act, equation_act, model_act, set_in, parameter_in, scalar_item_in, set_act, parameter_act, scalar_act, table_act}
-use Rattle.gms_front.proofs.Kin.{ap₃, Derivation, GamsPart, Kin, of_token, of_node, of_both, of_left, of_right, of_none, of_some, of_nil, of_more, Within, Rule, everywhere, text_kin, name_kin}
+use Rattle.gms_front.proofs.Kin.{ap₃, Derivation, GamsPart, Kin, of_node, of_both, of_left, of_right, of_none, of_some, of_nil, of_more, Within, Rule, everywhere, text_kin, name_kin}
 use Rattle.gms_front.proofs.KinLists.{item_at, list_kin, SaysData, data_same}
 
 -- a name that stands here

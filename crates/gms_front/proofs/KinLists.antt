@@ -1,23 +1,22 @@
 -- Lists of data mean the same in two sources that a derivation is kin in: their elements, entries and values.
-use Rattle.std.proofs.Common.{◌≡◌, ℕ, Bool, true, false, not, if◌then◌else◌, List, [], ◌∷◌, map, Option, Some, None, refl, sym, ap, ap₂, ◌∙◌}
+use Rattle.std.proofs.Common.{◌≡◌, ℕ, Bool, not, if◌then◌else◌, List, [], ◌∷◌, map, Option, Some, None, refl, ap, ap₂}
 use Rattle.gq_number.specs.Number.{Number as Rational}
 use Rattle.gq_extended.specs.declared.extended.Ext.{Ext}
 use Rattle.gq_extended.specs.declared.extended.Ext.TheVariants.{Number as Finite, PlusInf}
 use Rattle.gms_labels.specs.declared.place.Place.{Place}
-use Rattle.gms_lex.specs.declared.token.Token.{Token}
-use Rattle.gms_lex.specs.TokenTexts.{token_text, unquoted}
+use Rattle.gms_lex.specs.TokenTexts.{unquoted}
 use Rattle.gms_ast.specs.declared.declaration.Item.{Item}
 use Rattle.gms_grammar.specs.declared.terminal.Terminal.{Terminal}
 use Rattle.gms_grammar.specs.declared.terminal.Terminal.TheVariants as terminal
 use Rattle.gms_grammar.specs.Terminals.{is}
-use Rattle.gms_grammar.specs.Grammar.{Part, one, the, ◌·◌, ◌∣◌, opt, many, Tree, leaf, pair, left, right, none, some, more, node}
-use Rattle.gms_grammar.specs.GamsGrammar.{Nonterminal, SetList, Element, ElementPart, Range, RangeList, ParameterList, Entry, Value, TableStatement, productions, token, any_of}
+use Rattle.gms_grammar.specs.Grammar.{one, the, ◌·◌, many, node}
+use Rattle.gms_grammar.specs.GamsGrammar.{Nonterminal, SetList, Element, ElementPart, Range, RangeList, ParameterList, Entry, Value, TableStatement, productions}
 use Rattle.gms_expressions.specs.Valuations.{number_in as number_meant}
-use Rattle.gms_expressions.specs.ExpressionTrees.{token_of, terminal_in, first_in, second_in, inside, place_in}
+use Rattle.gms_expressions.specs.ExpressionTrees.{terminal_in, second_in, inside, place_in}
 use Rattle.gms_set.specs.Ranges.{is_range}
-use Rattle.gms_parse.specs.DataLists.{each_in, listed_in, joined, any_true, signed_value, label_text, labels_in_range, is_bad_range, ranges_in_part, labels_in_part, has_bad_range, value_of_token, value_in, item_of, entry_of, elements_in, entries_in}
+use Rattle.gms_parse.specs.DataLists.{each_in, listed_in, joined, any_true, signed_value, labels_in_range, is_bad_range, labels_in_part, has_bad_range, value_of_token, value_in, item_of, entry_of, elements_in, entries_in}
 use Rattle.gms_parse.specs.Tables.{items_given}
-use Rattle.gms_front.proofs.Kin.{ap₃, Derivation, GamsPart, lines_in, Kin, of_token, of_node, of_both, of_left, of_right, of_none, of_some, of_nil, of_more, Within, Rule, everywhere, text_kin}
+use Rattle.gms_front.proofs.Kin.{ap₃, Derivation, GamsPart, lines_in, Kin, of_node, of_both, of_left, of_right, of_none, of_some, of_nil, of_more, Within, Rule, everywhere, text_kin}
 
 -- an item of data that stands here
 abbrev pub item_at : Place → List (List ℕ) → Option (Ext Rational) → Bool → Item Rational

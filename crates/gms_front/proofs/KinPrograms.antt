@@ -1,17 +1,14 @@
 -- A program means the same statements in two sources that its derivation is kin in.
-use Rattle.std.proofs.Common.{◌≡◌, ℕ, List, [], ◌∷◌, refl, sym, ap, ap₂, ◌∙◌, subst}
+use Rattle.std.proofs.Common.{◌≡◌, ℕ, List, refl, ap₂}
 use Rattle.gq_number.specs.Number.{Number as Rational}
-use Rattle.gms_labels.specs.declared.place.Place.{Place}
-use Rattle.gms_lex.specs.declared.token.Token.{Token}
 use Rattle.gms_ast.specs.Trees.{Control}
-use Rattle.gms_ast.specs.StatementTrees.{Act, loops, displays, Statements, no_statement, statement, followed_by}
-use Rattle.gms_grammar.specs.declared.terminal.Terminal.{Terminal}
+use Rattle.gms_ast.specs.StatementTrees.{Act, loops, Statements, statement, followed_by}
 use Rattle.gms_grammar.specs.declared.terminal.Terminal.TheVariants as terminal
-use Rattle.gms_grammar.specs.Grammar.{Part, one, the, ◌·◌, ◌∣◌, opt, many, Tree, leaf, pair, left, right, none, some, more, node}
+use Rattle.gms_grammar.specs.Grammar.{the, ◌·◌, ◌∣◌, opt, many, node}
 use Rattle.gms_grammar.specs.GamsGrammar.{Nonterminal, Program, Segment, KeywordStatement, InnerStatement, LoopStatement, LoopBody, DisplayStatement, OptionStatement, SolveStatement, AbortStatement, productions, token}
-use Rattle.gms_expressions.specs.ExpressionTrees.{place_in, control}
-use Rattle.gms_parse.specs.Programs.{loop_act, controlled, loop_body, behind_semicolon, inner_act, display_or_other, either, keyword_act, keyword_statements, named_first, segment, segments, statements_of}
-use Rattle.gms_front.proofs.Kin.{ap₃, Derivation, GamsPart, Kin, of_token, of_node, of_both, of_left, of_right, of_none, of_some, of_nil, of_more, Within, Rule, everywhere, Same, all_same}
+use Rattle.gms_expressions.specs.ExpressionTrees.{place_in}
+use Rattle.gms_parse.specs.Programs.{loop_act, loop_body, behind_semicolon, inner_act, display_or_other, keyword_act, keyword_statements, segment, segments, statements_of}
+use Rattle.gms_front.proofs.Kin.{Derivation, GamsPart, Kin, of_node, of_both, of_left, of_right, of_none, of_some, of_nil, of_more, Within, Rule, everywhere, Same, all_same}
 use Rattle.gms_front.proofs.KinDeclarations.{SaysDeclared, declared_same}
 use Rattle.gms_front.proofs.KinStatements.{SaysActed, acted_same}
 

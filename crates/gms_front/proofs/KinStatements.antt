@@ -1,9 +1,8 @@
 -- Assignments, definitions and other statements mean the same in two sources that a derivation is kin in.
-use Rattle.std.proofs.Common.{◌≡◌, ℕ, Bool, true, false, List, [], ◌∷◌, Option, Some, None, refl, sym, ap, ap₂, ◌∙◌}
+use Rattle.std.proofs.Common.{◌≡◌, ℕ, Bool, List, [], Option, Some, None, refl, ap, ap₂, ◌∙◌}
 use Rattle.gq_number.specs.Number.{Number as Rational}
 use Rattle.gms_labels.specs.declared.place.Place.{Place}
 use Rattle.gms_lexemes.specs.declared.kind.Kind.{Kind}
-use Rattle.gms_lex.specs.declared.token.Token.{Token}
 use Rattle.gms_lex.specs.TokenTexts.{unquoted}
 use Rattle.gms_ast.specs.declared.word.Named.{Named}
 use Rattle.gms_ast.specs.declared.word.Word.{Word}
@@ -17,14 +16,13 @@ use Rattle.gms_ast.specs.Trees as trees
 use Rattle.gms_ast.specs.StatementTrees.{Act, aliases, assigns, defines, solves, displays, sets_options, aborts, Target as Aim, Sides as Relation}
 use Rattle.gms_grammar.specs.declared.terminal.Terminal.{Terminal}
 use Rattle.gms_grammar.specs.declared.terminal.Terminal.TheVariants as terminal
-use Rattle.gms_grammar.specs.Grammar.{Part, one, the, ◌·◌, ◌∣◌, opt, many, Tree, leaf, pair, left, right, none, some, more, node}
-use Rattle.gms_grammar.specs.GamsGrammar.{Nonterminal, Condition, NamedStatement, AfterName, HeadIndices, AfterHeadName, AfterHeadIndex, AfterHead, AfterTarget, Sides, Assignment, AliasStatement, DisplayStatement, ShownList, Shown, OptionStatement, Setting, SolveStatement, AbortStatement, productions, token, any_of, name, word}
+use Rattle.gms_grammar.specs.Grammar.{one, the, ◌∣◌, opt, Tree, pair, left, right, none, node}
+use Rattle.gms_grammar.specs.GamsGrammar.{Nonterminal, Condition, NamedStatement, HeadIndices, AfterHeadName, AfterHeadIndex, AfterHead, AfterTarget, Sides, Assignment, AliasStatement, DisplayStatement, ShownList, Shown, OptionStatement, Setting, SolveStatement, AbortStatement, productions, token, name, word}
 use Rattle.gms_expressions.specs.Valuations.{number_in as number_meant}
-use Rattle.gms_expressions.specs.ExpressionTrees.{token_of, first_in, second_in, inside, place_in, name_in, label_in, suffix_in, expression, condition, more_indices, lag, optional_indices}
-use Rattle.gms_parse.specs.DataLists.{listed_in, optional_in}
-use Rattle.gms_parse.specs.Declarations.{named_in}
-use Rattle.gms_parse.specs.Statements.{side_of, is_maximizing, bytes_in, word_in, text_word, condition_in, sides_in, assigned, after_target, after_head, head_indices, act_of_head, target_at, named_act, target_in, assignment_act, alias_act, shown_in, shown_list, display_act, abort_act, setting_value, setting_in, option_act, solve_act}
-use Rattle.gms_front.proofs.Kin.{ap₃, Derivation, GamsPart, Kin, of_token, of_node, of_both, of_left, of_right, of_none, of_some, of_nil, of_more, Within, Rule, everywhere, Same, all_same, text_kin, name_kin, label_kin, suffix_kin, optional_indices_kin, more_indices_kin}
+use Rattle.gms_expressions.specs.ExpressionTrees.{token_of, place_in, name_in, expression, condition}
+use Rattle.gms_parse.specs.DataLists.{optional_in}
+use Rattle.gms_parse.specs.Statements.{side_of, is_maximizing, bytes_in, word_in, condition_in, sides_in, assigned, after_target, after_head, head_indices, act_of_head, target_at, named_act, assignment_act, alias_act, shown_in, shown_list, display_act, abort_act, setting_value, setting_in, option_act, solve_act}
+use Rattle.gms_front.proofs.Kin.{ap₃, Derivation, GamsPart, Kin, of_node, of_both, of_left, of_right, of_none, of_some, Within, Rule, everywhere, Same, all_same, text_kin, name_kin, label_kin, suffix_kin, optional_indices_kin, more_indices_kin}
 use Rattle.gms_front.proofs.KinLists.{list_kin}
 use Rattle.gms_front.proofs.KinDeclarations.{named_kin}
 

@@ -1,26 +1,24 @@
 -- Each name that a derivation of a program has is one that the walk over its tokens enters: it stands behind no dot and no `using`, and in no
 -- option. So it has the same number where more names were entered behind it.
-use Rattle.std.proofs.Common.{◌≡◌, ℕ, Bool, true, false, not, ◌&&◌, ◌||◌, if◌then◌else◌, cond, List, [], ◌∷◌, Option, Some, None, is_some, IsSome, refl, sym, ap, ◌∙◌, subst, inl, inr}
-use Rattle.gms_lines.proofs.LineLemmas.{true_or_false}
+use Rattle.std.proofs.Common.{◌≡◌, ℕ, Bool, true, false, not, ◌&&◌, ◌||◌, if◌then◌else◌, List, [], ◌∷◌, Option, Some, None, is_some, IsSome, refl, sym, ap, ◌∙◌}
 use Rattle.gms_labels.specs.Labels.{place_of, entered}
 use Rattle.gms_labels.proofs.Places.{place_of-entered}
 use Rattle.gms_lex.specs.TokenTexts.{token_text}
 use Rattle.gms_grammar.specs.declared.terminal.Terminal.{Terminal}
 use Rattle.gms_grammar.specs.declared.terminal.Terminal.TheVariants as terminal
 use Rattle.gms_grammar.specs.Terminals.{is, is_among}
-use Rattle.gms_grammar.specs.Grammar.{node}
 use Rattle.gms_grammar.specs.Reading.{read, Reads}
 use Rattle.gms_grammar.specs.GamsGrammar.{Nonterminal, Expression, Program, Segment, KeywordStatement, SetStatement, ParameterStatement, ScalarStatement, TableStatement, VariableStatement, EquationStatement, ModelStatement, AliasStatement, DisplayStatement, OptionStatement, SolveStatement, AbortStatement, LoopStatement, LoopBody, InnerStatement, Setting, ElementPart, Range, productions}
 use Rattle.gms_grammar.specs.GamsLookAhead.{look_ahead}
 use Rattle.gms_grammar.proofs.Basics.{and_both}
 use Rattle.gms_grammar.proofs.Checks.{left_and, right_and}
-use Rattle.gms_expressions.proofs.TokenKinds.{implies, implied, also}
+use Rattle.gms_expressions.proofs.TokenKinds.{implied, also}
 use Rattle.gms_parse.specs.Walks.{Seen, Walk, last_kind, is_name, walk_after, kind_of, start}
-use Rattle.gms_parse.specs.Readings.{Derivation, GamsPart}
+use Rattle.gms_parse.specs.Readings.{Derivation}
 use Rattle.gms_parse.proofs.TokenKinds.{begins}
 use Rattle.gms_parse.proofs.Walks.{names_kept}
 use Rattle.gms_front.proofs.Tests.{IsNameTest, is_name_test}
-use Rattle.gms_front.proofs.Throughouts.{Throughout, NoMore, Stands, Passed, is_right, passed}
+use Rattle.gms_front.proofs.Throughouts.{Throughout, NoMore, Stands, is_right, passed}
 
 -- what a name would be here: one that is entered, a suffix behind a dot, the word behind `using`, or a word of an option
 pub data Role : Type 0 where

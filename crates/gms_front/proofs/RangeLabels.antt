@@ -1,6 +1,6 @@
 -- Each range of labels in a derivation of a program has members that the walk over its tokens enters, and each table of a program has items: so they
 -- mean the same where more labels were entered behind them.
-use Rattle.std.proofs.Common.{◌≡◌, ◌≢◌, ◌⊎◌, ℕ, Bool, true, false, not, ◌&&◌, ◌||◌, if◌then◌else◌, List, [], ◌∷◌, ◌++◌, map, reverse, All, Option, Some, None, is_some, IsSome, refl, sym, ap, ap₂, ◌∙◌, subst, inl, inr, append_assoc}
+use Rattle.std.proofs.Common.{◌≡◌, ◌≢◌, ℕ, Bool, true, false, ◌&&◌, ◌||◌, if◌then◌else◌, List, [], ◌∷◌, ◌++◌, map, reverse, All, Option, Some, None, is_some, IsSome, refl, sym, ap, ap₂, ◌∙◌, subst, append_assoc}
 use Rattle.std.proofs.lemmas.List.Elements.{All-nil, All-cons}
 use Rattle.gq_number.specs.Number.{Number as Rational}
 use Rattle.gms_labels.specs.Labels.{place_of, entered}
@@ -12,7 +12,7 @@ use Rattle.gms_grammar.specs.declared.terminal.Terminal.TheVariants as terminal
 use Rattle.gms_grammar.specs.Terminals.{is}
 use Rattle.gms_grammar.specs.Grammar.{the, ◌·◌, many, leaf, pair, none, some, more, node, yield}
 use Rattle.gms_grammar.specs.Reading.{read, leads, Reads, taken, entered as entered_by, both, left_out, there, no_more, again}
-use Rattle.gms_grammar.specs.GamsGrammar.{Nonterminal, Expression, Program, SetList, Element, ElementPart, Range, RangeList, Value, TableStatement, Domain, productions, token}
+use Rattle.gms_grammar.specs.GamsGrammar.{Nonterminal, Expression, Program, SetList, Element, ElementPart, Range, RangeList, Value, TableStatement, productions, token}
 use Rattle.gms_grammar.specs.GamsLookAhead.{look_ahead}
 use Rattle.gms_grammar.proofs.Basics.{and_both}
 use Rattle.gms_grammar.proofs.Checks.{left_and, right_and}
@@ -23,8 +23,8 @@ use Rattle.gms_table.specs.Words.{Word, words_of}
 use Rattle.gms_table.specs.WordLabels.{all_entered}
 use Rattle.gms_table.specs.TableEntries.{AreEntries, table_of}
 use Rattle.gms_table.proofs.LabelLemmas.{Stay-all_entered}
-use Rattle.gms_expressions.specs.ExpressionTrees.{or_0, second_in, inside}
-use Rattle.gms_parse.specs.DataLists.{labels_in_range, range_labels, number_of_label}
+use Rattle.gms_expressions.specs.ExpressionTrees.{or_0}
+use Rattle.gms_parse.specs.DataLists.{range_labels, number_of_label}
 use Rattle.gms_parse.specs.Outcomes.{IsTableOf, HaveItems}
 use Rattle.gms_parse.specs.Tables.{parts_of_tokens, item_of_entry, entries_in, items_given}
 use Rattle.gms_parse.specs.Walks.{Seen, Walk, last_kind, is_index, range_start, range_texts, list_labels, new_labels, walk_after, kind_of, start}
@@ -33,8 +33,8 @@ use Rattle.gms_parse.proofs.TableItems.{items_only}
 use Rattle.gms_parse.proofs.TokenKinds.{same_kind}
 use Rattle.gms_front.proofs.FrontWalks.{AreAlike}
 use Rattle.gms_front.proofs.IndexTexts.{kept, stays}
-use Rattle.gms_front.proofs.Kin.{Alike, lines_in}
-use Rattle.gms_front.proofs.Throughouts.{Throughout, Stands, stands_on, Passed, is_right, passed}
+use Rattle.gms_front.proofs.Kin.{Alike}
+use Rattle.gms_front.proofs.Throughouts.{Throughout, Stands, stands_on, is_right, passed}
 
 -- ---- what the last tokens are
 

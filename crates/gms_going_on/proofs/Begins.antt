@@ -8,13 +8,14 @@ use Rattle.gms_store.specs.declared.settings.Settings.{Settings}
 use Rattle.gms_store.specs.Declarations.{is_undeclared}
 use Rattle.gms_store.specs.Overlays.{chosen, overlaid_symbols}
 use Rattle.gms_store.specs.State.{State, Symbol, symbol_at}
-use Rattle.gms_check.specs.Loaded.{IsAccepted, loaded}
+use Rattle.gms_check.specs.Loaded.{IsAccepted, loaded, sound}
+use Rattle.gms_check.specs.Past.{state_after}
 use Rattle.gms_exec.specs.Run.{World}
 use Rattle.gms_frames.specs.Agreeing.{declares, HasAll}
 use Rattle.gms_frames.proofs.Changing.{read, over-at, over-length, same-lists, chosen-declared, chosen-undeclared, not-undeclared, is-undeclared}
 use Rattle.gms_joint.proofs.TidyLoaded.{loaded-well}
-use Rattle.gms_going_on.specs.GoingOn.{GoesOn}
-use Rattle.gms_going_on.proofs.Keeping.{keep-behind}
+use Rattle.gms_going_on.specs.GoingOn.{DeclaresItsOwn, TypesNone}
+use Rattle.gms_going_on.proofs.Keeping.{Keeps, keep-behind}
 use Rattle.gms_going_on.proofs.Padding.{padded-after}
 
 -- a state that has each declared name of another as it is there, and its settings, has all of it
@@ -31,11 +32,12 @@ has-all state other many settings keeps = record {
         by true is = keeps n is ∙ sym (chosen-declared (read state.symbols n) (read other.symbols n) (not-undeclared (is_undeclared (read other.symbols n).content) is))
         by false none = sym (chosen-undeclared (read state.symbols n) (read other.symbols n) (is-undeclared (is_undeclared (read other.symbols n).content) none))
 
-module _ {F : Type 0} (v : F → Number) (saved joint : World F) (others : List (Stmt F)) (accepted : IsAccepted v joint.program) (goes_on : GoesOn v saved joint others) where
-  -- The joint program begins with all that the saved one begins with.
-  pub begins-with : HasAll (loaded v joint.program) (loaded v saved.program)
-  begins-with =
-      let front = saved.program.statements.items in
-      let padded = padded-after (length saved.program.names) v (length joint.program.names) goes_on.names front goes_on.own in
-      let keeps = keep-behind (loaded v saved.program) v joint.program accepted front others goes_on.statements goes_on.types (record { kept = λ n is. padded.same n; many = padded.few }) in
-      has-all (loaded v joint.program) (loaded v saved.program) keeps.many ((loaded-well v joint.program).settings ∙ sym (loaded-well v saved.program).settings) keeps.kept
+module _ {F : Type 0} (v : F → Number) (saved joint : World F) (firsts others : List (Stmt F)) (accepted : IsAccepted v joint.program) where
+  -- The joint program begins with all that the saved one begins with, where its first statements lead to the same states.
+  pub begins-with : length saved.program.names ≤ length joint.program.names → DeclaresItsOwn saved.program → joint.program.statements.items ≡ firsts ++ others → ((count : ℕ) → state_after v count (sound firsts) ≡ state_after v count (sound saved.program.statements.items)) → TypesNone (loaded v saved.program) others → HasAll (loaded v joint.program) (loaded v saved.program)
+  begins-with few own statements states types =
+      let first = loaded v saved.program in
+      let more = length joint.program.names in
+      let padded = padded-after (length saved.program.names) v more few saved.program.statements.items own in
+      let keeps = keep-behind first v joint.program accepted firsts others statements types (subst (Keeps first) (sym (states more)) (record { kept = λ n is. padded.same n; many = padded.few })) in
+      has-all (loaded v joint.program) first keeps.many ((loaded-well v joint.program).settings ∙ sym (loaded-well v saved.program).settings) keeps.kept

@@ -116,7 +116,7 @@ closed-join state old new can closed =
     closed-put state new (alias_symbol (base_of state old)) (gains-fresh (symbol_at state new) (alias_symbol (base_of state old)) (second-holds (is_set (symbol_at state old).content) (is_undeclared (symbol_at state new).content) can)) closed
     (λ none. inr (closed old (set-declared (symbol_at state old).content (first-holds (is_set (symbol_at state old).content) (is_undeclared (symbol_at state new).content) can))))
 
-closed-alias : (state : State) (first second : ℕ) → IsClosed state → IsClosed (declare_alias state first second)
+pub closed-alias : (state : State) (first second : ℕ) → IsClosed state → IsClosed (declare_alias state first second)
 closed-alias state first second closed = by (can_join state first second) (can_join state second first) refl refl
   where
     by : (a b : Bool) → can_join state first second ≡ a → can_join state second first ≡ b → IsClosed (cond a (join_name state first second) (cond b (join_name state second first) (declare kind.Set [] (declare kind.Set [] state first) second)))
@@ -124,7 +124,7 @@ closed-alias state first second closed = by (can_join state first second) (can_j
     by false true none can = closed-join state second first can closed
     by false false none other = closed-declare kind.Set [] (declare kind.Set [] state first) second (closed-declare kind.Set [] state first closed)
 
-closed-model : (state : State) (name : ℕ) → IsClosed state → IsClosed (declare_model state name)
+pub closed-model : (state : State) (name : ℕ) → IsClosed state → IsClosed (declare_model state name)
 closed-model state name closed = by (is_undeclared (symbol_at state name).content) refl
   where
     by : (b : Bool) → is_undeclared (symbol_at state name).content ≡ b → IsClosed (cond b (put_at state name model_symbol) state)
@@ -171,12 +171,12 @@ module _ {F : Type 0} (v : F → Number) where
   closed-given state name (Ok given) closed = closed-data given state name closed
   closed-given state name (Err fault) closed = closed
 
-  closed-item : (k : DeclKind) (state : State) (item : Decl F) → IsClosed state → IsClosed (with_item v k state item)
+  pub closed-item : (k : DeclKind) (state : State) (item : Decl F) → IsClosed state → IsClosed (with_item v k state item)
   closed-item k state item closed =
       closed-given (with_name v k state item) item.named.name (expanded state (positions_of k (names_of item.domain)) item.items) (closed-declare k (names_of item.domain) state item.named.name closed)
 
 -- nothing is declared before any statement
-blank-closed : (names : ℕ) → IsClosed (blank_state names)
+pub blank-closed : (names : ℕ) → IsClosed (blank_state names)
 blank-closed names n is =
     absurd (let e : ◌≡◌ {A = Bool} false true = sym (ap (λ (s : Symbol). not (is_undeclared s.content)) (none-declared names n)) ∙ is in let z : ⊥ = cc in z)
 

@@ -22,7 +22,7 @@ later-declared old new (inl none) is = absurd (let e : ◌≡◌ {A = Bool} fals
 later-declared old new (inr after) is = ap not after.declared
 
 module _ {F : Type 0} (value : F → Number) (program : Program F) where
-  blank-fits : (n : ℕ) → IsFitting (symbol_at (blank_state (length program.names)) n)
+  pub blank-fits : (n : ℕ) → IsFitting (symbol_at (blank_state (length program.names)) n)
   blank-fits n =
       subst IsFitting (sym (none-declared (length program.names) n)) (record { blank = λ none. refl; arity = All-nil (λ (t : List ℕ). length t ≡ 0); ordered = ordered-nil })
 

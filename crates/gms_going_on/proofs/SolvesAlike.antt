@@ -84,7 +84,7 @@ none-missing test (n ∷ ns) none =
 
 module _ {F : Type 0} where
   -- whether an equation is defined among statements
-  abbrev defined_in : List (Stmt F) → ℕ → Bool
+  abbrev pub defined_in : List (Stmt F) → ℕ → Bool
   defined_in statements q = list_any (λ (s : Stmt F). defines q s.act) statements
 
   defined-sound : (statements : List (Stmt F)) (q : ℕ) → is_defined (sound statements) q ≡ defined_in statements q
@@ -179,7 +179,7 @@ module _ {F : Type 0} (v : F → Number) (joint : Program F) (accepted : IsAccep
 
 -- ---- models of the saved program
 
-module _ {F : Type 0} (v : F → Number) (saved joint : World F) (others : List (Stmt F)) (accepted : IsAccepted v saved.program) (both : IsAccepted v joint.program) (few : length saved.program.names ≤ length joint.program.names) (own : Each (λ n. nat_lt n (length saved.program.names)) (flat_map (λ (s : Stmt F). names_declared s.act) saved.program.statements.items)) (statements : joint.program.statements.items ≡ saved.program.statements.items ++ others) where
+module _ {F : Type 0} (v : F → Number) (saved joint : World F) (others : List (Stmt F)) (accepted : IsAccepted v saved.program) (both : IsAccepted v joint.program) (few : length saved.program.names ≤ length joint.program.names) (own : Each (λ n. nat_lt n (length saved.program.names)) (flat_map (λ (s : Stmt F). names_declared s.act) saved.program.statements.items)) (firsts : List (Stmt F)) (statements : joint.program.statements.items ≡ firsts ++ others) (define_same : (m : ℕ) → definitions_of_model (firsts ++ others) m ≡ definitions_of_model (saved.program.statements.items ++ others) m) (defined_same : (q : ℕ) → defined_in firsts q ≡ defined_in saved.program.statements.items q) where
   abbrev front : List (Stmt F)
   front = saved.program.statements.items
 
@@ -191,6 +191,7 @@ module _ {F : Type 0} (v : F → Number) (saved joint : World F) (others : List 
     model-alike : (m : ℕ) → IsClean known (solving m) → definitions_of_model joint.program.statements.items m ≡ definitions_of_model front m
     model-alike m clean =
         ap (λ (ss : List (Stmt F)). definitions_of_model ss m) statements
+        ∙ define_same m
         ∙ ap (λ (ds : List (Definition F)). flat_map (definition_of ds) (equations_of (front ++ others) m)) (flat_map-append (λ (s : Stmt F). defined_at s.at s.act) front others)
         ∙ ap (flat_map (definition_of (definitions front ++ definitions others))) (equations-front m [] front others declared)
         ∙ all-front known.defined (definitions front) (definitions others) (λ q is. none-defined others q (behind q is)) (equations_of front m) oks
@@ -224,7 +225,7 @@ module _ {F : Type 0} (v : F → Number) (saved joint : World F) (others : List 
         behind q is =
             let low = first-of (nat_lt q (length saved.program.names)) (is_defined (sound before) q) is in
             let there = sym (defined-sound before q) ∙ second-of (nat_lt q (length saved.program.names)) (is_defined (sound before) q) is in
-            not-behind v joint.program both front others statements q (test-of q (length joint.program.names) (further q (below-of q (length saved.program.names) low))) (ap (λ (ss : List (Stmt F)). defined_in ss q) stands ∙ list_any-append (λ (s : Stmt F). defines q s.act) before (outer ∷ tail) ∙ or-first (defined_in before q) (defined_in (outer ∷ tail) q) there)
+            not-behind v joint.program both firsts others statements q (test-of q (length joint.program.names) (further q (below-of q (length saved.program.names) low))) (defined_same q ∙ ap (λ (ss : List (Stmt F)). defined_in ss q) stands ∙ list_any-append (λ (s : Stmt F). defines q s.act) before (outer ∷ tail) ∙ or-first (defined_in before q) (defined_in (outer ∷ tail) q) there)
 
     -- ---- statements
 

@@ -87,7 +87,7 @@ module _ {F : Type 0} (v : F → Number) (limit : ℕ) (state : State) (b : Pair
   one-more o those xs n same long = let is = ap length same in omega (arith, is, long)
 
   -- as many labels as indices
-  labels-count : (indices : tree.Indices F) (those : List (Option ℕ)) → in_order (labels v limit state b indices) ≡ Ok those → length those ≡ index_count indices
+  pub labels-count : (indices : tree.Indices F) (those : List (Option ℕ)) → in_order (labels v limit state b indices) ≡ Ok those → length those ≡ index_count indices
   labels-count tree.no_index those e = sym (ap length (only_value [] those e))
   labels-count (tree.label n rest) those e =
       let one = given (in_order (labels v limit state b rest)) (λ xs. Ok (Some n ∷ xs)) those e in

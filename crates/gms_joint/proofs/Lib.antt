@@ -1,17 +1,23 @@
 pub mod Later
 mod Labelled
 mod Persisting
-mod Reaching
+pub mod Reaching
 mod OnceInRuns
-mod Tidying
-mod LastStates
+pub mod Tidying
+pub mod LastStates
 pub mod TidyLoaded
 mod Lasting
 mod MarkedTrees
 mod LinearSides
+mod DeclaredKinds
+mod EachDefinition
 mod LinearDefinitions
 pub mod AcceptedWalk
-mod FewPositions
+pub mod FewPositions
+mod UnsolvedLoaded
 pub mod StandingLoaded
-mod StaticDomains
-mod ElementLabels
+pub mod StaticDomains
+pub mod ElementLabels
+mod KeyedRows
+mod ElementForms
+mod SolvedElements

@@ -11,6 +11,7 @@ use Rattle.gms_ast.specs.declared.program.Stmt.{Stmt}
 use Rattle.gms_ast.specs.declared.program.Target.{Target}
 use Rattle.gms_ast.specs.TreeView.{tree_of}
 use Rattle.gms_ast.specs.Trees as tree
+use Rattle.gms_tuple.specs.TupleOrder.{IsOrdered}
 use Rattle.gms_tuple.proofs.Members.{Contains-has}
 use Rattle.gms_store.specs.State.{State, members_of}
 use Rattle.gms_known.specs.Names.{is_index_set}
@@ -29,16 +30,26 @@ use Rattle.gms_exec.specs.Given.{AllGiven}
 use Rattle.gms_exec.specs.Once.{is_fixed, AreLeft, IsOnce}
 use Rattle.gms_exec.specs.Run.{World}
 use Rattle.gms_exec.proofs.Once.{given-once}
-use Rattle.gms_exec.proofs.Staying.{Stays, follows-of}
+use Rattle.gms_exec.proofs.Staying.{AreSingles, Stays, follows-of}
 use Rattle.gms_joint.specs.Reached.{IsStatementOf, IsReached}
 use Rattle.gms_joint.proofs.Reaching.{reached-stays}
 
--- a set over one position stays so
+-- the members of a set over one position stay in order, with one label each
+over-one : (old new : State) → Stays old new → (set : ℕ) → IsOverOne old set → IsOrdered (members_of new set) × AreSingles (members_of new set)
+over-one old new stays set over =
+    let follows = follows-of old new stays set in
+    (follows.ordered over.ordered, follows.singles over.position over.labels)
+
+-- so it stays simple
 simple-set : (old new : State) → Stays old new → (set : ℕ) → IsOverOne old set → IsSimple new set
 simple-set old new stays set over =
-    let follows = follows-of old new stays set in
-    let singles = follows.singles over.position over.labels in
-    (follows.ordered over.ordered, λ member there. All-contains (λ (t : List ℕ). length t ≡ 1) (members_of new set) member singles (Contains-has (members_of new set) member there))
+    let members = over-one old new stays set over in
+    (members.0, λ member there. All-contains (λ (t : List ℕ). length t ≡ 1) (members_of new set) member members.1 (Contains-has (members_of new set) member there))
+
+-- the members of a set that is an index set where a statement stands, in each state of a run
+pub index-members : {F : Type 0} (v : F → Number) (limit : ℕ) (world : World F) (before : List (Stmt F)) (statement : Stmt F) (set : ℕ) (state : State) → StandsAfter world.program before statement → is_index_set (state_after v (length world.program.names) (sound before)) set ≡ true → IsReached v limit world (loaded v world.program) state → IsOrdered (members_of state set) × AreSingles (members_of state set)
+index-members v limit world before statement set state stands one reached =
+    over-one (loaded v world.program) state (reached-stays v limit world (loaded v world.program) state reached) set (index-set-loaded v world.program before statement stands set one)
 
 -- a set that is an index set where a statement stands is one in each state of a run
 pub index-simple : {F : Type 0} (v : F → Number) (limit : ℕ) (world : World F) (before : List (Stmt F)) (statement : Stmt F) (set : ℕ) (state : State) → StandsAfter world.program before statement → is_index_set (state_after v (length world.program.names) (sound before)) set ≡ true → IsReached v limit world (loaded v world.program) state → IsSimple state set

@@ -1,18 +1,21 @@
 //! What holds of the runs of accepted programs.
-ghost use Rattle.std.specs.Prelude.{◌≡◌, ◌≤◌, ◌++◌, ℕ, true, [], List, Option, None, Ok, All, length, option_map};
+ghost use Rattle.std.specs.Prelude.{◌≡◌, ◌≤◌, ◌++◌, ℕ, Bool, true, [], List, Option, None, Ok, All, length, option_map};
 ghost use Rattle.gq_number.specs.Number.{Number};
 ghost use Rattle.gms_labels.specs.declared.place.Place.{Place};
 ghost use Rattle.gms_ast.specs.declared.expression.Expr.{Expr};
 ghost use Rattle.gms_ast.specs.declared.expression.Suffix.{Suffix};
-ghost use Rattle.gms_ast.specs.declared.program.Act.TheVariants.{Assign};
+ghost use Rattle.gms_ast.specs.declared.program.Act.TheVariants.{Assign, Solve};
 ghost use Rattle.gms_ast.specs.declared.program.Program.{Program};
 ghost use Rattle.gms_ast.specs.declared.program.Right.TheVariants.{Value};
 ghost use Rattle.gms_ast.specs.declared.program.Stmt.{Stmt};
 ghost use Rattle.gms_ast.specs.declared.program.Target.{Target};
+ghost use Rattle.gms_ast.specs.declared.word.Named.{Named};
+ghost use Rattle.gms_ast.specs.declared.word.Word.{Word};
 ghost use Rattle.gms_ast.specs.Trees.{Indices};
 ghost use Rattle.gms_ast.specs.TreeView.{tree_of};
 ghost use Rattle.gms_tuple.specs.TupleSet.{has};
-ghost use Rattle.gms_store.specs.State.{State, given_in, symbol_at};
+ghost use Rattle.gms_store.specs.State.{State, given_in, statuses_in, symbol_at};
+ghost use Rattle.gms_store.specs.Declarations.{first_settings};
 ghost use Rattle.gms_known.specs.DynamicSets.{dynamic_sets};
 ghost use Rattle.gms_known.specs.Names.{is_index_set};
 ghost use Rattle.gms_check.specs.Checked.{StandsAfter};
@@ -29,7 +32,9 @@ ghost use Rattle.gms_eval.specs.Nodes.{in_order};
 ghost use Rattle.gms_eval.specs.References.{tuple_of};
 ghost use Rattle.gms_eval.specs.Value.{labels};
 ghost use Rattle.gms_rows.specs.ModelPoints.{IsLinearDefinition, definitions_of_model};
+ghost use Rattle.gms_rows.specs.ProgramLp.{program_lp};
 ghost use Rattle.gms_exec.specs.Assignment.{given_by, target_of};
+ghost use Rattle.gms_exec.specs.Elements.{AreElements, elements as elements_of};
 ghost use Rattle.gms_exec.specs.Given.{AllGiven};
 ghost use Rattle.gms_exec.specs.Once.{IsOnce};
 ghost use Rattle.gms_exec.specs.Run.{World, run_from};
@@ -37,6 +42,7 @@ ghost use Rattle.gms_joint.specs.Labels.{AreMembers, StandForLabels, SomeGoesPas
 ghost use Rattle.gms_joint.specs.LastStates.{AreFixed, IsLater, StandAt, names_assigned};
 ghost use Rattle.gms_joint.specs.Reached.{IsReached, IsStatementOf};
 ghost use Rattle.lp_core.specs.declared.answer.Answer.{Answer};
+ghost use Rattle.lp_core.specs.declared.program.Lp.{Lp};
 
 use gq_field::ExactField;
 
@@ -88,7 +94,7 @@ pub fn run_laws<F: ExactField>()
 /// has the statuses of before a solve or of after one; the members of a set that the program does not assign are as they were; and the
 /// settings are in the ranges of their options. So the last state, which is saved, is such a state. Of an accepted program each tuple
 /// has at most 10 labels, and in the state in which the run begins each label is a member of the set of its position, which is
-/// declared and which no statement of the program assigns.
+/// declared and which no statement of the program assigns; there no model has been solved, and the settings are the first ones.
 ///
 /// GAMS User's Guide, "Save and Restart", "Set Definition", "Variables", "The Option Statement".
 pub fn last_laws<F: ExactField>()
@@ -101,6 +107,9 @@ pub fn last_laws<F: ExactField>()
     ensures begins { (program : Program F) (name : ℕ) →
         IsAccepted F.value program →
         All (StandAt (loaded F.value program) (symbol_at (loaded F.value program) name).domain) (given_in (symbol_at (loaded F.value program) name).content) }
+    ensures unsolved { (program : Program F) (name : ℕ) →
+        IsAccepted F.value program → statuses_in (symbol_at (loaded F.value program) name).content ≡ (0, 0) }
+    ensures settings { (program : Program F) → (loaded F.value program).settings ≡ first_settings }
     ensures fixed { (program : Program F) (name : ℕ) →
         IsAccepted F.value program →
         AreFixed (of_program program (is_among (dynamic_sets program))) (loaded F.value program) (symbol_at (loaded F.value program) name).domain }
@@ -115,4 +124,17 @@ pub fn linear_laws<F: ExactField>()
     ensures { (world : World F) (state : State) (model : ℕ) →
         IsAccepted F.value world.program → IsReached F.value F.limit world (loaded F.value world.program) state →
         All (IsLinearDefinition state) (definitions_of_model world.program.statements.items model) }
+{}
+
+/// The columns and the rows of the linear program of a solve of an accepted program are elements of the state in which it is solved: of
+/// variables and of equations that are declared there, each with as many labels as its name has positions, and no two of them are the
+/// same. So what a solve leaves is what `solve_laws` of gms_exec says, in each state of the program's run, also in the midst of a loop.
+///
+/// GAMS User's Guide, "Model and Solve Statements", "Equations".
+pub fn element_laws<F: ExactField>()
+    ensures { (world : World F) (state : State) (statement : Stmt F) (model : Named) (word : Word) (objective : Named) (maximize : Bool) (lp : Lp Number) →
+        IsAccepted F.value world.program → IsStatementOf world.program statement → statement.act ≡ Solve model word objective maximize →
+        IsReached F.value F.limit world (loaded F.value world.program) state →
+        program_lp F.value F.limit state world.program.statements.items model.name objective.name maximize statement.at ≡ Ok lp →
+        AreElements state (elements_of lp) }
 {}

@@ -4,5 +4,5 @@
 mod accepted;
 mod laws;
 
-pub use accepted::{label_laws, last_laws, linear_laws, run_laws};
+pub use accepted::{element_laws, label_laws, last_laws, linear_laws, run_laws};
 pub use laws::joint_laws;

@@ -1,5 +1,5 @@
 mod Ways
-mod Orders
+pub mod Orders
 mod Empties
 mod Belows
 mod Listed

@@ -71,12 +71,12 @@ impl<F: ExactField> Known<F> {
     {
         let names = program.names.len();
         Ok(Known {
-            store: Store::blank(alloc, names)?,
             order: Order::new(alloc, names)?,
             dynamic: dynamic_sets(alloc, program)?,
             unordered: Marks::new(alloc, names)?,
             defined: Marks::new(alloc, names)?,
             models: Models::new(alloc, names)?,
+            store: Store::blank(alloc, names)?,
         })
     }
 

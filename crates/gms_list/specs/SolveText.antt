@@ -9,6 +9,7 @@ use Rattle.gms_event.specs.Events.{Solved}
 use Rattle.gms_fmt.specs.Columns.{right_in, left_in}
 use Rattle.gms_fmt.specs.ElementTexts.{text_of, element_text, joined_by}
 use Rattle.lp_check.specs.BoundSteps.{steps_of_bound, bound_of}
+use Rattle.lp_check.specs.Partials.{first_unfit}
 use Rattle.gms_store.specs.Statuses.{model_number, model_text, solver_number, solver_text}
 use Rattle.gms_event.specs.Endings.{solve_status}
 use Rattle.lp_core.specs.declared.answer.Answer.{Answer}
@@ -123,12 +124,6 @@ step_text (step.Check part) = codes "Check part " ++ decimal part
 
 -- ---- the bound that duals give
 
--- the number of the first step that does not fit, of steps numbered from this one on
-abbrev pub first_unfit : ℕ → List Bool → Option ℕ
-first_unfit n [] = None
-first_unfit n (true ∷ fits) = first_unfit (n + 1) fits
-first_unfit n (false ∷ fits) = Some n
-
 -- whether each step by which the bound is taken fits: the bound of the objective, or of 0
 abbrev pub bound_fits : ℕ → Lp Number → List Number → Bool → List Bool
 bound_fits limit lp duals true = steps_of_bound (λ x. x) limit lp.maximize (objective_costs lp) lp duals
@@ -143,7 +138,7 @@ bound_line None None = []
 -- the bound that duals give, or the step that keeps it from being shown
 abbrev pub bound_lines : ℕ → Lp Number → List Number → Bool → List ℕ
 bound_lines limit lp duals with_objective =
-    bound_line (first_unfit 0 (bound_fits limit lp duals with_objective)) (bound_of (λ x. x) with_objective lp duals)
+    bound_line (first_unfit (bound_fits limit lp duals with_objective)) (bound_of (λ x. x) with_objective lp duals)
 
 -- a bound of the column whose bounds cross
 abbrev pub crossed_text : Number → List ℕ

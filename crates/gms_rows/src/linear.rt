@@ -72,6 +72,7 @@ pub fn affine<F: ExactField>(
 }
 
 /// The form of a value. `Undefined` at a place where it is no number.
+#[inline(never)]
 fn number<F: ExactField>(
     alloc: Global,
     value: Ext<F>,
@@ -90,6 +91,7 @@ fn number<F: ExactField>(
 }
 
 /// The form of an expression without variables: its value.
+#[inline(never)]
 fn constant<F: ExactField>(
     alloc: Global,
     store: &Store<F>,
@@ -104,6 +106,7 @@ fn constant<F: ExactField>(
 }
 
 /// The form of an element of a variable; 0 where a lag goes past the ends of its set.
+#[inline(never)]
 fn variable<F: ExactField>(
     alloc: Global,
     store: &Store<F>,
@@ -128,6 +131,7 @@ fn variable<F: ExactField>(
 
 /// The form of a sum over a domain.
 #[cycle(affine)]
+#[inline(never)]
 fn total<F: ExactField>(
     alloc: Global,
     store: &Store<F>,
@@ -158,6 +162,7 @@ fn total<F: ExactField>(
 
 /// Adds the forms of an expression at elements, to whose labels these sets are bound behind those of a binding.
 #[cycle(affine)]
+#[inline(never)]
 fn add_elements<F: ExactField>(
     alloc: Global,
     store: &Store<F>,
@@ -183,6 +188,7 @@ fn add_elements<F: ExactField>(
 
 /// The form of a sum or a product: the parts in front of the first with variables make one number, and each other part is one step on forms.
 #[cycle(affine)]
+#[inline(never)]
 fn chain<F: ExactField>(
     alloc: Global,
     store: &Store<F>,
@@ -207,6 +213,7 @@ fn chain<F: ExactField>(
 }
 
 /// The form of the parts in front, none of which has variables: the number that they make. `Undefined` at the first where it is none.
+#[inline(never)]
 fn front<F: ExactField>(
     alloc: Global,
     store: &Store<F>,
@@ -226,6 +233,7 @@ fn front<F: ExactField>(
 }
 
 /// The form so far joined with that of the next part of a sum or a product; the first part makes it.
+#[inline(never)]
 fn join<F: ExactField>(
     alloc: Global,
     kind: Signed,

@@ -28,6 +28,7 @@ fn entry<F: ExactField>(form: &Form<F>, key: &Option<Key>) -> Ext<F>
 }
 
 /// The stop of a step on two forms that does not fit.
+#[inline(never)]
 fn of_two<F: ExactField>(
     alloc: Global,
     fault: FormFault,
@@ -69,6 +70,7 @@ fn increase<F: ExactField>(
 }
 
 /// The sum of two forms, or their difference, entry by entry. `Limit` at the place where one does not fit.
+#[inline(never)]
 pub(crate) fn add<F: ExactField>(
     alloc: Global,
     left: Form<F>,
@@ -98,6 +100,7 @@ fn entry_of_sum<F: ExactField>(sum: &FormSum<F>, key: &Option<Key>) -> Ext<F>
 }
 
 /// The stop of a step on a growing sum and a form that does not fit.
+#[inline(never)]
 fn of_sum<F: ExactField>(
     alloc: Global,
     fault: FormFault,
@@ -119,6 +122,7 @@ fn of_sum<F: ExactField>(
 }
 
 /// Adds a form to a growing sum, entry by entry. `Limit` at the place where a step does not fit.
+#[inline(never)]
 pub(crate) fn add_to<F: ExactField>(
     alloc: Global,
     sum: &mut FormSum<F>,
@@ -137,6 +141,7 @@ pub(crate) fn add_to<F: ExactField>(
 }
 
 /// The form that a growing sum is.
+#[inline(never)]
 pub(crate) fn finished<F: ExactField>(alloc: Global, sum: FormSum<F>) -> Result<Form<F>, AllocError>
     ensures { IfOk result (λ form. form_in F.value form ≡ form_in F.value sum) }
 {
@@ -147,6 +152,7 @@ pub(crate) fn finished<F: ExactField>(alloc: Global, sum: FormSum<F>) -> Result<
 }
 
 /// A form times a number, entry by entry. `Limit` at the place where a product does not fit.
+#[inline(never)]
 pub(crate) fn scale<F: ExactField>(
     alloc: Global,
     form: &Form<F>,
@@ -181,6 +187,7 @@ fn multiple<F: ExactField>(
 }
 
 /// The product of two forms, one of which is a number, entry by entry. `Limit` at the place where a product does not fit.
+#[inline(never)]
 pub(crate) fn multiply<F: ExactField>(
     alloc: Global,
     left: &Form<F>,
@@ -198,6 +205,7 @@ pub(crate) fn multiply<F: ExactField>(
 }
 
 /// A form over a number, entry by entry. `Divide` at the place where the number is 0, `Limit` where a quotient does not fit.
+#[inline(never)]
 pub(crate) fn divide<F: ExactField>(
     alloc: Global,
     form: &Form<F>,
@@ -219,6 +227,7 @@ pub(crate) fn divide<F: ExactField>(
 }
 
 /// The stop of a step on a form and a number that does not fit.
+#[inline(never)]
 fn with_number<F: ExactField>(
     alloc: Global,
     fault: FormFault,
@@ -239,6 +248,7 @@ fn with_number<F: ExactField>(
 }
 
 /// The stop of a step on a number and a form that does not fit.
+#[inline(never)]
 fn behind_number<F: ExactField>(
     alloc: Global,
     fault: FormFault,

@@ -7,7 +7,7 @@ use Rattle.gms_store.specs.State.{State}
 use Rattle.gms_check.proofs.Soundness.{checked-program}
 use Rattle.gms_exec.specs.Dimensions.{AreOneDimensional}
 use Rattle.gms_exec.specs.Stepping.{AreKept}
-use Rattle.gms_run.specs.Scripts.{Script, Fits, errors_of, first_state}
+use Rattle.gms_run.specs.Scripts.{Script, errors_of, first_state}
 use Rattle.gms_run.specs.Listings.{IsAccepted}
 use Rattle.gms_run.specs.InnerReports.{IsSound}
 use Rattle.gms_save.proofs.Joints.{accepted as accepted_joint}
@@ -16,19 +16,19 @@ use Rattle.gms_run.proofs.Loading.{begins-one-dimensional}
 use Rattle.gms_run.proofs.Resuming.{resumes-one-dimensional}
 
 -- Its settings are within their ranges.
-pub first_settings : (solvers : ℕ) (saved : Option State) (program : Program Frac) (state : State) → state ≡ first_state saved program → IsSound solvers saved → AreKept solvers state.settings
-first_settings solvers saved program state is sound = subst (λ (s : State). AreKept solvers s.settings) (sym is) (by saved sound)
+pub first_settings : (solvers : ℕ) (source : List ℕ) (saved : Option State) (program : Program Frac) (state : State) → state ≡ first_state saved program → IsSound solvers source saved → AreKept solvers state.settings
+first_settings solvers source saved program state is sound = subst (λ (s : State). AreKept solvers s.settings) (sym is) (by saved sound)
   where
-    by : (o : Option State) → IsSound solvers o → AreKept solvers (first_state o program).settings
+    by : (o : Option State) → IsSound solvers source o → AreKept solvers (first_state o program).settings
     by None sound = begins-kept frac_value program solvers
     by (Some s) sound = sound.settings
 
 -- The definitions of its program are over sets of one dimension.
-pub first_plain : (solvers : List (List ℕ)) (many : ℕ) (script : Script) (program : Program Frac) (state : State) → state ≡ first_state script.saved program → IsAccepted solvers script program → IsSound many script.saved → AreOneDimensional state program.statements.items
-first_plain solvers many script program state is accepted sound = subst (λ (s : State). AreOneDimensional s program.statements.items) (sym is) (by script.saved accepted.no_error accepted.fits sound)
+pub first_plain : (solvers : List (List ℕ)) (many : ℕ) (script : Script) (program : Program Frac) (state : State) → state ≡ first_state script.saved program → IsAccepted solvers script program → IsSound many script.source script.saved → AreOneDimensional state program.statements.items
+first_plain solvers many script program state is is_accepted sound = subst (λ (s : State). AreOneDimensional s program.statements.items) (sym is) (by script.saved is_accepted.no_error sound)
   where
-    by : (o : Option State) → errors_of o script.line program solvers ≡ [] → Fits o program → IsSound many o → AreOneDimensional (first_state o program) program.statements.items
-    by None none fits sound = begins-one-dimensional frac_value program solvers (checked-program frac_value program solvers none)
-    by (Some s) none fits sound =
+    by : (o : Option State) → errors_of o script.line program solvers ≡ [] → IsSound many script.source o → AreOneDimensional (first_state o program) program.statements.items
+    by None none sound = begins-one-dimensional frac_value program solvers (checked-program frac_value program solvers none)
+    by (Some s) none sound =
         let accepted = accepted_joint frac_value program script.line (solvers, none) in
-        resumes-one-dimensional s program fits sound.arity program.statements.items (begins-one-dimensional frac_value program accepted.0 (checked-program frac_value program accepted.0 accepted.1))
+        resumes-one-dimensional s program (sound.declares program is_accepted.is_program) sound.arity program.statements.items (begins-one-dimensional frac_value program accepted.0 (checked-program frac_value program accepted.0 accepted.1))

@@ -1,5 +1,5 @@
 -- A program that the host has is run, where no fault is met.
-use Rattle.std.proofs.Common.{◌≡◌, ℕ, ◌<◌, ◌≤◌, true, List, length, Result, Err, Option, Some, None, IfSome, is_some, refl, sym, ap, ap₂, ◌∙◌, subst, ◌⊎◌, inl, inr, arith}
+use Rattle.std.proofs.Common.{◌≡◌, ℕ, ◌≤◌, true, List, length, Result, Err, Option, Some, None, IfSome, is_some, refl, sym, ap, ap₂, ◌∙◌, subst, ◌⊎◌, inl, inr, arith}
 use Rattle.std.specs.FinMap as files_map
 use Rattle.std.specs.Prelude.{◌↔◌}
 use Rattle.gms_host.specs.Meaning.{Meaning, Files, Outside}
@@ -12,17 +12,15 @@ use Rattle.gms_save.specs.declared.fault.SaveFault.TheVariants.{SaveTooLong, Sav
 use Rattle.gms_save.specs.declared.fault.SaveFaultOrMemory.{SaveFaultOrMemory}
 use Rattle.gms_save.specs.declared.fault.SaveFaultOrMemory.TheVariants.{Fault}
 use Rattle.gms_save.specs.declared.saved.Saved.{Saved}
-use Rattle.gms_save.specs.JointErrors.{resumed}
 use Rattle.gms_save.specs.Saves.{most_bytes as most_save_bytes, AnswersSave}
-use Rattle.gms_save.proofs.SeenJoints.{same-joint-errors, same-resumed}
-use Rattle.gms_save.proofs.SeenPrograms.{same-declared, same-errors, same-names}
+use Rattle.gms_save.proofs.SeenJoints.{same-joint-errors}
+use Rattle.gms_save.proofs.SeenPrograms.{same-errors}
 use Rattle.gq_frac.specs.declared.frac.Frac.{Frac}
 use Rattle.gms_ast.specs.declared.program.Program.{Program}
 use Rattle.gms_store.specs.State.{State}
-use Rattle.gms_store.specs.Declarations.{declared_state}
 use Rattle.gms_words.specs.CommandLine.{Asked, Origin, in_file, restarted, generated, request_of}
 use Rattle.gms_run.specs.Solving.{Solving, number_limit}
-use Rattle.gms_run.specs.Scripts.{Script, Matter, scripted, unrestored, Taken, from_start, from_save, Fits, IsAlike, IsMatter, IsUnrestored, errors_of}
+use Rattle.gms_run.specs.Scripts.{Script, Matter, scripted, unrestored, Taken, from_start, from_save, IsMatter, IsUnrestored, errors_of}
 use Rattle.gms_run.specs.Listings.{ShowsWhy}
 use Rattle.gms_run.specs.Statuses.{CanRun, CountsSo, EndsByNoFault, Gives, HasFile, HasOrigin, IsFileOf, IsGood, IsGoodSave, IsReadyFor, IsRun, IsRunOf, IsTaken, MeetsNoFault, NamesProgram}
 use Rattle.gms_parse.specs.Outcomes.{program_view}
@@ -70,23 +68,12 @@ same_errors_of : (saved : Option State) (line : ℕ) (solvers : List (List ℕ))
 same_errors_of None line solvers one other alike = same-errors one other alike solvers
 same_errors_of (Some state) line solvers one other alike = same-joint-errors one other alike line solvers
 
--- and a saved state fits the one as it fits the other
-fits_both : (saved : Option State) (one other : Program Frac) → program_view frac_value one ≡ program_view frac_value other → Fits saved one → Fits saved other
-fits_both None one other alike fits = tt
-fits_both (Some state) one other alike fits = λ name below.
-    subst (λ (declared : State). IsAlike (resumed frac_value state other) declared name) (same-declared one other alike)
-    (subst (λ (first : State). IsAlike first (declared_state one) name) (same-resumed one other alike state)
-    (fits name (subst (λ (names : List (List ℕ)). name < length names) (sym (same-names one other alike)) below)))
-
 -- A good script is not refused.
 good_script : (solvers : List (List ℕ)) (script : Script) (text : List ℕ) → IsGood solvers script → ShowsWhy solvers (scripted script) text → ⊥
 good_script solvers script text (program, good) (inl refusal) = program_or_fault number_limit script.source (program_view frac_value program) refusal.fault good.is_program refusal.refused
-good_script solvers script text (program, good) (inr (inl errors)) =
+good_script solvers script text (program, good) (inr errors) =
     let alike = one_program number_limit script.source (program_view frac_value errors.program) (program_view frac_value program) errors.is_program good.is_program in
     errors.some (same_errors_of script.saved script.line solvers errors.program program alike ∙ good.no_error)
-good_script solvers script text (program, good) (inr (inr misfit)) =
-    let alike = one_program number_limit script.source (program_view frac_value program) (program_view frac_value misfit.program) good.is_program misfit.is_program in
-    misfit.misfit (fits_both script.saved program misfit.program alike good.fits)
 
 -- A good save can be restored.
 good_save : (solvers : List (List ℕ)) (save : List ℕ) (fault : SaveFault) → IsGoodSave solvers save → IsUnrestored solvers save fault → ⊥

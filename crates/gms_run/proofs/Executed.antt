@@ -1,6 +1,7 @@
 -- A statement that was executed is listed.
-use Rattle.std.proofs.Common.{◌≡◌, ℕ, true, false, List, [], ◌∷◌, ◌++◌, map, Some, None, Result, Ok, Err, refl, sym, ap, ◌∙◌, subst, append_assoc, append-nil}
+use Rattle.std.proofs.Common.{Box, ◌≡◌, ℕ, true, false, List, [], ◌∷◌, ◌++◌, map, Some, None, Result, Ok, Err, refl, sym, ap, ◌∙◌, subst, append_assoc, append-nil}
 use Rattle.std.specs.List.{All}
+use Rattle.std.specs.declared.alloc.Global.{Global}
 use Rattle.std.proofs.lemmas.Grind.{flat_map-append}
 use Rattle.std.proofs.lemmas.List.Elements.{All-weaker}
 use Rattle.gq_number.specs.Number.{Number}
@@ -73,7 +74,7 @@ module _ (program : Program Frac) (rules : List Rule) (does : Course → Course)
       }
 
   -- A statement that a stop ended is listed with its fault.
-  pub listed_stop : {A : Type 0} (stop : ExecStop Frac) (none : List (OwnEvent Frac)) (before middle after : List ℕ) → none ≡ [] → Runs frac_value (let r : Result A (StopOrMemory Frac) = Err (Stop stop) in r) does (seen_before none) seen_new → All (IsStanding frac_value number_limit rules new.answers) events → HaveGrown old.solvers new.solvers new.answers (events_in frac_value events) → new.programs ≡ old.programs ++ programs_in events →
+  pub listed_stop : {A : Type 0} (stop : Box (ExecStop Frac) Global) (none : List (OwnEvent Frac)) (before middle after : List ℕ) → none ≡ [] → Runs frac_value (let r : Result A (StopOrMemory Frac) = Err (Stop stop) in r) does (seen_before none) seen_new → All (IsStanding frac_value number_limit rules new.answers) events → HaveGrown old.solvers new.solvers new.answers (events_in frac_value events) → new.programs ≡ old.programs ++ programs_in events →
       middle ≡ before ++ events_text program.names program.labels number_limit numbers (events_in frac_value events) →
       after ≡ middle ++ event_text program.names program.labels number_limit numbers (stops (fault_of frac_value stop)) → IsListed false does program rules old new before after
   listed_stop {A} stop none before middle after e given standing grown programs text more =

@@ -11,6 +11,7 @@ pub mod Kept
 pub mod Listed
 pub mod Loading
 pub mod Numbered
+pub mod Passed
 pub mod Paths
 pub mod Proved
 pub mod Reports

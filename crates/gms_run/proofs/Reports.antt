@@ -1,6 +1,6 @@
 -- The listing of a source, put together from its parts, as it goes out.
-use Rattle.std.proofs.Common.{◌≡◌, ◌≢◌, Option, Some, None, ℕ, zero, suc, ◌+◌, ◌<◌, ◌≤◌, ◌==◌, true, false, List, [], ◌∷◌, ◌++◌, length, take, map, get_or, Vec, refl, sym, ap, ap₂, ◌∙◌, subst, append_assoc, add-one, ◌⊎◌, inl, inr, arith, length-append, cond}
-use Rattle.std.specs.Prelude.{String, string_bytes, vec_len, slice_get, option_map, unwrap_or, IfSome, IsTrue, Bool, ◌↔◌}
+use Rattle.std.proofs.Common.{◌≡◌, ◌≢◌, Option, Some, None, ℕ, zero, suc, ◌+◌, ◌<◌, ◌≤◌, ◌==◌, true, false, List, [], ◌∷◌, ◌++◌, length, take, map, get_or, Vec, refl, sym, ap, ap₂, ◌∙◌, subst, append_assoc, add-one, ◌⊎◌, inl, inr, arith, length-append, cond, Result, Ok, Err}
+use Rattle.std.specs.Prelude.{String, string_bytes, vec_len, slice_get, option_map, unwrap_or, IfSome, IfOk, Bool}
 use Rattle.std.specs.declared.alloc.Global.{Global}
 use Rattle.std.proofs.Math.Seq.{take-suc}
 use Rattle.std.proofs.lemmas.Bool.{eqb-true}
@@ -34,12 +34,11 @@ use Rattle.gms_store.specs.State.{State}
 use Rattle.gms_words.specs.CommandLine.{Asked, Origin, in_file, restarted, generated, closing_line}
 use Rattle.gms_run.specs.Solving.{Solving, SolvesNothing, number_limit, numbers_of, solves_in}
 use Rattle.gms_saved.specs.SavedState.{saved_text}
-use Rattle.gms_run.specs.Scripts.{Matter, Script, scripted, Fits, errors_of}
+use Rattle.gms_run.specs.Scripts.{Matter, Script, scripted, errors_of}
 use Rattle.gms_run.specs.Jobs.{HaltsSo, IsCutOff, IsSolved, Job, body_of, course_of, first_of, job_of, job_text, last_line, solver_name, status_code}
 use Rattle.gms_run.specs.Listings.{AreClosing, AreRemarks, IsAccepted, IsExecuted, IsFront, IsJob, IsListing, IsModelLine, SavesLast, SavesSo, ShowsErrors, ShowsWhy, TellsModel, TellsRanges, TellsRun, TellsSpans, echo_with, errors_text, has_echo, refused_text, save_file, unrestored_text}
 use Rattle.gms_run.specs.Statuses.{IsUnwritten}
 use Rattle.gms_save.specs.declared.fault.SaveFault.{SaveFault}
-use Rattle.gms_save.specs.declared.fault.SaveFault.TheVariants.{SaveShape}
 use Rattle.gms_run.specs.declared.script.Matter.{Matter as OwnMatter}
 use Rattle.gms_run.specs.declared.script.Matter.TheVariants.{Unrestored}
 use Rattle.gms_run.specs.InnerReports.{Follows, IsRanged, IsRemarked, IsSave, IsTold, Lists, ListsErrors, Prepares, matter_in}
@@ -53,10 +52,6 @@ behind_nothing spool before text empty = sym (append_assoc spool before text) �
 -- a body is on its way where nothing of it was written
 all_pending : (status : Status) (solving : Solving) (now : Outside) (matter : Matter) (body pending : List ℕ) → IsListing status solving matter (body ++ end_text (status_code status) (length solving.answers)) → pending ≡ body → status ≡ Compile → Prepares status solving now now matter pending
 all_pending status solving now matter body pending is same compile = record { body = body; listing = is; passes = subst (Passes now now body) (sym same) (passes_none now body); room = inl compile }
-
--- a test does not both hold and fail
-not_both : (b : Bool) → b ≡ true → b ≡ false → ⊥
-not_both b e f = absurd cc
 
 -- ---- refusals
 
@@ -92,6 +87,12 @@ lists_as {X} name_of slice solvers some script program before after same lists =
     subst (λ (xs : List X). ListsErrors some (errors_of script.saved script.line program (map name_of xs)) script before after) same lists
 
 -- where none are listed there are none, and nothing is
+-- errors that are the same for each state are listed as those of each
+pub lists_each : {E : Type 0} (r : Result Bool E) (errors : List CompileError) (each : State → List CompileError) (script : State → Script) (before after : List ℕ) → ((state : State) → errors ≡ each state) →
+    IfOk r (λ some. (state : State) → ListsErrors some errors (script state) before after) → IfOk r (λ some. (state : State) → ListsErrors some (each state) (script state) before after)
+lists_each (Ok some) errors each script before after same lists = λ state. subst (λ (es : List CompileError). ListsErrors some es (script state) before after) (same state) (lists state)
+lists_each (Err e) errors each script before after same lists = tt
+
 pub lists_none : (some : Bool) (errors : List CompileError) (script : Script) (before after : List ℕ) → some ≡ false → ListsErrors some errors script before after → (errors ≡ []) × (after ≡ before)
 lists_none some errors script before after is lists = subst (λ b. ListsErrors b errors script before after) is lists
 
@@ -106,18 +107,11 @@ prepares_errors solving now script program some spool before after is_program is
     let errors = errors_of script.saved script.line program solving.before.names in
     let listed : ListsErrors true errors script before after = subst (λ b. ListsErrors b errors script before after) is lists in
     prepares_why Compile solving now (scripted script) spool before spool after (errors_text script errors) refl none empty refl listed.1
-    (inr (inl (shows_errors solving.before.names script program is_program listed.0)))
-
--- That a saved state does not fit was listed, so that there is nothing to run.
-pub prepares_misfit : (solving : Solving) (now : Outside) (script : Script) (program : Program Frac) (fit : Bool) (spool before after : List ℕ) → IsProgram number_limit script.source frac_value program → errors_of script.saved script.line program solving.before.names ≡ [] →
-    IsTrue fit ↔ Fits script.saved program → fit ≡ false → after ≡ before ++ unrestored_text SaveShape → SolvesNothing solving → spool ++ before ≡ [] → Prepares Compile solving now now (scripted script) (spool ++ after)
-prepares_misfit solving now script program fit spool before after is_program no_error fits misfit put none empty =
-    prepares_why Compile solving now (scripted script) spool before spool after (unrestored_text SaveShape) refl none empty refl put
-    (inr (inr (record { program = program; is_program = is_program; no_error = no_error; misfit = λ does. not_both fit (fits.1 does) misfit; listing = refl })))
+    (inr (shows_errors solving.before.names script program is_program listed.0))
 
 -- why there is nothing to run of a save that cannot be restored
-pub unrestored_why : (solvers : List (List ℕ)) (matter : OwnMatter) (fault : SaveFault) → matter ≡ Unrestored fault → ShowsWhy solvers (matter_in matter) (refused_text (unrestored_text fault))
-unrestored_why solvers matter fault is = subst (λ (m : OwnMatter). ShowsWhy solvers (matter_in m) (refused_text (unrestored_text fault))) (sym is) refl
+pub unrestored_why : (solvers : List (List ℕ)) (matter : OwnMatter) (state : State) (fault : SaveFault) → matter ≡ Unrestored fault → ShowsWhy solvers (matter_in matter state) (refused_text (unrestored_text fault))
+unrestored_why solvers matter state fault is = subst (λ (m : OwnMatter). ShowsWhy solvers (matter_in m state) (refused_text (unrestored_text fault))) (sym is) refl
 
 -- ---- runs
 

@@ -1,11 +1,7 @@
--- Where a saved state fits a joint program, the definitions of that are over sets of one dimension in the state that is gone on from.
-use Rattle.std.proofs.Common.{◌≡◌, ℕ, zero, suc, ◌<◌, ◌≤◌, Bool, true, false, not, List, [], ◌∷◌, length, slice_get, refl, sym, ap, ◌∙◌, subst, cond, Option, Some, None, option_map, is_some, unwrap_or, ◌⊎◌, inl, inr}
-use Rattle.std.specs.Prelude.{IsTrue, ◌↔◌}
+-- Where a saved state declares the names of a joint program as that does, the definitions of that are over sets of one dimension in the state that is gone on from.
+use Rattle.std.proofs.Common.{◌≡◌, ℕ, zero, suc, Bool, true, false, List, [], ◌∷◌, length, slice_get, refl, sym, ap, ◌∙◌, subst, cond, unwrap_or, ◌⊎◌, inl, inr}
 use Rattle.std.specs.List.{All}
-use Rattle.std.proofs.lemmas.Bool.{cases_lt}
-use Rattle.std.proofs.lemmas.List.{length-map}
 use Rattle.std.proofs.lemmas.List.Elements.{All-nil, All-cons, All-head, All-tail}
-use Rattle.std.proofs.lemmas.Option.{slice_get_past}
 use Rattle.gq_frac.specs.declared.frac.Frac.{Frac}
 use Rattle.gq_frac.specs.Frac.{frac_value}
 use Rattle.gms_ast.specs.declared.program.Program.{Program}
@@ -20,8 +16,8 @@ use Rattle.gms_rows.specs.Rows.{Definition, definitions}
 use Rattle.gms_exec.specs.Dimensions.{AreOverOne, AreOneDimensional}
 use Rattle.gms_check.specs.Loaded.{loaded}
 use Rattle.gms_save.specs.JointErrors.{resumed}
-use Rattle.gms_save.proofs.LoadedNames.{loaded-declares, declared-count, same-at, same-read}
-use Rattle.gms_run.specs.Scripts.{Fits, IsAlike, first_state}
+use Rattle.gms_save.proofs.LoadedNames.{loaded-declares, same-at, same-read}
+use Rattle.gms_fits.specs.Alike.{IsAlike}
 
 -- a symbol among symbols, where there is one
 abbrev at : List Symbol → ℕ → Symbol
@@ -48,18 +44,7 @@ keeps-behind n (variable_of t entries) = refl
 keeps-behind n (equation_of entries) = refl
 keeps-behind n (model_with m s) = refl
 
--- A saved state fits a program exactly where its names are declared alike in the first state and by the program itself.
-pub fits_so : {X : Type 0} (o : Option X) (state_of : X → State) (program : Program Frac) (state declared : State) (names : ℕ) (none alike : Bool) → is_some o ≡ not none → none ≡ false → state ≡ first_state (option_map state_of o) program → declared ≡ declared_state program → names ≡ length program.names →
-    IsTrue alike ↔ ((name : ℕ) → name < names → IsAlike state declared name) → IsTrue alike ↔ Fits (option_map state_of o) program
-fits_so None state_of program state declared names none alike some is first made many told = absurd (let e : ◌≡◌ {A = Bool} false true = some ∙ ap not is in let z : ⊥ = cc in z)
-fits_so (Some x) state_of program state declared names none alike some is first made many told = (
-  λ yes. λ name below.
-      subst (λ (s : State). IsAlike s (declared_state program) name) first (subst (λ (d : State). IsAlike state d name) made (told.0 yes name (subst (λ n. name < n) (sym many) below))),
-  λ fits. told.1 (λ name below.
-      subst (λ (s : State). IsAlike s declared name) (sym first) (subst (λ (d : State). IsAlike (resumed frac_value (state_of x) program) d name) (sym made) (fits name (subst (λ n. name < n) many below)))),
-)
-
-module _ (saved : State) (joint : Program Frac) (fits : Fits (Some saved) joint) (arity : (name : ℕ) → All (λ t. length t ≡ length (symbol_at saved name).domain) (members_in (symbol_at saved name).content)) where
+module _ (saved : State) (joint : Program Frac) (alike : (name : ℕ) → IsAlike (resumed frac_value saved joint) (declared_state joint) name) (arity : (name : ℕ) → All (λ t. length t ≡ length (symbol_at saved name).domain) (members_in (symbol_at saved name).content)) where
   abbrev first : State
   first = loaded frac_value joint
 
@@ -70,42 +55,22 @@ module _ (saved : State) (joint : Program Frac) (fits : Fits (Some saved) joint)
   abbrev IsOne : State → ℕ → Type 0
   IsOne state set = (length (symbol_of state set).domain ≡ 1) × All (λ t. length t ≡ 1) (members_of state set)
 
-  -- as many names are loaded as the program has
-  count : length first.symbols ≡ length joint.names
-  count = sym (length-map first.symbols _) ∙ ap length (loaded-declares frac_value joint) ∙ declared-count joint
+  base-same : (set : ℕ) → base_of now set ≡ base_of first set
+  base-same set =
+      (alike set).base ∙ sym (same-read (behind set) (keeps-behind set) first (declared_state joint) set (loaded-declares frac_value joint))
 
-  -- a name with a position is one of the program
-  is-name : (set : ℕ) → length (symbol_of first set).domain ≡ 1 → set < length joint.names
-  is-name set one = elim (cases_lt set (length joint.names)) [
-    | inl h ↦ h
-    | inr h ↦ absurd (none (slice_get_past first.symbols set (subst (λ n. n ≤ set) (sym count) h)))
-  ]
-    where
-      none : slice_get first.symbols set ≡ None → ⊥
-      none past =
-          let here : symbol_at first set ≡ no_symbol = ap (λ (o : Option Symbol). unwrap_or o no_symbol) past in
-          let base : base_of first set ≡ set = ap (λ (s : Symbol). behind set s.content) here in
-          let there : symbol_of first set ≡ no_symbol = ap (symbol_at first) base ∙ here in
-          let no : ◌≡◌ {A = ℕ} 0 1 = sym (ap (λ (s : Symbol). length s.domain) there) ∙ one in
-          cc
-
-  base-same : (set : ℕ) → set < length joint.names → base_of now set ≡ base_of first set
-  base-same set h =
-      (fits set h).base ∙ sym (same-read (behind set) (keeps-behind set) first (declared_state joint) set (loaded-declares frac_value joint))
-
-  domain-same : (set : ℕ) → set < length joint.names → length (symbol_of now set).domain ≡ length (symbol_of first set).domain
-  domain-same set h =
+  domain-same : (set : ℕ) → length (symbol_of now set).domain ≡ length (symbol_of first set).domain
+  domain-same set =
       let base : base_of first set ≡ base_of (declared_state joint) set = same-read (behind set) (keeps-behind set) first (declared_state joint) set (loaded-declares frac_value joint) in
-      (fits set h).positions
+      (alike set).positions
       ∙ ap (λ (n : ℕ). length (symbol_at (declared_state joint) n).domain) (sym base)
       ∙ sym (ap (λ (s : Symbol). length s.domain) (same-at first (declared_state joint) (base_of first set) (loaded-declares frac_value joint)))
 
   -- A set of one position, as it is loaded, is one where the run goes on.
   stays : (set : ℕ) → IsOne first set → IsOne now set
   stays set (one, members) =
-      let h = is-name set one in
-      let still : length (symbol_of now set).domain ≡ 1 = domain-same set h ∙ one in
-      let base = base-same set h in (
+      let still : length (symbol_of now set).domain ≡ 1 = domain-same set ∙ one in
+      let base = base-same set in (
         still,
         elim (either first.symbols saved.symbols (base_of now set)) [
           | inl same ↦ subst (λ (s : Symbol). All (λ t. length t ≡ 1) (members_in s.content)) (sym (same ∙ ap (symbol_at first) base)) members

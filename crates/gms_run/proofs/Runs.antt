@@ -24,7 +24,7 @@ use Rattle.gms_gen.specs.Generator.{model_text}
 use Rattle.gms_words.specs.CommandLine.{Asked, Origin, in_file, restarted, generated, read_fault_line, request_of}
 use Rattle.gms_store.specs.State.{State}
 use Rattle.gms_run.specs.Solving.{Solving, SolvesNothing, number_limit}
-use Rattle.gms_run.specs.Scripts.{Script, Matter, scripted, unrestored, Taken, from_start, from_save, script_of, joint_script, joint_source, IsMatter, IsUnrestored}
+use Rattle.gms_run.specs.Scripts.{Script, Matter, scripted, unrestored, Taken, from_start, from_save, script_of, first_line, joint_script, joint_source, IsMatter, IsUnrestored}
 use Rattle.gms_run.specs.Jobs.{Job}
 use Rattle.gms_run.specs.Listings.{AreClosing, IsExecuted, IsFront, IsJob, IsListing, IsRefused, SavesLast, SavesSo, ShowsRefusal, ShowsWhy, TellsRanges, TellsRun, refusal_text, refused_text, save_file}
 use Rattle.gms_run.specs.Statuses.{CountsSo, EndsByNoFault, HasOrigin, IsFileOf, IsReadFault, IsReadyFor, IsReported, IsRun, IsTaken, IsUnread, IsUnreadOf, IsUnwritten, IsUnwrittenFile, IsWriteFault, OfRequest, RanSo, SaysLine, with_file, with_listing, with_read, with_save, with_saved, with_source, with_taken}
@@ -58,8 +58,7 @@ no_job solvers script job long is =
 -- what is listed of why a script that is too long is not run is listed of another
 long_why : (solvers : List (List ℕ)) (a b : Script) (text : List ℕ) → most_bytes < length a.source → most_bytes < length b.source → ShowsWhy solvers (scripted a) text → ShowsWhy solvers (scripted b) text
 long_why solvers a b text long more (inl refusal) = inl (long_refusal a b text long more refusal)
-long_why solvers a b text long more (inr (inl errors)) = let few : length a.source ≤ most_bytes = errors.is_program.short in absurd (omega (arith, few, long))
-long_why solvers a b text long more (inr (inr misfit)) = let few : length a.source ≤ most_bytes = misfit.is_program.short in absurd (omega (arith, few, long))
+long_why solvers a b text long more (inr errors) = let few : length a.source ≤ most_bytes = errors.is_program.short in absurd (omega (arith, few, long))
 
 module _ (solving : Solving) (a b : Script) (long : most_bytes < length a.source) (more : most_bytes < length b.source) where
   -- of two scripts that are too long the same is refused
@@ -242,6 +241,25 @@ pub of_joint : (r : Result Status AllocError) (solving : Solving) (old new : Out
 of_joint (Ok status) solving old new request save file saved short restored ran =
     record { matter = scripted (joint_script saved.source.items saved.store file); is_matter = record { saved = saved; short = short; restored = restored; joint = refl }; ran = ran }
 of_joint (Err e) solving old new request save file saved short restored ran = tt
+
+-- A joint script is that of the saved source, the saved state and the file.
+pub ran_joint : (r : Result Status AllocError) (solving : Solving) (old new : Outside) (request : Asked) (source file before : List ℕ) (line : ℕ) (state saved : State) → source ≡ joint_source before file → line ≡ first_line before → state ≡ saved →
+    IfOk r (λ status. RanSo status solving old new request (scripted (record { source = source; file = file; line = line; saved = Some state }))) → IfOk r (λ status. RanSo status solving old new request (scripted (joint_script before saved file)))
+ran_joint r solving old new request source file before line state saved is begins same ran =
+    subst (λ (s : State). IfOk r (λ status. RanSo status solving old new request (scripted (record { source = joint_source before file; file = file; line = first_line before; saved = Some s })))) same
+    (subst (λ (n : ℕ). IfOk r (λ status. RanSo status solving old new request (scripted (record { source = joint_source before file; file = file; line = n; saved = Some state })))) begins
+    (subst (λ (t : List ℕ). IfOk r (λ status. RanSo status solving old new request (scripted (record { source = t; file = file; line = line; saved = Some state })))) is ran))
+
+-- What goes on from no state was run so, whatever state stands for none.
+pub ran_anew : (r : Result Status AllocError) (solving : Solving) (old new : Outside) (request : Asked) (matter : State → Matter) (due : Matter) → ((state : State) → matter state ≡ due) →
+    IfOk r (λ status. (state : State) × RanSo status solving old new request (matter state)) → IfOk r (λ status. RanSo status solving old new request due)
+ran_anew (Ok status) solving old new request matter due same ran = subst (λ (m : Matter). RanSo status solving old new request m) (same ran.0) ran.1
+ran_anew (Err e) solving old new request matter due same ran = tt
+
+pub ran_at : (r : Result Status AllocError) (solving : Solving) (old new : Outside) (request : Asked) (matter : State → Matter) (state : State) →
+    IfOk r (λ status. RanSo status solving old new request (matter state)) → IfOk r (λ status. (state : State) × RanSo status solving old new request (matter state))
+ran_at (Ok status) solving old new request matter state ran = (state, ran)
+ran_at (Err e) solving old new request matter state ran = tt
 
 -- What could not be restored is listed so.
 pub of_unrestored : (r : Result Status AllocError) (solving : Solving) (old new : Outside) (request : Asked) (save file : List ℕ) (fault : SaveFault) → IsUnrestored solving.before.names save fault →

@@ -1,5 +1,5 @@
 -- What the pieces that read what is to be run and report it promise each other.
-use Rattle.std.specs.Prelude.{◌≡◌, ◌≢◌, ◌≤◌, ◌⊎◌, Bool, true, false, ℕ, ◌+◌, List, [], ◌++◌, map, take, drop, length, Option, Some, None, option_map, IfSome, IfOk, Result, Ok, Err, Vec}
+use Rattle.std.specs.Prelude.{◌≡◌, ◌≢◌, ◌≤◌, ◌⊎◌, Bool, true, false, ℕ, List, [], ◌++◌, map, take, drop, length, Option, Some, None, option_map, IfSome, IfOk, Result, Ok, Err, Vec}
 use Rattle.std.specs.List.{All}
 use Rattle.std.specs.declared.alloc.Global.{Global}
 use Rattle.std.specs.declared.alloc.AllocError.{AllocError}
@@ -13,6 +13,10 @@ use Rattle.gms_host.specs.Spooling.{Passes, SaysFront}
 use Rattle.gms_ast.specs.declared.program.Program.{Program}
 use Rattle.gms_check.specs.declared.error.CompileError.{CompileError}
 use Rattle.gms_store.specs.State.{State, symbol_at, members_in}
+use Rattle.gms_store.specs.Declarations.{declared_state}
+use Rattle.gms_parse.specs.Outcomes.{IsProgram}
+use Rattle.gms_save.specs.JointErrors.{resumed}
+use Rattle.gms_fits.specs.Alike.{IsAlike}
 use Rattle.gms_exec.specs.Stepping.{AreKept}
 use Rattle.gms_list.specs.ListingText.{end_text}
 use Rattle.gms_saved.specs.SavedState.{saved_text}
@@ -27,37 +31,49 @@ use Rattle.gms_run.specs.declared.script.Script.{Script as OwnScript}
 use Rattle.gms_run.specs.declared.script.Matter.{Matter as OwnMatter}
 use Rattle.gms_run.specs.declared.script.Matter.TheVariants.{ToRun, Unrestored}
 use Rattle.gms_run.specs.Solving.{Solving, SolvesNothing, number_limit, numbers_of}
-use Rattle.gms_run.specs.Scripts.{Script, Matter, scripted, unrestored, Taken, from_save, IsMatter}
+use Rattle.gms_run.specs.Scripts.{Script, Matter, scripted, unrestored, Taken, from_save, IsMatter, first_state}
 use Rattle.gms_run.specs.Jobs.{solver_name, status_code}
-use Rattle.gms_run.specs.Listings.{AreRemarks, IsListing, IsModelLine, SavesSo, errors_text, save_file}
+use Rattle.gms_run.specs.Listings.{AreRemarks, IsAccepted, IsListing, IsModelLine, SavesSo, errors_text, save_file}
 use Rattle.gms_run.specs.Statuses.{CountsSo, EndsByNoFault, IsFileOf, IsUnread, IsUnwrittenFile, RanSo, SaysLine, with_read, with_save, with_source}
 
 -- ---- what is passed on
 
--- a script, as it is passed on
-abbrev pub script_in : OwnScript → Script
-script_in script =
-    record { source = script.source.now; file = script.file.now; line = script.line; saved = option_map (λ saved. saved.now.store) script.saved }
+-- a saved state, where there is one that is gone on from
+abbrev pub saved_if : Bool → State → Option State
+saved_if true state = Some state
+saved_if false state = None
+
+-- a script, as it is passed on, with the state that it goes on from, where it does
+abbrev pub script_in : OwnScript → State → Script
+script_in script state =
+    record { source = script.source.now; file = script.file.now; line = script.line; saved = saved_if script.joint state }
 
 -- what there is to run, as it is passed on
-abbrev pub matter_in : OwnMatter → Matter
-matter_in (ToRun script) = scripted (script_in script)
-matter_in (Unrestored fault) = unrestored fault
+abbrev pub matter_in : OwnMatter → State → Matter
+matter_in (ToRun script) state = scripted (script_in script state)
+matter_in (Unrestored fault) state = unrestored fault
 
--- A saved state from which a run can go on: its settings choose one of so many solvers, and the members of a set are as long as it has positions.
-pub record CanGoOn (solvers : ℕ) (state : State) : Type 0 where
+-- A saved state from which a run of a joint source can go on: its settings choose one of so many solvers, the members of a set are as long as it
+-- has positions, and where the source is a program its names are declared there as it declares them.
+pub record CanGoOn (solvers : ℕ) (source : List ℕ) (state : State) : Type 0 where
   pub settings : AreKept solvers state.settings
   pub arity : (name : ℕ) → All (λ t. length t ≡ length (symbol_at state name).domain) (members_in (symbol_at state name).content)
+  pub declares : (program : Program Frac) → IsProgram number_limit source frac_value program → (name : ℕ) → IsAlike (resumed frac_value state program) (declared_state program) name
 
--- a run can go on from the saved state of a script, where it has one
-abbrev pub IsSound : ℕ → Option State → Type 0
-IsSound solvers None = Unit {0}
-IsSound solvers (Some state) = CanGoOn solvers state
+-- a run of a source can go on from a saved state, where there is one
+abbrev pub IsSound : ℕ → List ℕ → Option State → Type 0
+IsSound solvers source None = Unit {0}
+IsSound solvers source (Some state) = CanGoOn solvers source state
 
 -- the same of what there is to run
 abbrev pub IsSoundMatter : ℕ → Matter → Type 0
-IsSoundMatter solvers (scripted script) = IsSound solvers script.saved
+IsSoundMatter solvers (scripted script) = IsSound solvers script.source script.saved
 IsSoundMatter solvers (unrestored fault) = Unit {0}
+
+-- A run begins its program in this state: the script is accepted, and the state is the first one of it.
+pub record Begins (solvers : List (List ℕ)) (script : Script) (program : Program Frac) (state : State) : Type 0 where
+  pub accepted : IsAccepted solvers script program
+  pub first : state ≡ first_state script.saved program
 
 -- ---- transfers
 

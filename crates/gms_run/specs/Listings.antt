@@ -17,23 +17,21 @@ use Rattle.lp_core.specs.declared.answer.Answer.{Answer}
 use Rattle.gq_text.specs.Shown.{IsRoundedText}
 use Rattle.gms_list.specs.ListingText.{compile_errors_text, echo_text, end_text, save_error_text, source_error_text}
 use Rattle.gms_save.specs.declared.fault.SaveFault.{SaveFault}
-use Rattle.gms_save.specs.declared.fault.SaveFault.TheVariants.{SaveShape}
 use Rattle.gms_save.specs.Faults.{fault_code, fault_name}
 use Rattle.gms_words.specs.CommandLine.{Asked, Origin, in_file, restarted, generated, generated_line, closing_line}
 use Rattle.gms_ranges.specs.RangeTexts.{SaysRanges}
 use Rattle.gms_run.specs.declared.status.Status.{Status}
 use Rattle.gms_run.specs.declared.status.Status.TheVariants.{Done, Compile, Execution}
 use Rattle.gms_run.specs.Solving.{Solving, SolvesNothing, number_limit, numbers_of, places_of, programs_of, solves_in}
-use Rattle.gms_run.specs.Scripts.{Script, Matter, scripted, unrestored, Fits, errors_of}
+use Rattle.gms_run.specs.Scripts.{Script, Matter, scripted, unrestored, errors_of}
 use Rattle.gms_run.specs.Jobs.{Job, job_of, course_of, job_text, save_text, IsSolved, IsCutOff, HaltsSo, status_code}
 
 -- ---- what is accepted
 
--- The source of a script is a program that has no error, and a saved state fits it.
+-- The source of a script is a program that has no error.
 pub record IsAccepted (solvers : List (List ℕ)) (script : Script) (program : Program Frac) : Type 0 where
   pub is_program : IsProgram number_limit script.source frac_value program
   pub no_error : errors_of script.saved script.line program solvers ≡ []
-  pub fits : Fits script.saved program
 
 -- The job of what there is to run, where that is accepted.
 pub record IsJob (solvers : List (List ℕ)) (matter : Matter) (job : Job) : Type 0 where
@@ -82,17 +80,9 @@ pub record ShowsErrors (solvers : List (List ℕ)) (script : Script) (text : Lis
   pub some : errors_of script.saved script.line program solvers ≢ []
   pub listing : text ≡ refused_text (errors_text script (errors_of script.saved script.line program solvers))
 
--- The source is a program without errors, and the saved state is none that it can go on from: the text is the listing that says so.
-pub record ShowsMisfit (solvers : List (List ℕ)) (script : Script) (text : List ℕ) : Type 0 where
-  pub program : Program Frac
-  pub is_program : IsProgram number_limit script.source frac_value program
-  pub no_error : errors_of script.saved script.line program solvers ≡ []
-  pub misfit : Fits script.saved program → ⊥
-  pub listing : text ≡ refused_text (unrestored_text SaveShape)
-
 -- the text is the listing that says why there is nothing to run
 abbrev pub ShowsWhy : List (List ℕ) → Matter → List ℕ → Type 0
-ShowsWhy solvers (scripted script) text = ShowsRefusal script text ⊎ (ShowsErrors solvers script text ⊎ ShowsMisfit solvers script text)
+ShowsWhy solvers (scripted script) text = ShowsRefusal script text ⊎ ShowsErrors solvers script text
 ShowsWhy solvers (unrestored fault) text = text ≡ refused_text (unrestored_text fault)
 
 -- What there is to run is not accepted: the text is the listing that says why, and nothing is solved.

@@ -1,14 +1,14 @@
 -- What there is to run: a source that is run from its start, or a file that goes on from a saved state (GAMS User's Guide, "Save and Restart").
-use Rattle.std.specs.Prelude.{◌≡◌, ℕ, ◌+◌, ◌<◌, ◌≤◌, ◌==◌, List, ◌∷◌, ◌++◌, length, filter, drop, Option, Some, None, Result, Err}
+use Rattle.std.specs.Prelude.{◌≡◌, ℕ, ◌≤◌, List, length, drop, Option, Some, None, Result, Err}
 use Rattle.gq_frac.specs.declared.frac.Frac.{Frac}
 use Rattle.gq_frac.specs.Frac.{frac_value}
 use Rattle.gms_ast.specs.declared.program.Program.{Program}
 use Rattle.gms_ast.specs.declared.program.Stmt.{Stmt}
-use Rattle.gms_store.specs.State.{State, symbol_of, base_of}
-use Rattle.gms_store.specs.Declarations.{declared_state}
+use Rattle.gms_store.specs.State.{State}
 use Rattle.gms_check.specs.declared.error.CompileError.{CompileError}
 use Rattle.gms_check.specs.CompileErrors.{compile_errors}
 use Rattle.gms_check.specs.Loaded.{loaded}
+pub use Rattle.gms_seam.specs.Fronts.{first_line, joint_source}
 use Rattle.gms_save.specs.declared.saved.Saved.{Saved}
 use Rattle.gms_save.specs.declared.fault.SaveFault.{SaveFault}
 use Rattle.gms_save.specs.declared.fault.SaveFaultOrMemory.{SaveFaultOrMemory}
@@ -40,14 +40,6 @@ pub data Taken : Type 0 where
 -- a source that is run from its start
 abbrev pub script_of : List ℕ → Script
 script_of source = record { source = source; file = source; line = 1; saved = None }
-
--- the joint source: the saved source, a line end, a line with `;`, and the file
-abbrev pub joint_source : List ℕ → List ℕ → List ℕ
-joint_source saved file = saved ++ (10 ∷ 59 ∷ 10 ∷ file)
-
--- the line of a joint source at which the file begins
-abbrev pub first_line : List ℕ → ℕ
-first_line saved = length (filter (λ byte. byte == 10) saved) + 3
 
 -- a file that goes on from a saved state, behind its source
 abbrev pub joint_script : List ℕ → State → List ℕ → Script
@@ -89,13 +81,3 @@ first_state (Some state) program = resumed frac_value state program
 abbrev pub statements_of : Option State → ℕ → Program Frac → List (Stmt Frac)
 statements_of None line program = program.statements.items
 statements_of (Some state) line program = drop (length (saved_statements line program)) program.statements.items
-
--- Two states declare a name alike: over as many positions, and as another name of the same set.
-pub record IsAlike (one other : State) (name : ℕ) : Type 0 where
-  pub base : base_of one name ≡ base_of other name
-  pub positions : length (symbol_of one name).domain ≡ length (symbol_of other name).domain
-
--- where a program goes on from a saved state, each of its names is declared there as the program declares it
-abbrev pub Fits : Option State → Program Frac → Type 0
-Fits None program = Unit {0}
-Fits (Some state) program = (name : ℕ) → name < length program.names → IsAlike (resumed frac_value state program) (declared_state program) name

@@ -232,7 +232,7 @@ Gives o (restarted saved file) (from_save save source) = HasFile o saved save ×
 Gives o (generated size) (from_start source) = source ≡ model_text size size size
 Gives o origin taken = ⊥
 
--- the source of a script is a program without errors, and a saved state fits it
+-- the source of a script is a program without errors
 abbrev pub IsGood : List (List ℕ) → Script → Type 0
 IsGood solvers script = (program : Program Frac) × IsAccepted solvers script program
 

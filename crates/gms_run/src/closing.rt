@@ -1,5 +1,5 @@
 //! What is done at the end of a run: the remarks on it are said, its last state is saved, and the closing line is said.
-ghost use Rattle.std.specs.Prelude.{◌≡◌, ◌++◌, [], codes, map, option_map, slice_get, unwrap_or, IfOk, OnOk, string_bytes};
+ghost use Rattle.std.specs.Prelude.{◌≡◌, ◌++◌, codes, map, option_map, slice_get, unwrap_or, IfOk, OnOk, string_bytes};
 ghost use Rattle.gq_frac.specs.Frac.{frac_value};
 ghost use Rattle.gms_ranges.specs.Answered.{AreAnswered};
 ghost use Rattle.gms_words.specs.CommandLine.{asked_by, closing_line, origin};
@@ -31,36 +31,6 @@ const DECIMALS: u8 = 3;
 
 /// What a save names where there are no solvers.
 const NO_SOLVER: &str = "none";
-
-/// What is to be done behind a listing.
-pub(crate) struct Sequel {
-    /// The remarks on the run, which are said.
-    pub(crate) remarks: String,
-    /// The save of its last state, where that is to be saved.
-    pub(crate) save: Vec<u8>,
-}
-
-// Written out, so that it is proved once, and not wherever a sequel is let go.
-impl Drop for Sequel {
-    fn drop(self) {
-        let Self {
-            remarks: _,
-            save: _,
-        } = self;
-    }
-}
-
-impl Sequel {
-    /// Nothing to be done yet.
-    pub(crate) fn new(alloc: Global) -> Sequel
-        ensures { string_bytes result.remarks ≡ [] }
-    {
-        Sequel {
-            remarks: String::new(alloc),
-            save: Vec::new(alloc),
-        }
-    }
-}
 
 /// The file for the last state of a run that ends so, where a request asks for one.
 fn save_file<'a>(status: Status, request: Request<'a>) -> Option<&'a str>

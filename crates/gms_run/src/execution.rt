@@ -2,29 +2,31 @@
 ghost use Rattle.std.specs.Prelude.{◌≡◌, ◌<◌, ◌≤◌, ◌^◌, ◌∷◌, ◌++◌, ℕ, List, [], true, length, map, option_to_list, IfOk, OnOk, string_bytes};
 ghost use Rattle.std.specs.List.{All};
 ghost use Rattle.gq_frac.specs.Frac.{frac_value};
+ghost use Rattle.gms_eval.specs.Gives.{fault_of};
 ghost use Rattle.gms_event.specs.EventView.{events_in};
+ghost use Rattle.gms_event.specs.Events.{stops};
+ghost use Rattle.gms_store.specs.State.{State};
 ghost use Rattle.gms_exec.specs.Dimensions.{AreOneDimensional};
 ghost use Rattle.gms_exec.specs.Run.{of_statement};
-ghost use Rattle.gms_exec.specs.Stepping.{AreKept};
+ghost use Rattle.gms_exec.specs.Standing.{ShowsStanding};
+ghost use Rattle.gms_exec.specs.Stepping.{AreKept, Answered, Runs, UnlessMemory};
 ghost use Rattle.gms_list.specs.Conditions.{IsListable};
-ghost use Rattle.gms_list.specs.ListingText.{echo_text, events_text};
+ghost use Rattle.gms_list.specs.ListingText.{echo_text, event_text, events_text};
 ghost use Rattle.gms_host.specs.Rules.{CountsWriting};
 ghost use Rattle.gms_host.specs.Spooling.{Passes, WritesFront};
 ghost use Rattle.gms_words.specs.CommandLine.{asked_by};
-ghost use Rattle.gms_run.specs.InnerReports.{Follows, IsRemarked, IsSave, IsSound, Prepares, script_in};
+ghost use Rattle.gms_run.specs.InnerReports.{Begins, Follows, IsRemarked, IsSave, Prepares, script_in};
 ghost use Rattle.gms_run.specs.InnerSteps.{BreaksBehind, ComesTo, EndsBehind, IsListed, between, programs_in, work};
-ghost use Rattle.gms_run.specs.Listings.{IsAccepted};
-ghost use Rattle.gms_run.specs.Scripts.{errors_of, first_state, scripted, statements_of};
+ghost use Rattle.gms_run.specs.Scripts.{scripted, statements_of};
 ghost use Rattle.gms_run.specs.Solving.{number_limit, numbers_of, solving};
 ghost use Rattle.gms_run.specs.Statuses.{IsUnwritten};
 
-use crate::closing::Sequel;
 use crate::outlet::Outlet;
-use crate::restart::{first_state, statements_of};
+use crate::restart::statements_of;
 use crate::script::Script;
 use crate::status::Status;
 use gms_ast::{Program, Stmt};
-use gms_eval::{Binding, StopOrMemory};
+use gms_eval::{Binding, ExecStop, StopOrMemory};
 use gms_event::Event;
 use gms_exec::step;
 use gms_host::{Failed, Host};
@@ -36,12 +38,16 @@ use lp_core::{Answer, Lp};
 use lp_slot::LpSolver;
 use std::alloc::{AllocError, Global};
 
-/// A run of a program on its way.
+/// A run on its way.
 pub(crate) struct Run {
-    /// Its state.
+    /// Its state; before its program begins, what was saved, where it goes on from that.
     pub(crate) store: Store<Frac>,
     /// The linear programs of its solves, in order.
     pub(crate) solved: Vec<Lp<Frac>>,
+    /// The remarks on it, which are said behind its listing.
+    pub(crate) remarks: String,
+    /// The save of its last state, where that is to be saved.
+    pub(crate) save: Vec<u8>,
 }
 
 // Written out, so that it is proved once, and not wherever a run is let go.
@@ -50,6 +56,8 @@ impl Drop for Run {
         let Self {
             store: _,
             solved: _,
+            remarks: _,
+            save: _,
         } = self;
     }
 }
@@ -110,6 +118,46 @@ fn show(
     keep_programs(events, solved)
 }
 
+/// Executes a statement that no loop holds.
+fn step_alone(
+    alloc: Global,
+    store: &mut Store<Frac>,
+    program: &Program<Frac>,
+    s: &Stmt<Frac>,
+    solvers: &mut Vec<Box<dyn LpSolver>>,
+    answers: &mut Vec<Answer<Frac>>,
+    events: &mut Vec<Event<Frac>>,
+) -> Result<(), StopOrMemory<Frac>>
+    requires few { length solvers.old.items < 2 ^ 32 }
+    requires settings { AreKept (length solvers.old.items) store.old.settings }
+    requires plain { AreOneDimensional store.old program.now.statements.items }
+    ensures runs { Runs frac_value result (of_statement frac_value number_limit (record { program = program.now; solvers = map name solvers.old.items }) s.now [])
+        (record { state = store.old; events = events.old.items; answers = answers.old.items })
+        (record { state = store.new; events = events.new.items; answers = answers.new.items }) }
+    ensures solvers { UnlessMemory result (Answered frac_value number_limit name rule paths solvers.old.items solvers.new.items
+        (record { state = store.old; events = events.old.items; answers = answers.old.items })
+        (record { state = store.new; events = events.new.items; answers = answers.new.items })) }
+    ensures standing { UnlessMemory result (ShowsStanding frac_value number_limit (map rule solvers.old.items) answers.new.items events.old.items events.new.items) }
+    ensures settings { UnlessMemory result (AreKept (length solvers.old.items) store.new.settings) }
+    ensures plain { UnlessMemory result (AreOneDimensional store.new program.now.statements.items) }
+{
+    let none = Binding::new(alloc);
+    step(alloc, store, program, s, &none, solvers, answers, events)
+}
+
+/// Lists the fault that stops a run.
+fn list_fault(
+    alloc: Global,
+    program: &Program<Frac>,
+    stop: Box<ExecStop<Frac>>,
+    answers: &[Answer<Frac>],
+    listing: &mut Listing,
+) -> Result<(), AllocError>
+    ensures { OnOk result (listing.new ≡ listing.old ++ event_text program.now.names program.now.labels number_limit (numbers_of answers.now) (stops (fault_of frac_value stop))) }
+{
+    listing.event(alloc, program, &Event::Fault(stop), answers)
+}
+
 /// Executes a statement that no loop holds, and lists what it shows and the fault that stops it. Answers whether the run goes on.
 fn statement(
     alloc: Global,
@@ -129,18 +177,9 @@ fn statement(
     ensures settings { OnOk result (AreKept (length solvers.old.items) store.new.settings) }
     ensures plain { OnOk result (AreOneDimensional store.new program.now.statements.items) }
 {
-    let none = Binding::new(alloc);
     let mut events = Vec::new(alloc);
-    match step(
-        alloc,
-        store,
-        program,
-        s,
-        &none,
-        solvers,
-        answers,
-        &mut events,
-    ) {
+    let stepped = step_alone(alloc, store, program, s, solvers, answers, &mut events);
+    match stepped {
         Ok(()) => {
             show(alloc, program, events, answers, solved, listing)?;
             Ok(true)
@@ -148,7 +187,7 @@ fn statement(
         Err(StopOrMemory::Memory) => Err(AllocError),
         Err(StopOrMemory::Stop(stop)) => {
             show(alloc, program, events, answers, solved, listing)?;
-            listing.event(alloc, program, &Event::Fault(stop), answers)?;
+            list_fault(alloc, program, stop, answers, listing)?;
             Ok(false)
         }
     }
@@ -189,19 +228,18 @@ fn statements<H: Host>(
 }
 
 impl Run {
-    /// The run of a script's program without errors, in its first state.
-    pub(crate) fn begin(
-        alloc: Global,
-        script: Script,
-        program: &Program<Frac>,
-    ) -> Result<Run, AllocError>
-        requires { (solvers : List (List ℕ)) × (errors_of (script_in script).saved script.line program.now solvers ≡ []) }
-        ensures first { IfOk result (λ run. run.store ≡ first_state (script_in script.entry).saved program.now) }
+    /// A run that has not begun, from no state.
+    pub(crate) fn new(alloc: Global) -> Result<Run, AllocError>
+        ensures silent { IfOk result (λ run. string_bytes run.remarks ≡ []) }
         ensures unsolved { IfOk result (λ run. run.solved.items ≡ []) }
     {
-        let store = first_state(alloc, script, program)?;
-        let solved = Vec::new(alloc);
-        Ok(Run { store, solved })
+        let store = Store::blank(alloc, 0)?;
+        Ok(Run {
+            store,
+            solved: Vec::new(alloc),
+            remarks: String::new(alloc),
+            save: Vec::new(alloc),
+        })
     }
 
     /// Executes the statements of a script's program that are run, and makes ready what is to be done behind their listing.
@@ -215,7 +253,6 @@ impl Run {
         solvers: &mut Vec<Box<dyn LpSolver>>,
         answers: &mut Vec<Answer<Frac>>,
         outlet: &mut Outlet,
-        sequel: &mut Sequel,
     ) -> Result<Status, Failed>
         requires open { (H.meaning host.old).outside.writing ≡ true }
         requires few { length solvers.old.items < 2 ^ 32 }
@@ -224,10 +261,10 @@ impl Run {
         requires none { answers.old.items ≡ [] }
         requires unsolved { self.old.solved.items ≡ [] }
         requires room { length (outlet.old.spool ++ outlet.old.listing) ≤ 4096 }
-        ensures outside { ComesTo result (λ status. EndsBehind status (work program.now self.old.store (statements_of (script_in script.entry).saved script.entry.line program.now)) (solving name rule paths solvers.old.items solvers.new.items answers.new.items) self.new.store self.new.solved.items (H.meaning host.old).outside (H.meaning host.new).outside (outlet.old.spool ++ outlet.old.listing) (outlet.new.spool ++ outlet.new.listing))
-            (BreaksBehind (work program.now self.old.store (statements_of (script_in script.entry).saved script.entry.line program.now)) (solving name rule paths solvers.old.items solvers.new.items answers.new.items) (H.meaning host.old).outside (H.meaning host.new).outside (outlet.old.spool ++ outlet.old.listing)) }
-        ensures told { IfOk result (λ status. IsRemarked (asked_by request.entry) program.now self.new.store self.new.solved.items answers.new.items (string_bytes sequel.new.remarks)) }
-        ensures saved { IfOk result (λ status. IsSave status (asked_by request.entry) (map name solvers.new.items) script.entry.source.now program.now self.new.store sequel.new.save.items) }
+        ensures outside { (state : State) → ComesTo result (λ status. EndsBehind status (work program.now self.old.store (statements_of (script_in script.entry state).saved script.entry.line program.now)) (solving name rule paths solvers.old.items solvers.new.items answers.new.items) self.new.store self.new.solved.items (H.meaning host.old).outside (H.meaning host.new).outside (outlet.old.spool ++ outlet.old.listing) (outlet.new.spool ++ outlet.new.listing))
+            (BreaksBehind (work program.now self.old.store (statements_of (script_in script.entry state).saved script.entry.line program.now)) (solving name rule paths solvers.old.items solvers.new.items answers.new.items) (H.meaning host.old).outside (H.meaning host.new).outside (outlet.old.spool ++ outlet.old.listing)) }
+        ensures told { IfOk result (λ status. IsRemarked (asked_by request.entry) program.now self.new.store self.new.solved.items answers.new.items (string_bytes self.new.remarks)) }
+        ensures saved { IfOk result (λ status. IsSave status (asked_by request.entry) (map name solvers.new.items) script.entry.source.now program.now self.new.store self.new.save.items) }
         ensures counts { CountsWriting result (H.meaning host.old).counts (H.meaning host.new).counts }
     {
         let status = statements(
@@ -243,10 +280,10 @@ impl Run {
         )?;
         let given = answers.as_slice();
         let text = self.remark(alloc, request, program, given)?;
-        sequel.remarks = text;
+        self.remarks = text;
         let source = script.source;
         let save = self.saved(alloc, status, request, source, program, solvers.as_slice())?;
-        sequel.save = save;
+        self.save = save;
         Ok(status)
     }
 }
@@ -277,26 +314,24 @@ pub(crate) fn execute<H: Host>(
     request: Request,
     script: Script,
     program: &Program<Frac>,
-    run: &mut Run,
     solvers: &mut Vec<Box<dyn LpSolver>>,
     answers: &mut Vec<Answer<Frac>>,
     outlet: &mut Outlet,
-    sequel: &mut Sequel,
+    run: &mut Run,
 ) -> Result<Status, Failed>
     requires open { (H.meaning host.old).outside.writing ≡ true }
     requires few { length solvers.old.items < 2 ^ 32 }
-    requires accepted { IsAccepted (map name solvers.old.items) (script_in script) program.now }
-    requires sound { IsSound (length solvers.old.items) (script_in script).saved }
-    requires first { run.old.store ≡ first_state (script_in script).saved program.now }
+    requires settings { AreKept (length solvers.old.items) run.old.store.settings }
+    requires plain { AreOneDimensional run.old.store program.now.statements.items }
     requires unsolved { run.old.solved.items ≡ [] }
     requires none { answers.old.items ≡ [] }
     requires empty { outlet.old.spool ++ outlet.old.listing ≡ [] }
-    ensures outside { ComesTo result (λ status. Prepares status (solving name rule paths solvers.old.items solvers.new.items answers.new.items) (H.meaning host.old).outside (H.meaning host.new).outside (scripted (script_in script.entry)) (outlet.new.spool ++ outlet.new.listing)) (IsUnwritten (solving name rule paths solvers.old.items solvers.new.items answers.new.items) (H.meaning host.old).outside (H.meaning host.new).outside (scripted (script_in script.entry))) }
-    ensures follows { IfOk result (λ status. Follows status (solving name rule paths solvers.old.items solvers.new.items answers.new.items) (asked_by request.entry) (scripted (script_in script.entry)) (string_bytes sequel.new.remarks) sequel.new.save.items) }
+    ensures outside { (state : State) → Begins (map name solvers.old.items) (script_in script.entry state) program.now run.old.store → ComesTo result (λ status. Prepares status (solving name rule paths solvers.old.items solvers.new.items answers.new.items) (H.meaning host.old).outside (H.meaning host.new).outside (scripted (script_in script.entry state)) (outlet.new.spool ++ outlet.new.listing)) (IsUnwritten (solving name rule paths solvers.old.items solvers.new.items answers.new.items) (H.meaning host.old).outside (H.meaning host.new).outside (scripted (script_in script.entry state))) }
+    ensures follows { (state : State) → Begins (map name solvers.old.items) (script_in script.entry state) program.now run.old.store → IfOk result (λ status. Follows status (solving name rule paths solvers.old.items solvers.new.items answers.new.items) (asked_by request.entry) (scripted (script_in script.entry state)) (string_bytes run.new.remarks) run.new.save.items) }
     ensures counts { CountsWriting result (H.meaning host.old).counts (H.meaning host.new).counts }
 {
     pass_echo(alloc, host, script, outlet)?;
     run.to_end(
-        alloc, host, request, script, program, solvers, answers, outlet, sequel,
+        alloc, host, request, script, program, solvers, answers, outlet,
     )
 }

@@ -2,19 +2,19 @@
 ghost use Rattle.std.specs.Prelude.{◌≡◌, ◌<◌, ◌^◌, ◌++◌, [], true, length, map, IfOk, OnOk, string_bytes};
 ghost use Rattle.gq_frac.specs.Frac.{frac_value};
 ghost use Rattle.gms_host.specs.Rules.{CountsWriting};
+ghost use Rattle.gms_store.specs.State.{State};
 ghost use Rattle.gms_parse.specs.Outcomes.{IsProgram};
 ghost use Rattle.gms_words.specs.CommandLine.{asked_by};
 ghost use Rattle.gms_run.specs.InnerReports.{Follows, IsSound, IsSoundMatter, Lists, ListsErrors, Prepares, matter_in, script_in};
 ghost use Rattle.gms_run.specs.InnerSteps.{ComesTo};
 ghost use Rattle.gms_run.specs.Listings.{has_echo, refusal_text, unrestored_text};
-ghost use Rattle.gms_run.specs.Scripts.{errors_of, first_state, scripted};
+ghost use Rattle.gms_run.specs.Scripts.{errors_of, scripted};
 ghost use Rattle.gms_run.specs.Solving.{number_limit, solving};
 ghost use Rattle.gms_run.specs.Statuses.{IsUnwritten};
 
-use crate::closing::Sequel;
 use crate::execution::{Run, execute};
 use crate::outlet::Outlet;
-use crate::restart::{errors_of, fits};
+use crate::restart::{begin, errors_of};
 use crate::script::{Matter, Script};
 use crate::status::Status;
 use gms_ast::Program;
@@ -67,7 +67,7 @@ fn refused(
     outlet: &mut Outlet,
 ) -> Result<Status, AllocError>
     ensures status { IfOk result (λ status. status ≡ Status.Compile) }
-    ensures text { OnOk result (outlet.new.listing ≡ outlet.old.listing ++ refusal_text (script_in script.entry) fault) }
+    ensures text { OnOk result ((state : State) → outlet.new.listing ≡ outlet.old.listing ++ refusal_text (script_in script.entry state) fault) }
     ensures spool { outlet.new.spool ≡ outlet.old.spool }
 {
     if has_echo(fault.error) {
@@ -92,7 +92,7 @@ fn list_errors(
     errors: &[CompileError],
     listing: &mut Listing,
 ) -> Result<bool, AllocError>
-    ensures { IfOk result (λ some. ListsErrors some errors.now (script_in script.entry) listing.old listing.new) }
+    ensures { IfOk result (λ some. (state : State) → ListsErrors some errors.now (script_in script.entry state) listing.old listing.new) }
 {
     if errors.is_empty() {
         return Ok(false);
@@ -109,7 +109,7 @@ fn errors_for(
     program: &Program<Frac>,
     solvers: &[Box<dyn LpSolver>],
 ) -> Result<Vec<CompileError>, AllocError>
-    ensures { IfOk result (λ errors. errors.items ≡ errors_of (script_in script.entry).saved script.entry.line program.now (map name solvers.now)) }
+    ensures { IfOk result (λ errors. (state : State) → errors.items ≡ errors_of (script_in script.entry state).saved script.entry.line program.now (map name solvers.now)) }
 {
     let names = names_of(alloc, solvers)?;
     errors_of(alloc, script, program, &names)
@@ -123,46 +123,10 @@ fn has_errors(
     solvers: &[Box<dyn LpSolver>],
     listing: &mut Listing,
 ) -> Result<bool, AllocError>
-    ensures { IfOk result (λ some. ListsErrors some (errors_of (script_in script.entry).saved script.entry.line program.now (map name solvers.now)) (script_in script.entry) listing.old listing.new) }
+    ensures { IfOk result (λ some. (state : State) → ListsErrors some (errors_of (script_in script.entry state).saved script.entry.line program.now (map name solvers.now)) (script_in script.entry state) listing.old listing.new) }
 {
     let errors = errors_for(alloc, script, program, solvers)?;
     list_errors(alloc, script, errors.as_slice(), listing)
-}
-
-/// Executes a script's program without errors from its first state on, where a saved state fits it. Where it does not, that is listed.
-fn fitted<H: Host>(
-    alloc: Global,
-    host: &mut H,
-    request: Request,
-    script: Script,
-    program: &Program<Frac>,
-    run: &mut Run,
-    solvers: &mut Vec<Box<dyn LpSolver>>,
-    answers: &mut Vec<Answer<Frac>>,
-    outlet: &mut Outlet,
-    sequel: &mut Sequel,
-) -> Result<Status, Failed>
-    requires open { (H.meaning host.old).outside.writing ≡ true }
-    requires few { length solvers.old.items < 2 ^ 32 }
-    requires is_program { IsProgram number_limit script.source.now frac_value program.now }
-    requires no_error { errors_of (script_in script).saved script.line program.now (map name solvers.old.items) ≡ [] }
-    requires sound { IsSound (length solvers.old.items) (script_in script).saved }
-    requires first { run.old.store ≡ first_state (script_in script).saved program.now }
-    requires unsolved { run.old.solved.items ≡ [] }
-    requires none { answers.old.items ≡ [] }
-    requires empty { outlet.old.spool ++ outlet.old.listing ≡ [] }
-    requires silent { string_bytes sequel.old.remarks ≡ [] }
-    ensures outside { ComesTo result (λ status. Prepares status (solving name rule paths solvers.old.items solvers.new.items answers.new.items) (H.meaning host.old).outside (H.meaning host.new).outside (scripted (script_in script.entry)) (outlet.new.spool ++ outlet.new.listing)) (IsUnwritten (solving name rule paths solvers.old.items solvers.new.items answers.new.items) (H.meaning host.old).outside (H.meaning host.new).outside (scripted (script_in script.entry))) }
-    ensures follows { IfOk result (λ status. Follows status (solving name rule paths solvers.old.items solvers.new.items answers.new.items) (asked_by request.entry) (scripted (script_in script.entry)) (string_bytes sequel.new.remarks) sequel.new.save.items) }
-    ensures counts { CountsWriting result (H.meaning host.old).counts (H.meaning host.new).counts }
-{
-    if fits(alloc, script, program, &run.store)? {
-        return execute(
-            alloc, host, request, script, program, run, solvers, answers, outlet, sequel,
-        );
-    }
-    list_unrestored(alloc, SaveFault::SaveShape, &mut outlet.listing)?;
-    Ok(Status::Compile)
 }
 
 /// Checks and executes the program of a script, whose listing goes out as far as its last line, which is still to come; what is to be done behind it
@@ -176,26 +140,27 @@ fn checked<H: Host>(
     solvers: &mut Vec<Box<dyn LpSolver>>,
     answers: &mut Vec<Answer<Frac>>,
     outlet: &mut Outlet,
-    sequel: &mut Sequel,
+    run: &mut Run,
 ) -> Result<Status, Failed>
     requires open { (H.meaning host.old).outside.writing ≡ true }
     requires few { length solvers.old.items < 2 ^ 32 }
     requires is_program { IsProgram number_limit script.source.now frac_value program.now }
-    requires sound { IsSound (length solvers.old.items) (script_in script).saved }
+    requires sound { IsSound (length solvers.old.items) (script_in script run.old.store).source (script_in script run.old.store).saved }
     requires none { answers.old.items ≡ [] }
     requires empty { outlet.old.spool ++ outlet.old.listing ≡ [] }
-    requires silent { string_bytes sequel.old.remarks ≡ [] }
-    ensures outside { ComesTo result (λ status. Prepares status (solving name rule paths solvers.old.items solvers.new.items answers.new.items) (H.meaning host.old).outside (H.meaning host.new).outside (scripted (script_in script.entry)) (outlet.new.spool ++ outlet.new.listing)) (IsUnwritten (solving name rule paths solvers.old.items solvers.new.items answers.new.items) (H.meaning host.old).outside (H.meaning host.new).outside (scripted (script_in script.entry))) }
-    ensures follows { IfOk result (λ status. Follows status (solving name rule paths solvers.old.items solvers.new.items answers.new.items) (asked_by request.entry) (scripted (script_in script.entry)) (string_bytes sequel.new.remarks) sequel.new.save.items) }
+    requires silent { string_bytes run.old.remarks ≡ [] }
+    requires unsolved { run.old.solved.items ≡ [] }
+    ensures outside { ComesTo result (λ status. Prepares status (solving name rule paths solvers.old.items solvers.new.items answers.new.items) (H.meaning host.old).outside (H.meaning host.new).outside (scripted (script_in script.entry run.old.store)) (outlet.new.spool ++ outlet.new.listing)) (IsUnwritten (solving name rule paths solvers.old.items solvers.new.items answers.new.items) (H.meaning host.old).outside (H.meaning host.new).outside (scripted (script_in script.entry run.old.store))) }
+    ensures follows { IfOk result (λ status. Follows status (solving name rule paths solvers.old.items solvers.new.items answers.new.items) (asked_by request.entry) (scripted (script_in script.entry run.old.store)) (string_bytes run.new.remarks) run.new.save.items) }
     ensures counts { CountsWriting result (H.meaning host.old).counts (H.meaning host.new).counts }
 {
     let listing = &mut outlet.listing;
     if has_errors(alloc, script, program, solvers.as_slice(), listing)? {
         return Ok(Status::Compile);
     }
-    let mut run = Run::begin(alloc, script, program)?;
-    fitted(
-        alloc, host, request, script, program, &mut run, solvers, answers, outlet, sequel,
+    begin(alloc, script, program, &mut run.store)?;
+    execute(
+        alloc, host, request, script, program, solvers, answers, outlet, run,
     )
 }
 
@@ -209,21 +174,22 @@ fn parsed<H: Host>(
     solvers: &mut Vec<Box<dyn LpSolver>>,
     answers: &mut Vec<Answer<Frac>>,
     outlet: &mut Outlet,
-    sequel: &mut Sequel,
+    run: &mut Run,
 ) -> Result<Status, Failed>
     requires open { (H.meaning host.old).outside.writing ≡ true }
     requires few { length solvers.old.items < 2 ^ 32 }
-    requires sound { IsSound (length solvers.old.items) (script_in script).saved }
+    requires sound { IsSound (length solvers.old.items) (script_in script run.old.store).source (script_in script run.old.store).saved }
     requires none { answers.old.items ≡ [] }
     requires empty { outlet.old.spool ++ outlet.old.listing ≡ [] }
-    requires silent { string_bytes sequel.old.remarks ≡ [] }
-    ensures outside { ComesTo result (λ status. Prepares status (solving name rule paths solvers.old.items solvers.new.items answers.new.items) (H.meaning host.old).outside (H.meaning host.new).outside (scripted (script_in script.entry)) (outlet.new.spool ++ outlet.new.listing)) (IsUnwritten (solving name rule paths solvers.old.items solvers.new.items answers.new.items) (H.meaning host.old).outside (H.meaning host.new).outside (scripted (script_in script.entry))) }
-    ensures follows { IfOk result (λ status. Follows status (solving name rule paths solvers.old.items solvers.new.items answers.new.items) (asked_by request.entry) (scripted (script_in script.entry)) (string_bytes sequel.new.remarks) sequel.new.save.items) }
+    requires silent { string_bytes run.old.remarks ≡ [] }
+    requires unsolved { run.old.solved.items ≡ [] }
+    ensures outside { ComesTo result (λ status. Prepares status (solving name rule paths solvers.old.items solvers.new.items answers.new.items) (H.meaning host.old).outside (H.meaning host.new).outside (scripted (script_in script.entry run.old.store)) (outlet.new.spool ++ outlet.new.listing)) (IsUnwritten (solving name rule paths solvers.old.items solvers.new.items answers.new.items) (H.meaning host.old).outside (H.meaning host.new).outside (scripted (script_in script.entry run.old.store))) }
+    ensures follows { IfOk result (λ status. Follows status (solving name rule paths solvers.old.items solvers.new.items answers.new.items) (asked_by request.entry) (scripted (script_in script.entry run.old.store)) (string_bytes run.new.remarks) run.new.save.items) }
     ensures counts { CountsWriting result (H.meaning host.old).counts (H.meaning host.new).counts }
 {
     match parse::<Frac>(alloc, script.source) {
         Ok(program) => checked(
-            alloc, host, request, script, &program, solvers, answers, outlet, sequel,
+            alloc, host, request, script, &program, solvers, answers, outlet, run,
         ),
         Err(SourceFaultOrMemory::Memory) => Err(Failed::Memory),
         Err(SourceFaultOrMemory::Fault(fault)) => {
@@ -243,21 +209,22 @@ fn listed<H: Host>(
     solvers: &mut Vec<Box<dyn LpSolver>>,
     answers: &mut Vec<Answer<Frac>>,
     outlet: &mut Outlet,
-    sequel: &mut Sequel,
+    run: &mut Run,
 ) -> Result<Status, Failed>
     requires open { (H.meaning host.old).outside.writing ≡ true }
     requires few { length solvers.old.items < 2 ^ 32 }
-    requires sound { IsSoundMatter (length solvers.old.items) (matter_in matter) }
+    requires sound { IsSoundMatter (length solvers.old.items) (matter_in matter run.old.store) }
     requires none { answers.old.items ≡ [] }
     requires empty { outlet.old.spool ++ outlet.old.listing ≡ [] }
-    requires silent { string_bytes sequel.old.remarks ≡ [] }
-    ensures outside { ComesTo result (λ status. Prepares status (solving name rule paths solvers.old.items solvers.new.items answers.new.items) (H.meaning host.old).outside (H.meaning host.new).outside (matter_in matter.entry) (outlet.new.spool ++ outlet.new.listing)) (IsUnwritten (solving name rule paths solvers.old.items solvers.new.items answers.new.items) (H.meaning host.old).outside (H.meaning host.new).outside (matter_in matter.entry)) }
-    ensures follows { IfOk result (λ status. Follows status (solving name rule paths solvers.old.items solvers.new.items answers.new.items) (asked_by request.entry) (matter_in matter.entry) (string_bytes sequel.new.remarks) sequel.new.save.items) }
+    requires silent { string_bytes run.old.remarks ≡ [] }
+    requires unsolved { run.old.solved.items ≡ [] }
+    ensures outside { ComesTo result (λ status. Prepares status (solving name rule paths solvers.old.items solvers.new.items answers.new.items) (H.meaning host.old).outside (H.meaning host.new).outside (matter_in matter.entry run.old.store) (outlet.new.spool ++ outlet.new.listing)) (IsUnwritten (solving name rule paths solvers.old.items solvers.new.items answers.new.items) (H.meaning host.old).outside (H.meaning host.new).outside (matter_in matter.entry run.old.store)) }
+    ensures follows { IfOk result (λ status. Follows status (solving name rule paths solvers.old.items solvers.new.items answers.new.items) (asked_by request.entry) (matter_in matter.entry run.old.store) (string_bytes run.new.remarks) run.new.save.items) }
     ensures counts { CountsWriting result (H.meaning host.old).counts (H.meaning host.new).counts }
 {
     match matter {
         Matter::ToRun(script) => parsed(
-            alloc, host, request, script, solvers, answers, outlet, sequel,
+            alloc, host, request, script, solvers, answers, outlet, run,
         ),
         Matter::Unrestored(fault) => {
             list_unrestored(alloc, fault, &mut outlet.listing)?;
@@ -274,15 +241,16 @@ pub(crate) fn report<H: Host>(
     matter: Matter,
     solvers: &mut Vec<Box<dyn LpSolver>>,
     answers: &mut Vec<Answer<Frac>>,
-    sequel: &mut Sequel,
+    run: &mut Run,
 ) -> Result<Status, Failed>
     requires open { (H.meaning host.old).outside.writing ≡ true }
     requires few { length solvers.old.items < 2 ^ 32 }
-    requires sound { IsSoundMatter (length solvers.old.items) (matter_in matter) }
+    requires sound { IsSoundMatter (length solvers.old.items) (matter_in matter run.old.store) }
     requires none { answers.old.items ≡ [] }
-    requires silent { string_bytes sequel.old.remarks ≡ [] }
-    ensures outside { ComesTo result (λ status. Lists status (solving name rule paths solvers.old.items solvers.new.items answers.new.items) (H.meaning host.old).outside (H.meaning host.new).outside (matter_in matter.entry)) (IsUnwritten (solving name rule paths solvers.old.items solvers.new.items answers.new.items) (H.meaning host.old).outside (H.meaning host.new).outside (matter_in matter.entry)) }
-    ensures follows { IfOk result (λ status. Follows status (solving name rule paths solvers.old.items solvers.new.items answers.new.items) (asked_by request.entry) (matter_in matter.entry) (string_bytes sequel.new.remarks) sequel.new.save.items) }
+    requires silent { string_bytes run.old.remarks ≡ [] }
+    requires unsolved { run.old.solved.items ≡ [] }
+    ensures outside { ComesTo result (λ status. Lists status (solving name rule paths solvers.old.items solvers.new.items answers.new.items) (H.meaning host.old).outside (H.meaning host.new).outside (matter_in matter.entry run.old.store)) (IsUnwritten (solving name rule paths solvers.old.items solvers.new.items answers.new.items) (H.meaning host.old).outside (H.meaning host.new).outside (matter_in matter.entry run.old.store)) }
+    ensures follows { IfOk result (λ status. Follows status (solving name rule paths solvers.old.items solvers.new.items answers.new.items) (asked_by request.entry) (matter_in matter.entry run.old.store) (string_bytes run.new.remarks) run.new.save.items) }
     ensures counts { CountsWriting result (H.meaning host.old).counts (H.meaning host.new).counts }
 {
     let mut outlet = Outlet::new(alloc)?;
@@ -294,7 +262,7 @@ pub(crate) fn report<H: Host>(
         solvers,
         answers,
         &mut outlet,
-        sequel,
+        run,
     )?;
     outlet.end(alloc, host, status, answers.len())?;
     Ok(status)

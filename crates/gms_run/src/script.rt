@@ -3,7 +3,7 @@ ghost use Rattle.std.specs.Prelude.{◌≡◌, ◌≤◌, length, IfOk};
 ghost use Rattle.gms_lex.specs.Tokens.{most_bytes};
 ghost use Rattle.gms_run.specs.Scripts.{first_line, joint_source};
 
-use gms_save::{SaveFault, Saved};
+use gms_save::SaveFault;
 use std::alloc::{AllocError, Global};
 
 /// What stands between a saved source and a file that goes on from it.
@@ -21,8 +21,8 @@ pub(crate) struct Script<'a> {
     pub file: &'a [u8],
     /// The number of the first line of the file.
     pub line: u32,
-    /// What was saved, where the file goes on from that.
-    pub saved: Option<&'a Saved>,
+    /// Whether the file goes on from what was saved.
+    pub joint: bool,
 }
 
 /// What there is to run.

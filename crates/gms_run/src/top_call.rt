@@ -1,15 +1,17 @@
 //! The top call: from the words of the command line to the bytes of the listing and of the save.
 ghost use Rattle.std.specs.Prelude.{◌≡◌, ◌<◌, ◌≤◌, ◌^◌, ◌↔◌, ◌⊎◌, [], true, length, map, IfOk, OnOk, string_bytes};
 ghost use Rattle.gms_host.specs.Rules.{CountsWriting, IsThere};
+ghost use Rattle.gms_store.specs.State.{State};
 ghost use Rattle.gms_lex.specs.Tokens.{most_bytes};
 ghost use Rattle.gms_words.specs.CommandLine.{texts, request_of, asked_by, in_file, restarted, generated, read_fault_line};
 ghost use Rattle.gms_run.specs.InnerReports.{CanGoOn, CountsMention, CountsRun, EndsAs, IsSoundMatter, RanBehind, RanOf, matter_in};
 ghost use Rattle.gms_run.specs.InnerSteps.{ComesTo};
-ghost use Rattle.gms_run.specs.Scripts.{from_save, joint_script, script_of, scripted};
+ghost use Rattle.gms_run.specs.Scripts.{from_save, joint_script, joint_source, script_of, scripted};
 ghost use Rattle.gms_run.specs.Solving.{solving};
 ghost use Rattle.gms_run.specs.Statuses.{CountsSo, EndsByNoFault, HasOrigin, IsReadyFor, IsReported, IsRun, IsWriteFault, MeetsNoFault, NamesProgram, OfRequest, RanSo, SaysLine};
 
-use crate::closing::{Sequel, push_closing, write_save};
+use crate::closing::{push_closing, write_save};
+use crate::execution::Run;
 use crate::report::report;
 use crate::restart::restored;
 use crate::script::{Matter, Script, first_line, joint_source};
@@ -24,6 +26,7 @@ use gq_frac::Frac;
 use lp_core::Answer;
 use lp_slot::LpSolver;
 use std::alloc::{AllocError, Global};
+use std::mem::swap;
 
 /// How a run ended.
 #[derive(Drop)]
@@ -44,22 +47,23 @@ fn write_report<H: Host>(
     output: &str,
     solvers: &mut Vec<Box<dyn LpSolver>>,
     answers: &mut Vec<Answer<Frac>>,
-    sequel: &mut Sequel,
+    run: &mut Run,
 ) -> Result<Status, Failed>
     requires few { length solvers.old.items < 2 ^ 32 }
-    requires sound { IsSoundMatter (length solvers.old.items) (matter_in matter) }
+    requires sound { IsSoundMatter (length solvers.old.items) (matter_in matter run.old.store) }
     requires none { answers.old.items ≡ [] }
     requires named { output.now ≡ (asked_by request).output }
-    requires silent { string_bytes sequel.old.remarks ≡ [] }
-    ensures outside { ComesTo result (λ status. IsReported status (solving name rule paths solvers.old.items solvers.new.items answers.new.items) (H.meaning host.old).outside (H.meaning host.new).outside (asked_by request.entry) (matter_in matter.entry)) (IsWriteFault (solving name rule paths solvers.old.items solvers.new.items answers.new.items) (H.meaning host.old).outside (H.meaning host.new).outside (asked_by request.entry) (matter_in matter.entry)) }
+    requires silent { string_bytes run.old.remarks ≡ [] }
+    requires unsolved { run.old.solved.items ≡ [] }
+    ensures outside { ComesTo result (λ status. IsReported status (solving name rule paths solvers.old.items solvers.new.items answers.new.items) (H.meaning host.old).outside (H.meaning host.new).outside (asked_by request.entry) (matter_in matter.entry run.old.store)) (IsWriteFault (solving name rule paths solvers.old.items solvers.new.items answers.new.items) (H.meaning host.old).outside (H.meaning host.new).outside (asked_by request.entry) (matter_in matter.entry run.old.store)) }
     ensures counts { CountsWriting result (H.meaning host.old).counts (H.meaning host.new).counts }
 {
     host.open_out(output)?;
-    let status = report(alloc, host, request, matter, solvers, answers, sequel)?;
+    let status = report(alloc, host, request, matter, solvers, answers, run)?;
     host.close_out()?;
-    write_save(host, status, request, sequel.save.as_slice())?;
-    push_closing(alloc, status, answers.len(), output, &mut sequel.remarks)?;
-    say_line(host, sequel.remarks.as_str().as_bytes())?;
+    write_save(host, status, request, run.save.as_slice())?;
+    push_closing(alloc, status, answers.len(), output, &mut run.remarks)?;
+    say_line(host, run.remarks.as_str().as_bytes())?;
     Ok(status)
 }
 
@@ -105,25 +109,38 @@ fn run_matter<H: Host>(
     matter: Matter,
     solvers: &mut Vec<Box<dyn LpSolver>>,
     answers: &mut Vec<Answer<Frac>>,
+    run: &mut Run,
 ) -> Result<Status, AllocError>
     requires few { length solvers.old.items < 2 ^ 32 }
-    requires sound { IsSoundMatter (length solvers.old.items) (matter_in matter) }
+    requires sound { IsSoundMatter (length solvers.old.items) (matter_in matter run.old.store) }
     requires none { answers.old.items ≡ [] }
-    ensures ran { IfOk result (λ status. RanSo status (solving name rule paths solvers.old.items solvers.new.items answers.new.items) (H.meaning host.old).outside (H.meaning host.new).outside (asked_by request.entry) (matter_in matter.entry)) }
+    requires silent { string_bytes run.old.remarks ≡ [] }
+    requires unsolved { run.old.solved.items ≡ [] }
+    ensures ran { IfOk result (λ status. RanSo status (solving name rule paths solvers.old.items solvers.new.items answers.new.items) (H.meaning host.old).outside (H.meaning host.new).outside (asked_by request.entry) (matter_in matter.entry run.old.store)) }
     ensures counts { CountsRun result ((H.meaning host.old).counts.reliable ≡ true) (H.meaning host.old).counts (H.meaning host.new).counts }
 {
     let output = output_of(alloc, request)?;
-    let mut sequel = Sequel::new(alloc);
-    status_of(write_report(
-        alloc,
-        host,
-        request,
-        matter,
-        output.as_str(),
-        solvers,
-        answers,
-        &mut sequel,
-    ))
+    let name = output.as_str();
+    status_of(write_report(alloc, host, request, matter, name, solvers, answers, run))
+}
+
+/// Runs what there is to run for a request, where that goes on from no state.
+fn run_anew<H: Host>(
+    alloc: Global,
+    host: &mut H,
+    request: Request,
+    matter: Matter,
+    solvers: &mut Vec<Box<dyn LpSolver>>,
+    answers: &mut Vec<Answer<Frac>>,
+) -> Result<Status, AllocError>
+    requires few { length solvers.old.items < 2 ^ 32 }
+    requires sound { (state : State) → IsSoundMatter (length solvers.old.items) (matter_in matter state) }
+    requires none { answers.old.items ≡ [] }
+    ensures ran { IfOk result (λ status. (state : State) × RanSo status (solving name rule paths solvers.old.items solvers.new.items answers.new.items) (H.meaning host.old).outside (H.meaning host.new).outside (asked_by request.entry) (matter_in matter.entry state)) }
+    ensures counts { CountsRun result ((H.meaning host.old).counts.reliable ≡ true) (H.meaning host.old).counts (H.meaning host.new).counts }
+{
+    let mut run = Run::new(alloc)?;
+    run_matter(alloc, host, request, matter, solvers, answers, &mut run)
 }
 
 /// Runs a source from its start for a request.
@@ -144,10 +161,10 @@ fn run_source<H: Host>(
         source,
         file: source,
         line: 1,
-        saved: None,
+        joint: false,
     };
     let matter = Matter::ToRun(script);
-    run_matter(alloc, host, request, matter, solvers, answers)
+    run_anew(alloc, host, request, matter, solvers, answers)
 }
 
 /// Runs a file that goes on from what was saved, for a request.
@@ -155,28 +172,30 @@ fn run_joint<H: Host>(
     alloc: Global,
     host: &mut H,
     request: Request,
-    saved: &Saved,
+    saved: &mut Saved,
     file: &[u8],
     solvers: &mut Vec<Box<dyn LpSolver>>,
     answers: &mut Vec<Answer<Frac>>,
 ) -> Result<Status, AllocError>
     requires few { length solvers.old.items < 2 ^ 32 }
-    requires short { length saved.now.source.items ≤ most_bytes }
-    requires sound { CanGoOn (length solvers.old.items) saved.now.store }
+    requires short { length saved.old.source.items ≤ most_bytes }
+    requires sound { CanGoOn (length solvers.old.items) (joint_source saved.old.source.items file.now) saved.old.store }
     requires none { answers.old.items ≡ [] }
-    ensures ran { IfOk result (λ status. RanSo status (solving name rule paths solvers.old.items solvers.new.items answers.new.items) (H.meaning host.old).outside (H.meaning host.new).outside (asked_by request.entry) (scripted (joint_script saved.now.source.items saved.now.store file.now))) }
+    ensures ran { IfOk result (λ status. RanSo status (solving name rule paths solvers.old.items solvers.new.items answers.new.items) (H.meaning host.old).outside (H.meaning host.new).outside (asked_by request.entry) (scripted (joint_script saved.old.source.items saved.old.store file.now))) }
     ensures counts { CountsRun result ((H.meaning host.old).counts.reliable ≡ true) (H.meaning host.old).counts (H.meaning host.new).counts }
 {
-    let source = saved.source.as_slice();
-    let joint = joint_source(alloc, source, file)?;
+    let source = joint_source(alloc, saved.source.as_slice(), file)?;
+    let line = first_line(saved.source.as_slice());
     let script = Script {
-        source: joint.as_slice(),
+        source: source.as_slice(),
         file,
-        line: first_line(source),
-        saved: Some(saved),
+        line,
+        joint: true,
     };
     let matter = Matter::ToRun(script);
-    run_matter(alloc, host, request, matter, solvers, answers)
+    let mut run = Run::new(alloc)?;
+    swap(&mut run.store, &mut saved.store);
+    run_matter(alloc, host, request, matter, solvers, answers, &mut run)
 }
 
 /// Runs a file that goes on from a save, for a request.
@@ -184,22 +203,22 @@ fn run_save<H: Host>(
     alloc: Global,
     host: &mut H,
     request: Request,
-    save: &[u8],
+    save: Vec<u8>,
     file: &[u8],
     solvers: &mut Vec<Box<dyn LpSolver>>,
     answers: &mut Vec<Answer<Frac>>,
 ) -> Result<Status, AllocError>
     requires few { length solvers.old.items < 2 ^ 32 }
     requires none { answers.old.items ≡ [] }
-    ensures ran { IfOk result (λ status. RanOf status (solving name rule paths solvers.old.items solvers.new.items answers.new.items) (H.meaning host.old).outside (H.meaning host.new).outside (asked_by request.entry) (from_save save.now file.now)) }
+    ensures ran { IfOk result (λ status. RanOf status (solving name rule paths solvers.old.items solvers.new.items answers.new.items) (H.meaning host.old).outside (H.meaning host.new).outside (asked_by request.entry) (from_save save.items file.now)) }
     ensures counts { CountsRun result ((H.meaning host.old).counts.reliable ≡ true) (H.meaning host.old).counts (H.meaning host.new).counts }
 {
     match restored(alloc, save, solvers.as_slice()) {
-        Ok(saved) => run_joint(alloc, host, request, &saved, file, solvers, answers),
+        Ok(mut saved) => run_joint(alloc, host, request, &mut saved, file, solvers, answers),
         Err(SaveFaultOrMemory::Memory) => Err(AllocError),
         Err(SaveFaultOrMemory::Fault(fault)) => {
             let matter = Matter::Unrestored(fault);
-            run_matter(alloc, host, request, matter, solvers, answers)
+            run_anew(alloc, host, request, matter, solvers, answers)
         }
     }
 }
@@ -232,14 +251,14 @@ fn run_behind<H: Host>(
     alloc: Global,
     host: &mut H,
     request: Request,
-    save: &[u8],
+    save: Vec<u8>,
     file: &str,
     solvers: &mut Vec<Box<dyn LpSolver>>,
     answers: &mut Vec<Answer<Frac>>,
 ) -> Result<Status, AllocError>
     requires few { length solvers.old.items < 2 ^ 32 }
     requires none { answers.old.items ≡ [] }
-    ensures ran { IfOk result (λ status. RanBehind status (solving name rule paths solvers.old.items solvers.new.items answers.new.items) (H.meaning host.old) (H.meaning host.new) (asked_by request.entry) save.now file.now) }
+    ensures ran { IfOk result (λ status. RanBehind status (solving name rule paths solvers.old.items solvers.new.items answers.new.items) (H.meaning host.old) (H.meaning host.new) (asked_by request.entry) save.items file.now) }
     ensures counts { CountsRun result (((H.meaning host.old).counts.reliable ≡ true) × IsThere (H.meaning host.old).outside file.now) (H.meaning host.old).counts (H.meaning host.new).counts }
 {
     let source = match read_file(alloc, host, file, MOST_BYTES) {
@@ -279,8 +298,7 @@ fn run_restart<H: Host>(
         Err(Failed::Fault) => return report_read_fault(alloc, host, saved),
         Err(Failed::Memory) => return Err(AllocError),
     };
-    let bytes = save.as_slice();
-    run_behind(alloc, host, request, bytes, file, solvers, answers)
+    run_behind(alloc, host, request, save, file, solvers, answers)
 }
 
 /// Runs the generated model of a size, which a request asks for.

@@ -1,11 +1,11 @@
 mod Choosing
-mod FromNumbers
+pub mod FromNumbers
 pub mod Joints
 pub mod LoadedNames
 mod LoopDepths
 mod Restarts
 mod Restored
 mod SavedNames
-mod SeenActs
+pub mod SeenActs
 pub mod SeenJoints
 pub mod SeenPrograms

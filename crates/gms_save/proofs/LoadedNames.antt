@@ -59,7 +59,7 @@ keeps-set (variable_of t entries) = refl
 keeps-set (equation_of entries) = refl
 keeps-set (model_with m s) = refl
 
-keeps-undeclared : (c : Content) → is_undeclared (emptied c) ≡ is_undeclared c
+pub keeps-undeclared : (c : Content) → is_undeclared (emptied c) ≡ is_undeclared c
 keeps-undeclared undeclared = refl
 keeps-undeclared (alias_of base) = refl
 keeps-undeclared (set_of members) = refl
@@ -68,7 +68,7 @@ keeps-undeclared (variable_of t entries) = refl
 keeps-undeclared (equation_of entries) = refl
 keeps-undeclared (model_with m s) = refl
 
-keeps-behind : (n : ℕ) (c : Content) → behind n (emptied c) ≡ behind n c
+pub keeps-behind : (n : ℕ) (c : Content) → behind n (emptied c) ≡ behind n c
 keeps-behind n undeclared = refl
 keeps-behind n (alias_of base) = refl
 keeps-behind n (set_of members) = refl

@@ -42,7 +42,7 @@ use Rattle.gms_save.specs.Saves.{option_solvers, solvers_in, solvers_step}
 use Rattle.gms_save.proofs.FromNumbers.{condition_back, control_back, declarations_back, indices_back, option_in, options_back, tree_back, value_of}
 
 -- an act with its parts, and those of a loop with them
-abbrev Layer : Type 0
+abbrev pub Layer : Type 0
 Layer = Act-F Frac (ActNode Frac) (Stmt Frac)
 
 -- what an act shows
@@ -88,10 +88,10 @@ module _ (P : ActNode Frac → Type 0) where
       (λ x y is. subst (λ z. Q (roll-Stmt Frac z)) is y.act.1)
 
 -- what a layer shows
-abbrev shown_layer : Layer → Act Number
+abbrev pub shown_layer : Layer → Act Number
 shown_layer x = act_step frac_value (map-Act Frac (ActNode Frac) (Stmt Frac) (Act Number) (Statements Number → Statements Number) shown (statement_view frac_value) x)
 
-shows : (x : Layer) → shown (roll-Act Frac x) ≡ shown_layer x
+pub shows : (x : Layer) → shown (roll-Act Frac x) ≡ shown_layer x
 shows = fold-roll-Act Frac (Act Number) (Statements Number → Statements Number) (act_step frac_value) (statement_step frac_value)
 
 -- ---- what acts use
@@ -323,7 +323,7 @@ told act = record {
 }
 
 -- an act that declares what one does that shows this
-abbrev declaration : Act Number → ActNode Frac
+abbrev pub declaration : Act Number → ActNode Frac
 declaration (declares kind items) = Declare kind (map (declared_in value_of) items)
 declaration (aliases first second) = Alias first second
 declaration (defines equation indices condition sides) = Define equation [] None sides.left_at Yes sides.side sides.right_at Yes

@@ -39,11 +39,11 @@ abbrev pub seen : Stmt Frac → Seen
 seen s = (s.at, shown s.act)
 
 -- statements one by one
-abbrev listed : Statements Number → List Seen
+abbrev pub listed : Statements Number → List Seen
 listed no_statement = []
 listed (statement at act rest) = (at, act) ∷ listed rest
 
-listed-is : (xs : List (Stmt Frac)) → listed (statements_view frac_value xs) ≡ map seen xs
+pub listed-is : (xs : List (Stmt Frac)) → listed (statements_view frac_value xs) ≡ map seen xs
 listed-is [] = refl
 listed-is (x ∷ xs) = ap listed (view-Stmt frac_value x (statements_view frac_value xs)) ∙ ap (λ (vs : List Seen). seen x ∷ vs) (listed-is xs)
 
@@ -164,7 +164,7 @@ declared-are [] state = refl
 declared-are (x ∷ xs) state =
     ap (λ (t : Told). declared_by_all (t.declared state) xs) (sym (same-told x.act)) ∙ declared-are xs ((told_by (shown x.act)).declared state)
 
-loaded-are : (xs : List (Stmt Frac)) (state : State) → fold (after_statement frac_value) state (sound xs) ≡ fold (λ (s : State) (v : Seen). (told_by v.1).given s) state (map seen xs)
+pub loaded-are : (xs : List (Stmt Frac)) (state : State) → fold (after_statement frac_value) state (sound xs) ≡ fold (λ (s : State) (v : Seen). (told_by v.1).given s) state (map seen xs)
 loaded-are [] state = refl
 loaded-are (x ∷ xs) state =
     ap (λ (t : Told). fold (after_statement frac_value) (t.given state) (sound xs)) (sym (same-told x.act)) ∙ loaded-are xs ((told_by (shown x.act)).given state)

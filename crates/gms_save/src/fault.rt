@@ -6,19 +6,15 @@ ghost use Rattle.gms_save.specs.Faults.{fault_code, fault_name, fault_of_reading
 use gms_parse::SourceFaultOrMemory;
 use gms_saved::ReadFault;
 use std::alloc::{AllocError, AllocFailed};
-use thiserror::Error;
 
 /// Why a save was not restored.
-#[derive(Clone, Copy, Debug, PartialEq, Eq, Error)]
+#[derive(Clone, Copy)]
 pub enum SaveFault {
     /// The save has over 67,108,864 bytes.
-    #[error("the save is too long")]
     SaveTooLong,
     /// The bytes are no save.
-    #[error("this is no save")]
     SaveShape,
     /// There is no solver of the name that the save has.
-    #[error("no solver has the name in the save")]
     SaveSolver,
 }
 
@@ -47,7 +43,7 @@ impl SaveFault {
 }
 
 /// A fault of a save, or want of memory.
-#[derive(Clone, Copy, Debug, PartialEq, Eq)]
+#[derive(Clone, Copy)]
 pub enum SaveFaultOrMemory {
     /// A growth found no memory.
     Memory,

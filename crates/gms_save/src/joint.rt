@@ -1,15 +1,15 @@
 //! Going on from a saved state: the errors of the joint program, and the state from which its new statements run.
-ghost use Rattle.std.specs.Prelude.{◌≡◌, map, string_bytes, IfOk};
+ghost use Rattle.std.specs.Prelude.{◌≡◌, map, string_bytes, IfOk, OnErr, OnOk};
 ghost use Rattle.gq_frac.specs.Frac.{frac_value};
 ghost use Rattle.gms_save.specs.JointErrors.{HasNoErrors, joint_errors, resumed};
 
 use crate::restart::RestartCheck;
-use crate::saved::Saved;
 use gms_ast::Program;
 use gms_check::{CompileError, found_errors, load, names_of, statement_errors};
 use gms_store::Store;
 use gq_frac::Frac;
 use std::alloc::{AllocError, Global};
+use std::mem;
 
 /// The errors of a joint program, whose new file begins at a line, with solvers of these names: those of a check, and
 /// `Restart` of the new file among them, at most one a statement, the first by place and then by number.
@@ -31,18 +31,21 @@ pub fn joint_errors(
     found_errors(alloc, &each)
 }
 
-/// The state from which a restarted run goes on: the saved one, and beside it what the joint program declares anew, with its
-/// data (GAMS User's Guide, "Save and Restart").
+/// Makes a saved state the one from which a restarted run goes on: beside what was saved it has what the joint program declares
+/// anew, with its data (GAMS User's Guide, "Save and Restart"). What was saved is moved, and not copied. After want of memory the
+/// state is as it was.
 pub fn resume(
     alloc: Global,
-    saved: &Saved,
+    store: &mut Store<Frac>,
     joint: &Program<Frac>,
     from: u32,
-) -> Result<Store<Frac>, AllocError>
+) -> Result<(), AllocError>
     requires { HasNoErrors frac_value joint.now from }
-    ensures { IfOk result (λ store. store ≡ resumed frac_value saved.now.store joint.now) }
+    ensures ok { OnOk result (store.new ≡ resumed frac_value store.old joint.now) }
+    ensures err { OnErr result (store.new ≡ store.old) }
 {
-    let mut store = load(alloc, joint)?;
-    store.overlay(alloc, &saved.store)?;
-    Ok(store)
+    let mut saved = load(alloc, joint)?;
+    mem::swap(store, &mut saved);
+    store.overlay(saved);
+    Ok(())
 }

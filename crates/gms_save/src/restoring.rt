@@ -19,7 +19,8 @@ use gms_check::{found_errors, load, statement_errors};
 use gms_known::{Marks, dynamic_sets};
 use gms_parse::parse;
 use gms_saved::{
-    are_in_range, has_same_members, is_given_well, is_solver_name, read_source, read_state, text_of,
+    are_in_range, has_same_members, is_given_well, is_solver_name, is_text_of, read_source,
+    read_state, text_of,
 };
 use gms_store::Store;
 use gq_frac::Frac;
@@ -196,21 +197,6 @@ fn keeps_members(store: &Store<Frac>, first: &Store<Frac>, assigned: &Marks, nam
     has_same_members(store, first, name)
 }
 
-/// Whether bytes are the text of a state over a source.
-fn is_text(
-    alloc: Global,
-    bytes: &[u8],
-    source: &[u8],
-    program: &Program<Frac>,
-    store: &Store<Frac>,
-    solver: &[u8],
-) -> Result<bool, AllocError>
-    ensures { IfOk result (λ same. IsTrue same ↔ (bytes.now ≡ saved_text source.now program.now.names store.now solver.now)) }
-{
-    let text = text_of(alloc, source, &program.names, store, solver)?;
-    Ok(text.as_slice() == bytes)
-}
-
 /// The place of a saved solver among solvers of these names, where bytes are the text of a state over a source.
 fn saved_place(
     alloc: Global,
@@ -226,7 +212,7 @@ fn saved_place(
         (λ place. IsPlaced bytes.now (saved_text source.now program.now.names store.now solver.now) (map string_bytes solvers.now) solver.now place)
         (λ fault. IsUnplacedBy bytes.now (saved_text source.now program.now.names store.now solver.now) (map string_bytes solvers.now) solver.now fault) }
 {
-    if !is_text(alloc, bytes, source, program, store, solver)? {
+    if !is_text_of(alloc, bytes, source, &program.names, store, solver)? {
         return Err(SaveFaultOrMemory::Fault(SaveFault::SaveShape));
     }
     match place_of_solver(solvers, solver) {

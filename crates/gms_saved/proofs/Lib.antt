@@ -6,6 +6,7 @@ mod Finding
 mod Lines
 mod Mixing
 mod Numbers
+mod Past
 mod Pieces
 mod Putting
 mod Readable

@@ -1,5 +1,6 @@
 -- What readers find in good texts. A reader may take other texts too: what was read is written again, and compared with what was read.
-use Rattle.std.specs.Prelude.{◌≡◌, ◌≢◌, ◌⊎◌, codes, ℕ, ◌<◌, ◌≤◌, ◌^◌, not, ◌==◌, true, List, [], ◌∷◌, length, Result, Ok, Err}
+use Rattle.std.specs.Prelude.{◌≡◌, ◌≢◌, ◌⊎◌, codes, ℕ, ◌<◌, ◌≤◌, ◌^◌, not, ◌==◌, true, List, [], ◌∷◌, ◌++◌, length, MatchOption, Option, None, Some, Result, Ok, Err}
+use Rattle.std.specs.Borrow.{Bor}
 use Rattle.std.specs.List.{fold, prefix_len, AllByRecursion}
 use Rattle.gms_store.specs.declared.kind.SymbolKind.{SymbolKind}
 use Rattle.gms_store.specs.declared.kind.SymbolKind.TheVariants as kind
@@ -24,6 +25,11 @@ abbrev pub Finds : {A : Type 0} → Result A ReadFault → (A → Type 0) → Ty
 Finds (Ok x) Is = Is x
 Finds (Err Memory) Is = Unit {0}
 Finds (Err Shape) Is = ⊥
+
+-- what is left of a text behind a piece: nothing where nothing was left before, or where the text does not begin with the piece
+abbrev pub IsPast : List ℕ → Option (Bor (List ℕ)) → Option (Bor (List ℕ)) → Type 0
+IsPast piece None left = left ≡ None
+IsPast piece (Some text) left = MatchOption left ((rest : List ℕ) → text.now ≢ piece ++ rest) (λ rest. text.now ≡ piece ++ rest.now)
 
 -- the word for no bound: it is one of the two
 abbrev pub IsWordForNone : List ℕ → Type 0

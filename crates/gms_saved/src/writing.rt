@@ -92,7 +92,7 @@ fn push_attributes<F: ExactField>(into: &mut Vec<u8>, a: Attributes<F>) -> Resul
 }
 
 /// Appends the line of what is given of a name at a tuple, which is looked for at a place first.
-fn push_entry<F: ExactField>(
+pub(crate) fn push_entry<F: ExactField>(
     into: &mut Vec<u8>,
     store: &Store<F>,
     name: u32,
@@ -150,7 +150,12 @@ fn push_model(into: &mut Vec<u8>, name: &str, statuses: (u8, u8)) -> Result<(), 
 }
 
 /// Appends the line with which the part of a name begins: what it is, and how many entries are given.
-fn push_head(into: &mut Vec<u8>, word: &[u8], name: &str, count: usize) -> Result<(), AllocError>
+pub(crate) fn push_head(
+    into: &mut Vec<u8>,
+    word: &[u8],
+    name: &str,
+    count: usize,
+) -> Result<(), AllocError>
     ensures { OnOk result (into.new.items ≡ into.old.items ++ line_of (word.now ++ (name.now ++ (codes " " ++ decimal count)))) }
 {
     push_name(into, word, name)?;
@@ -160,7 +165,7 @@ fn push_head(into: &mut Vec<u8>, word: &[u8], name: &str, count: usize) -> Resul
 }
 
 /// Appends the part of a name.
-fn push_part<F: ExactField>(
+pub(crate) fn push_part<F: ExactField>(
     into: &mut Vec<u8>,
     store: &Store<F>,
     number: u32,
@@ -216,7 +221,11 @@ fn push_item(into: &mut Vec<u8>, n: u32) -> Result<(), AllocError>
 }
 
 /// Appends the line of the settings, with the name of the solver.
-fn push_settings(into: &mut Vec<u8>, settings: Settings, solver: &[u8]) -> Result<(), AllocError>
+pub(crate) fn push_settings(
+    into: &mut Vec<u8>,
+    settings: Settings,
+    solver: &[u8],
+) -> Result<(), AllocError>
     ensures { OnOk result (into.new.items ≡ into.old.items ++ settings_line settings solver.now) }
 {
     push(into, b"settings ")?;
@@ -230,13 +239,20 @@ fn push_settings(into: &mut Vec<u8>, settings: Settings, solver: &[u8]) -> Resul
     push(into, b"\n")
 }
 
+/// Appends the line that says how long the source is.
+pub(crate) fn push_source_head(into: &mut Vec<u8>, length: usize) -> Result<(), AllocError>
+    ensures { OnOk result (into.new.items ≡ into.old.items ++ line_of (codes "source " ++ decimal length)) }
+{
+    push(into, b"source ")?;
+    push_whole(into, length as u128)?;
+    push(into, b"\n")
+}
+
 /// Appends the source, behind how long it is.
 fn push_source(into: &mut Vec<u8>, source: &[u8]) -> Result<(), AllocError>
     ensures { OnOk result (into.new.items ≡ into.old.items ++ source_text source.now) }
 {
-    push(into, b"source ")?;
-    push_whole(into, source.len() as u128)?;
-    push(into, b"\n")?;
+    push_source_head(into, source.len())?;
     push(into, source)?;
     push(into, b"\n")
 }

@@ -1,7 +1,8 @@
 -- The tokens of a joint source as the grammar sees them, and its derivation.
-use Rattle.std.proofs.Common.{◌≡◌, ℕ, ◌-◌, true, false, List, [], ◌∷◌, ◌++◌, All, refl, sym, ap, ap₂, ◌∙◌, subst, arith, append_assoc}
-use Rattle.std.proofs.lemmas.List.{map-append}
-use Rattle.std.proofs.lemmas.List.Elements.{All-head, All-tail}
+use Rattle.std.proofs.Common.{◌≡◌, ℕ, ◌+◌, ◌-◌, ◌≤◌, true, false, List, [], ◌∷◌, ◌++◌, length, All, refl, sym, ap, ap₂, ◌∙◌, subst, arith, append_assoc}
+use Rattle.std.proofs.lemmas.List.{map-append, length-append}
+use Rattle.std.proofs.lemmas.List.Elements.{All-head, All-tail, All-nil, All-cons, All-append}
+use Rattle.gms_lines.specs.Lines.{code_text}
 use Rattle.gms_lexemes.specs.declared.kind.Kind.{Kind}
 use Rattle.gms_lexemes.specs.declared.kind.Kind.TheVariants.{Break, Symbol}
 use Rattle.gms_lexemes.specs.declared.kind.Sym.TheVariants.{Semicolon}
@@ -17,7 +18,7 @@ use Rattle.gms_grammar.specs.Grammar.{Tree, yield}
 use Rattle.gms_expressions.specs.Outcomes.{seen}
 use Rattle.gms_expressions.specs.Words.{terminal_of}
 use Rattle.gms_seam.specs.Fronts.{joint_source, HaveFront, Derives, BeginsWith}
-use Rattle.gms_seam.proofs.Spaces.{in_list_now}
+use Rattle.gms_seam.proofs.Spaces.{in_list_now, StartsFrom}
 use Rattle.gms_seam.proofs.SeamTokens.{FrontTokens, front_tokens}
 use Rattle.gms_seam.proofs.SeamTrees.{divided}
 use Rattle.gms_seam.proofs.Listless.{no_list}
@@ -73,6 +74,12 @@ module _ (saved file : List ℕ) (tokens joint : List Token) (is : IsTokens save
         ∙ append_assoc (front.own ++ front.seam.ends) (front.seam.semicolon ∷ front.seam.others) (end_token (joint_source saved file) ∷ []);
     are_ends = front.seam.are_ends;
     is_semicolon = front.seam.is_semicolon;
+    below =
+        let three : length saved + 1 + 2 ≡ length saved + 3 = omega arith in
+        let end : length saved + 3 ≤ length (joint_source saved file) = omega (arith, length-append saved (10 ∷ 59 ∷ 10 ∷ file)) in
+        subst (λ n. All (λ (token : Token). n ≤ token.start) (front.seam.others ++ end_token (joint_source saved file) ∷ [])) three
+        (All-append (StartsFrom (length saved + 1 + 2)) front.seam.others (end_token (joint_source saved file) ∷ []) (front.seam.later (code_text file) refl)
+        (All-cons (StartsFrom (length saved + 1 + 2)) (end_token (joint_source saved file)) [] (omega (arith, end)) (All-nil (StartsFrom (length saved + 1 + 2)))));
   }
 
   module _ (tree : Tree (Terminal × Token)) (first : Derives saved tokens tree) where

@@ -24,20 +24,20 @@ use Rattle.gms_seam.proofs.SeamLines.{code_no_return, code_text_seam}
 -- ---- pieces
 
 -- The tokens of pieces begin with those of others, and a seam follows.
-record GoOn (Clean : Type 0) (source : List ℕ) (start : ℕ) (pieces longer : List Lexeme) : Type 0 where
+record GoOn (Clean : Type 0) (place : ℕ) (rest source : List ℕ) (start : ℕ) (pieces longer : List Lexeme) : Type 0 where
   pub behind : List Token
   pub is : tokens_of source start longer ≡ tokens_of source start pieces ++ behind
-  pub seam : Seam Clean behind
+  pub seam : Seam Clean place rest behind
 
-go_on_all : (source : List ℕ) (start : ℕ) (current : Mode) (text rest : List ℕ) (pieces longer : List Lexeme) (last end : Mode) → ends_in_return text ≡ false → space_length text ≡ length text → IsMadeOf current text pieces last [] → IsMadeOf current (fed text (59 ∷ rest)) longer end [] → GoOn (in_list_now last ≡ false) source start pieces longer
+go_on_all : (source : List ℕ) (start : ℕ) (current : Mode) (text rest : List ℕ) (pieces longer : List Lexeme) (last end : Mode) → ends_in_return text ≡ false → space_length text ≡ length text → IsMadeOf current text pieces last [] → IsMadeOf current (fed text (59 ∷ rest)) longer end [] → GoOn (in_list_now last ≡ false) (start + length text + 1) rest source start pieces longer
 go_on_all source start current text rest pieces longer last end h all made more = record {
   behind = tokens_of source start longer;
   is = ap (λ ts. ts ++ tokens_of source start longer) (sym (blank_tokens source start current text pieces last all made));
   seam = seam (in_list_now last ≡ false) source start current text rest longer end h all (λ outside. sym (blank_list current text pieces last all made) ∙ outside) more;
 }
 
-go_on_more : (Clean : Type 0) (source : List ℕ) (start : ℕ) (p : Lexeme) (pieces longer : List Lexeme) → GoOn Clean source (start + p.length) pieces longer → GoOn Clean source start (p ∷ pieces) (p ∷ longer)
-go_on_more Clean source start p pieces longer g =
+go_on_more : (Clean : Type 0) (place : ℕ) (rest source : List ℕ) (start : ℕ) (p : Lexeme) (pieces longer : List Lexeme) → GoOn Clean place rest source (start + p.length) pieces longer → GoOn Clean place rest source start (p ∷ pieces) (p ∷ longer)
+go_on_more Clean place rest source start p pieces longer g =
     let first : List Token = token_at (place_of source start) p.piece start (start + p.length) in
     record {
       behind = g.behind;
@@ -53,7 +53,7 @@ first_piece current text behind p q longer end within same made =
     (subst (λ t. IsMadeOf (mode_after current p.piece (take p.length (fed text behind))) t longer end []) (drop-append-le p.length text (10 ∷ behind) within) here)
 
 -- the pieces of a text, and those of the same text with a line feed, a `;` and more behind it
-go_on : (source : List ℕ) (start : ℕ) (current : Mode) (text rest : List ℕ) (pieces longer : List Lexeme) (last end : Mode) → ends_in_return text ≡ false → IsMadeOf current text pieces last [] → IsMadeOf current (fed text (59 ∷ rest)) longer end [] → GoOn (in_list_now last ≡ false) source start pieces longer
+go_on : (source : List ℕ) (start : ℕ) (current : Mode) (text rest : List ℕ) (pieces longer : List Lexeme) (last end : Mode) → ends_in_return text ≡ false → IsMadeOf current text pieces last [] → IsMadeOf current (fed text (59 ∷ rest)) longer end [] → GoOn (in_list_now last ≡ false) (start + length text + 1) rest source start pieces longer
 go_on source start current [] rest pieces longer last end h made more = go_on_all source start current [] rest pieces longer last end h refl made more
 go_on source start current (b ∷ text) rest [] longer last end h made more = absurd (let e : [] ≡ b ∷ text = made.1 in cc)
 go_on source start current (b ∷ text) rest (p ∷ pieces) [] last end h made more = absurd (let e : [] ≡ b ∷ fed text (59 ∷ rest) = more.1 in cc)
@@ -65,9 +65,11 @@ go_on source start current (b ∷ text) rest (p ∷ pieces) (q ∷ longer) last 
           let both : Ok q ≡ Ok p = sym more.0 ∙ piece_fed current b text (59 ∷ rest) h some ∙ made.0 in
           let same : q ≡ p = cc in
           let within : p.length ≤ length (b ∷ text) = (lexeme_within current (b ∷ text) p made.0).1 in
-          subst (λ (r : Lexeme). GoOn (in_list_now last ≡ false) source start (p ∷ pieces) (r ∷ longer)) (sym same)
-          (go_on_more (in_list_now last ≡ false) source start p pieces longer
-          (go_on source (start + p.length) (mode_after current p.piece (take p.length (b ∷ text))) (drop p.length (b ∷ text)) rest pieces longer last end (no_return_drop p.length (b ∷ text) h) made.1 (first_piece current (b ∷ text) (59 ∷ rest) p q longer end within same more.1)))
+          let place : start + p.length + length (drop p.length (b ∷ text)) + 1 ≡ start + length (b ∷ text) + 1 = omega (arith, within, length-drop p.length (b ∷ text)) in
+          subst (λ (r : Lexeme). GoOn (in_list_now last ≡ false) (start + length (b ∷ text) + 1) rest source start (p ∷ pieces) (r ∷ longer)) (sym same)
+          (go_on_more (in_list_now last ≡ false) (start + length (b ∷ text) + 1) rest source start p pieces longer
+          (subst (λ n. GoOn (in_list_now last ≡ false) n rest source (start + p.length) pieces longer) place
+          (go_on source (start + p.length) (mode_after current p.piece (take p.length (b ∷ text))) (drop p.length (b ∷ text)) rest pieces longer last end (no_return_drop p.length (b ∷ text) h) made.1 (first_piece current (b ∷ text) (59 ∷ rest) p q longer end within same more.1))))
     ]
 
 -- ---- places
@@ -95,7 +97,7 @@ pub record FrontTokens (Clean : Type 0) (saved file : List ℕ) (tokens all : Li
   pub tokens_are : tokens ≡ own ++ end_token saved ∷ []
   pub behind : List Token
   pub all_are : all ≡ own ++ behind ++ end_token (joint_source saved file) ∷ []
-  pub seam : Seam Clean behind
+  pub seam : Seam Clean (length saved + 1) (10 ∷ code_text file) behind
 
 -- where the tokens of the saved source end outside a list there are no line ends before the `;`
 pub front_tokens : (saved file : List ℕ) (tokens all : List Token) (is : IsTokens saved tokens) → IsTokens (joint_source saved file) all → FrontTokens (in_list_now is.has.last ≡ false) saved file tokens all
@@ -104,7 +106,8 @@ front_tokens saved file tokens all is are =
     let joint : List ℕ = joint_source saved file in
     let text : List ℕ = code_text saved in
     let made : IsMadeOf Code (fed text (59 ∷ 10 ∷ code_text file)) are.has.pieces are.has.last [] = subst (λ t. IsMadeOf Code t are.has.pieces are.has.last []) (code_text_seam saved good file) are.has.made in
-    let g : GoOn (in_list_now is.has.last ≡ false) joint 0 is.has.pieces are.has.pieces = go_on joint 0 Code text (10 ∷ code_text file) is.has.pieces are.has.pieces is.has.last are.has.last (code_no_return saved good) is.has.made made in
+    let place : 0 + length text + 1 ≡ length saved + 1 = omega (arith, length-code_text saved) in
+    let g : GoOn (in_list_now is.has.last ≡ false) (0 + length text + 1) (10 ∷ code_text file) joint 0 is.has.pieces are.has.pieces = go_on joint 0 Code text (10 ∷ code_text file) is.has.pieces are.has.pieces is.has.last are.has.last (code_no_return saved good) is.has.made made in
     let own : List Token = tokens_of saved 0 is.has.pieces in
     let same : tokens_of joint 0 is.has.pieces ≡ own = tokens_same saved (10 ∷ 59 ∷ 10 ∷ file) 0 is.has.pieces (omega (arith, made_long Code text is.has.pieces is.has.last is.has.made, length-code_text saved)) in
     record {
@@ -112,5 +115,5 @@ front_tokens saved file tokens all is are =
       tokens_are = is.has.tokens_are;
       behind = g.behind;
       all_are = are.has.tokens_are ∙ ap (λ ts. ts ++ end_token joint ∷ []) (g.is ∙ ap (λ ts. ts ++ g.behind) same);
-      seam = g.seam;
+      seam = subst (λ n. Seam (in_list_now is.has.last ≡ false) n (10 ∷ code_text file) g.behind) place g.seam;
     }

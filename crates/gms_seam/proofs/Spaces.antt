@@ -1,8 +1,8 @@
 -- Blanks and line ends before a `;`: no tokens but line ends stand there, and the `;` is a token in each mode.
 use Rattle.std.proofs.Common.{◌≡◌, ℕ, zero, suc, ◌+◌, ◌==◌, ◌&&◌, ◌||◌, ◌<◌, ◌≤◌, Bool, true, false, not, nat_lt, nat_le, cond, if◌then◌else◌, List, [], ◌∷◌, ◌++◌, length, take, drop, All, Ok, Err, option_map, refl, sym, ap, ◌∙◌, subst, arith, inl, inr}
 use Rattle.std.proofs.lemmas.Bool.Decides.{nat_tests}
-use Rattle.std.proofs.lemmas.List.{drop-append-le, drop_all}
-use Rattle.std.proofs.lemmas.List.Elements.{All-nil, All-cons}
+use Rattle.std.proofs.lemmas.List.{drop-append-le, drop_all, length-drop}
+use Rattle.std.proofs.lemmas.List.Elements.{All-nil, All-cons, All-append}
 use Rattle.std.proofs.Math.Seq.{drop-append-add}
 use Rattle.std.specs.List.{prefix_len}
 use Rattle.gms_labels.specs.declared.place.Place.{Place}
@@ -11,7 +11,7 @@ use Rattle.gms_lines.proofs.LineLemmas.{true_or_false, below_or}
 use Rattle.gms_lexemes.specs.declared.kind.Sym.TheVariants.{Semicolon}
 use Rattle.gms_lexemes.specs.declared.kind.Kind.TheVariants.{Symbol, Break}
 use Rattle.gms_lexemes.specs.declared.lexeme.Piece.{Piece}
-use Rattle.gms_lexemes.specs.declared.lexeme.Piece.TheVariants.{Gap, LineEnd, Token}
+use Rattle.gms_lexemes.specs.declared.lexeme.Piece.TheVariants.{Gap, LineEnd, Remark, Token}
 use Rattle.gms_lexemes.specs.declared.lexeme.Lexeme.{Lexeme}
 use Rattle.gms_lexemes.specs.Symbols.{written, symbols, begins_with, symbol_at}
 use Rattle.gms_lexemes.specs.Shapes.{Read, symbol_of, symbol, label_token}
@@ -22,7 +22,7 @@ use Rattle.gms_lex.specs.declared.keyword.Shape.TheVariants.{Parameter}
 use Rattle.gms_lex.specs.declared.mode.Stage.{Stage}
 use Rattle.gms_lex.specs.declared.mode.Stage.TheVariants.{Fresh, Due, After, Spaced}
 use Rattle.gms_lex.specs.declared.mode.Mode.{Mode}
-use Rattle.gms_lex.specs.declared.mode.Mode.TheVariants.{Named, Bare, Rest, Element, Value, Tail, TableLines}
+use Rattle.gms_lex.specs.declared.mode.Mode.TheVariants.{Code, Named, Bare, Rest, Element, Value, Tail, TableLines}
 use Rattle.gms_lex.specs.declared.mode.LineEnds.{LineEnds}
 use Rattle.gms_lex.specs.declared.mode.LineEnds.TheVariants.{Skipped, EndItem, EndElement}
 use Rattle.gms_lex.specs.declared.token.Token.{Token as CodeToken}
@@ -288,8 +288,37 @@ blank_list current (b ∷ text) (p ∷ pieces) last all made =
 
 -- ---- before a semicolon
 
--- Line ends that are tokens, a `;`, and others behind it; where this is so there are no such line ends.
-pub record Seam (Clean : Type 0) (tokens : List CodeToken) : Type 0 where
+-- a token begins at this byte, or behind it
+abbrev pub StartsFrom : ℕ → CodeToken → Type 0
+StartsFrom least token = least ≤ token.start
+
+-- the token of a piece, where there is one, begins where the piece does
+one_from : (least start end : ℕ) (at : Place) (piece : Piece) → least ≤ start → All (StartsFrom least) (token_of at piece start end)
+one_from least start end at Gap le = All-nil (StartsFrom least)
+one_from least start end at LineEnd le = All-nil (StartsFrom least)
+one_from least start end at Remark le = All-nil (StartsFrom least)
+one_from least start end at (Token kind) le = All-cons (StartsFrom least) (record { kind = kind; start = start; end = end; at = at }) [] le (All-nil (StartsFrom least))
+
+-- tokens begin where their pieces do
+pub all_from : (source : List ℕ) (least start : ℕ) (pieces : List Lexeme) → least ≤ start → All (StartsFrom least) (tokens_of source start pieces)
+all_from source least start [] le = All-nil (StartsFrom least)
+all_from source least start (p ∷ pieces) le =
+    All-append (StartsFrom least) (token_of (place_of source start) p.piece start (start + p.length)) (tokens_of source (start + p.length) pieces)
+    (one_from least start (start + p.length) (place_of source start) p.piece le) (all_from source least (start + p.length) pieces (omega (arith, le)))
+
+-- outside lists a line feed is no token, so those behind it begin behind it
+behind_feed : (source : List ℕ) (start : ℕ) (text : List ℕ) (pieces : List Lexeme) (last : Mode) → IsMadeOf Code (10 ∷ text) pieces last [] → All (StartsFrom (start + 1)) (tokens_of source start pieces)
+behind_feed source start text [] last made = absurd (let e : [] ≡ 10 ∷ text = made.1 in cc)
+behind_feed source start text (p ∷ pieces) last made =
+    let is : IsSpaceRead (10 ∷ text) (Ok p) = subst (IsSpaceRead (10 ∷ text)) made.0 (space_piece Code 10 text refl (omega arith)) in
+    let quiet : p.piece ≡ Token Break → ⊥ = λ e. (breaks Code (10 ∷ text) p.length (made.0 ∙ ap (λ (k : Piece). (let q : Lexeme = record { piece = k; length = p.length } in Ok q)) e)).0.1 in
+    let w = lexeme_within Code (10 ∷ text) p made.0 in
+    subst (λ ts. All (StartsFrom (start + 1)) (ts ++ tokens_of source (start + p.length) pieces)) (sym (no_token (place_of source start) p.piece start (start + p.length) is.0 quiet))
+    (all_from source (start + 1) (start + p.length) pieces (omega (arith, w.0)))
+
+-- Line ends that are tokens, a `;` at this byte, and others behind it; where this is so there are no such line ends. Where a line feed is the
+-- first of the rest behind the `;`, the others begin behind it.
+pub record Seam (Clean : Type 0) (place : ℕ) (rest : List ℕ) (tokens : List CodeToken) : Type 0 where
   pub ends : List CodeToken
   pub semicolon : CodeToken
   pub others : List CodeToken
@@ -297,8 +326,9 @@ pub record Seam (Clean : Type 0) (tokens : List CodeToken) : Type 0 where
   pub are_ends : All (λ (token : CodeToken). token.kind ≡ Break) ends
   pub is_semicolon : semicolon.kind ≡ Symbol Semicolon
   pub none : Clean → ends ≡ []
+  pub later : (text : List ℕ) → rest ≡ 10 ∷ text → All (StartsFrom (place + 2)) others
 
-seam_here : (Clean : Type 0) (source : List ℕ) (start : ℕ) (current : Mode) (text : List ℕ) (pieces : List Lexeme) (last : Mode) → IsMadeOf current (59 ∷ text) pieces last [] → Seam Clean (tokens_of source start pieces)
+seam_here : (Clean : Type 0) (source : List ℕ) (start : ℕ) (current : Mode) (text : List ℕ) (pieces : List Lexeme) (last : Mode) → IsMadeOf current (59 ∷ text) pieces last [] → Seam Clean start text (tokens_of source start pieces)
 seam_here Clean source start current text [] last made = absurd (let e : [] ≡ 59 ∷ text = made.1 in cc)
 seam_here Clean source start current text (p ∷ pieces) last made =
     let e : Ok p ≡ Ok semicolon_piece = sym made.0 ∙ semicolon_there current text in
@@ -311,12 +341,16 @@ seam_here Clean source start current text (p ∷ pieces) last made =
       are_ends = All-nil (λ (token : CodeToken). token.kind ≡ Break);
       is_semicolon = refl;
       none = λ c. refl;
+      later = λ more feed.
+          let behind : IsMadeOf Code text pieces last [] = subst (λ (q : Lexeme). IsMadeOf (mode_after current q.piece (take q.length (59 ∷ text))) (drop q.length (59 ∷ text)) pieces last []) same made.1 in
+          let two : start + 1 + 1 ≡ start + 2 = omega arith in
+          subst (λ n. All (StartsFrom n) (tokens_of source (start + 1) pieces)) two (behind_feed source (start + 1) more pieces last (subst (λ t. IsMadeOf Code t pieces last []) feed behind));
     }
 
-seam_more : (Clean : Type 0) (at : Place) (piece : Piece) (start end : ℕ) (tokens : List CodeToken) → IsSpacePiece piece → (Clean → piece ≡ Token Break → ⊥) → Seam Clean tokens → Seam Clean (token_of at piece start end ++ tokens)
-seam_more Clean at Gap start end tokens h k s = s
-seam_more Clean at LineEnd start end tokens h k s = s
-seam_more Clean at (Token Break) start end tokens h k s =
+seam_more : (Clean : Type 0) (place : ℕ) (rest : List ℕ) (at : Place) (piece : Piece) (start end : ℕ) (tokens : List CodeToken) → IsSpacePiece piece → (Clean → piece ≡ Token Break → ⊥) → Seam Clean place rest tokens → Seam Clean place rest (token_of at piece start end ++ tokens)
+seam_more Clean place rest at Gap start end tokens h k s = s
+seam_more Clean place rest at LineEnd start end tokens h k s = s
+seam_more Clean place rest at (Token Break) start end tokens h k s =
     let token : CodeToken = record { kind = Break; start = start; end = end; at = at } in
     record {
       ends = token ∷ s.ends;
@@ -326,8 +360,9 @@ seam_more Clean at (Token Break) start end tokens h k s =
       are_ends = All-cons (λ (token : CodeToken). token.kind ≡ Break) token s.ends refl s.are_ends;
       is_semicolon = s.is_semicolon;
       none = λ c. absurd (k c refl);
+      later = s.later;
     }
-seam_more Clean at piece start end tokens h k s = absurd h
+seam_more Clean place rest at piece start end tokens h k s = absurd h
 
 -- what stands first in blanks and line ends, a line feed and a `;`
 seam_piece : (current : Mode) (text rest : List ℕ) → ends_in_return text ≡ false → space_length text ≡ length text → IsSpaceRead (fed text (59 ∷ rest)) (piece_at current (fed text (59 ∷ rest)))
@@ -347,7 +382,7 @@ no_end current text rest p h all there outside e =
     ap (λ n. drop n (fed text (59 ∷ rest))) (space_all_fed text (59 ∷ rest) h all) ∙ drop-append-add text (10 ∷ 59 ∷ rest) 1 in
     not_ending current rest outside (subst (IsEnding (line_ends current)) behind (breaks current (fed text (59 ∷ rest)) p.length is).0.1)
 
-pub seam : (Clean : Type 0) (source : List ℕ) (start : ℕ) (current : Mode) (text rest : List ℕ) (pieces : List Lexeme) (last : Mode) → ends_in_return text ≡ false → space_length text ≡ length text → (Clean → in_list_now current ≡ false) → IsMadeOf current (fed text (59 ∷ rest)) pieces last [] → Seam Clean (tokens_of source start pieces)
+pub seam : (Clean : Type 0) (source : List ℕ) (start : ℕ) (current : Mode) (text rest : List ℕ) (pieces : List Lexeme) (last : Mode) → ends_in_return text ≡ false → space_length text ≡ length text → (Clean → in_list_now current ≡ false) → IsMadeOf current (fed text (59 ∷ rest)) pieces last [] → Seam Clean (start + length text + 1) rest (tokens_of source start pieces)
 seam Clean source start current text rest [] last h all clean made = absurd (no_made text (59 ∷ rest) made.1)
 seam Clean source start current text rest (p ∷ pieces) last h all clean made =
     let is : IsSpaceRead (fed text (59 ∷ rest)) (Ok p) = subst (IsSpaceRead (fed text (59 ∷ rest))) made.0 (seam_piece current text rest h all) in
@@ -356,13 +391,16 @@ seam Clean source start current text rest (p ∷ pieces) last h all clean made =
     let behind : Mode = mode_after current p.piece (take p.length (fed text (59 ∷ rest))) in
     let quiet : Clean → p.piece ≡ Token Break → ⊥ = λ c. no_end current text rest p h all made.0 (clean c) in
     let still : Clean → in_list_now behind ≡ false = λ c. keeps_list current p.piece (take p.length (fed text (59 ∷ rest))) is.0 (quiet c) ∙ clean c in
-    seam_more Clean (place_of source start) p.piece start (start + p.length) (tokens_of source (start + p.length) pieces) is.0 quiet
+    seam_more Clean (start + length text + 1) rest (place_of source start) p.piece start (start + p.length) (tokens_of source (start + p.length) pieces) is.0 quiet
     (elim (below_or (length text) p.length) [
       | inl past ↦
           let exact : p.length ≡ length text + 1 = omega (arith, past, most) in
           let there : drop p.length (fed text (59 ∷ rest)) ≡ 59 ∷ rest = ap (λ k. drop k (fed text (59 ∷ rest))) exact ∙ drop-append-add text (10 ∷ 59 ∷ rest) 1 in
-          seam_here Clean source (start + p.length) behind rest pieces last (subst (λ t. IsMadeOf behind t pieces last []) there made.1)
+          let here : start + p.length ≡ start + length text + 1 = omega (arith, exact) in
+          subst (λ n. Seam Clean n rest (tokens_of source (start + p.length) pieces)) here (seam_here Clean source (start + p.length) behind rest pieces last (subst (λ t. IsMadeOf behind t pieces last []) there made.1))
       | inr within ↦
-          seam Clean source (start + p.length) behind (drop p.length text) rest pieces last (no_return_drop p.length text h) (space_drop p.length text all) still
-          (subst (λ t. IsMadeOf behind t pieces last []) (drop-append-le p.length text (10 ∷ 59 ∷ rest) within) made.1)
+          let here : start + p.length + length (drop p.length text) + 1 ≡ start + length text + 1 = omega (arith, within, length-drop p.length text) in
+          subst (λ n. Seam Clean n rest (tokens_of source (start + p.length) pieces)) here
+          (seam Clean source (start + p.length) behind (drop p.length text) rest pieces last (no_return_drop p.length text h) (space_drop p.length text all) still
+          (subst (λ t. IsMadeOf behind t pieces last []) (drop-append-le p.length text (10 ∷ 59 ∷ rest) within) made.1))
     ])

@@ -1,6 +1,6 @@
 -- Joint sources: a saved source, and a file that goes on from it; what their tokens and their derivation have in front (GAMS User's Guide,
 -- "Save and Restart", "GAMS Programs").
-use Rattle.std.specs.Prelude.{◌≡◌, ℕ, List, [], ◌∷◌, ◌++◌, All}
+use Rattle.std.specs.Prelude.{◌≡◌, ℕ, ◌+◌, ◌≤◌, ◌==◌, List, [], ◌∷◌, ◌++◌, length, filter, All}
 use Rattle.gms_lexemes.specs.declared.kind.Kind.TheVariants.{Break, Symbol}
 use Rattle.gms_lexemes.specs.declared.kind.Sym.TheVariants.{Semicolon}
 use Rattle.gms_lex.specs.declared.token.Token.{Token}
@@ -15,7 +15,12 @@ use Rattle.gms_expressions.specs.Outcomes.{seen}
 abbrev pub joint_source : List ℕ → List ℕ → List ℕ
 joint_source saved file = saved ++ (10 ∷ 59 ∷ 10 ∷ file)
 
--- The tokens of a joint source are those of the saved source without its end, line ends that are tokens, a `;`, and others.
+-- the line of a joint source at which the file begins
+abbrev pub first_line : List ℕ → ℕ
+first_line saved = length (filter (λ byte. byte == 10) saved) + 3
+
+-- The tokens of a joint source are those of the saved source without its end, line ends that are tokens, a `;`, and others, which begin where
+-- the file does or below.
 pub record HaveFront (saved : List ℕ) (tokens joint : List Token) : Type 0 where
   pub own : List Token
   pub tokens_are : tokens ≡ own ++ end_token saved ∷ []
@@ -25,6 +30,7 @@ pub record HaveFront (saved : List ℕ) (tokens joint : List Token) : Type 0 whe
   pub joint_are : joint ≡ own ++ ends ++ semicolon ∷ others
   pub are_ends : All (λ (token : Token). token.kind ≡ Break) ends
   pub is_semicolon : semicolon.kind ≡ Symbol Semicolon
+  pub below : All (λ (token : Token). length saved + 3 ≤ token.start) others
 
 -- The tokens of a source are those of a program, which this tree derives, and the end.
 pub record Derives (source : List ℕ) (tokens : List Token) (tree : Tree (Terminal × Token)) : Type 0 where

@@ -5,22 +5,17 @@ ghost use Rattle.gms_set.specs.declared.fault.SetFaultOrMemory.TheVariants.{Memo
 
 use gms_labels::Place;
 use std::alloc::{AllocError, AllocFailed};
-use thiserror::Error;
 
 /// An error of a data list.
-#[derive(Clone, Copy, Debug, PartialEq, Eq, Error)]
+#[derive(Clone, Copy)]
 pub enum SetError {
     /// A range that is none, as `a3*a1`.
-    #[error("this is no range")]
     BadRange,
     /// A tuple that is given twice.
-    #[error("the element is given twice")]
     Repeated,
     /// A label that the set of its position does not have.
-    #[error("the label is not in the set of its position")]
     Outside,
     /// The tuple after the 1,048,576th.
-    #[error("the data has too many elements")]
     Full,
 }
 
@@ -51,7 +46,7 @@ impl SetError {
 }
 
 /// An error of a data list and the place of its item.
-#[derive(Clone, Copy, Debug, PartialEq, Eq)]
+#[derive(Clone, Copy)]
 pub struct SetFault {
     /// The error.
     pub error: SetError,
@@ -60,7 +55,7 @@ pub struct SetFault {
 }
 
 /// A fault of a data list, or want of memory.
-#[derive(Clone, Copy, Debug, PartialEq, Eq)]
+#[derive(Clone, Copy)]
 pub enum SetFaultOrMemory {
     /// A growth found no memory.
     Memory,

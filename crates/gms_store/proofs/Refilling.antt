@@ -1,9 +1,7 @@
 -- That a map is made again by its entries, put into an empty one.
-use Rattle.std.proofs.Common.{◌≡◌, ℕ, ◌+◌, ◌<◌, ◌≤◌, Bool, true, false, ◌||◌, List, [], ◌∷◌, ◌++◌, length, take, refl, sym, ap, ◌∙◌, cond, Option, Some, None, is_some, get_or, slice_get}
+use Rattle.std.proofs.Common.{◌≡◌, ℕ, Bool, true, false, ◌||◌, List, [], ◌∷◌, refl, sym, ap, ◌∙◌, cond, Option, Some, None, is_some}
 use Rattle.std.specs.List.{fold}
 use Rattle.std.specs.FinMap as finite
-use Rattle.std.proofs.lemmas.List.{take_more, take_all}
-use Rattle.std.proofs.lemmas.Option.{slice_get-get_or}
 use Rattle.gms_tuple.specs.TupleOrder.{tuple_cmp, same_tuple}
 use Rattle.gms_tuple.specs.OrderLaws.{tuple_cmp-total}
 use Rattle.gms_tuple.specs.TupleSet.{has}
@@ -64,19 +62,3 @@ module _ {X : Type 0} (m : Entries X) where
       by : (o : Option X) → cond (is_some o) (or_else o None) None ≡ o
       by None = refl
       by (Some x) = refl
-
-  -- one tuple more
-  pub fold-more : (tuples : List (List ℕ)) (t : List ℕ) (made : Entries X) → put_all_from made (tuples ++ t ∷ []) ≡ put_from (put_all_from made tuples) t
-  fold-more [] t made = refl
-  fold-more (u ∷ tuples) t made = fold-more tuples t (put_from made u)
-
-  -- the next of some tuples
-  pub put_next : (tuples : List (List ℕ)) (i : ℕ) (t : List ℕ) (now next : Entries X) → i < length tuples → slice_get tuples i ≡ Some t → now ≡ put_all_from finite.empty (take i tuples) → next ≡ put_where (finite.get m t) now t → next ≡ put_all_from finite.empty (take (i + 1) tuples)
-  put_next tuples i t now next within is so_far more =
-      let read = slice_get-get_or tuples i t within in
-      let there : get_or tuples i t ≡ t = cc in
-      more ∙ ap (λ n. put_where (finite.get m t) n t) so_far ∙ sym (fold-more (take i tuples) t finite.empty) ∙ ap (put_all_from finite.empty) (sym (take_more tuples i t within ∙ ap (λ u. take i tuples ++ u ∷ []) there))
-
-  -- all of its tuples
-  pub put_all : (tuples : List (List ℕ)) (i : ℕ) (made : Entries X) → length tuples ≤ i → tuples ≡ finite.keys m → made ≡ put_all_from finite.empty (take i tuples) → made ≡ m
-  put_all tuples i made past are so_far = so_far ∙ ap (put_all_from finite.empty) (take_all i tuples past ∙ are) ∙ refilled

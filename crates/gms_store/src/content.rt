@@ -1,13 +1,9 @@
 //! What a name stands for.
-ghost use Rattle.std.specs.Prelude.{◌≡◌, IfOk};
-
 use crate::attributes::Attributes;
 use crate::entries::Entries;
 use crate::kind::VariableType;
 use gms_tuple::TupleSet;
 use gq_extended::Ext;
-use gq_field::ExactField;
-use std::alloc::{AllocError, Global};
 
 /// What a name stands for. Of a parameter, a variable and an equation only the entries that differ from an absent one are kept.
 pub enum Content<F> {
@@ -36,22 +32,5 @@ impl<F: Drop> Drop for Content<F> {
             Self::Equation(_) => {}
             Self::Model(_, _) => {}
         }
-    }
-}
-
-impl<F: ExactField> Content<F> {
-    /// An equal content.
-    pub(crate) fn copy(&self, alloc: Global) -> Result<Content<F>, AllocError>
-        ensures { IfOk result (λ copy. copy ≡ self.now) }
-    {
-        Ok(match self {
-            Content::Undeclared => Content::Undeclared,
-            Content::Alias(base) => Content::Alias(*base),
-            Content::Set(members) => Content::Set(members.copy(alloc)?),
-            Content::Parameter(entries) => Content::Parameter(entries.copy(alloc)?),
-            Content::Variable(kind, entries) => Content::Variable(*kind, entries.copy(alloc)?),
-            Content::Equation(entries) => Content::Equation(entries.copy(alloc)?),
-            Content::Model(model, solver) => Content::Model(*model, *solver),
-        })
     }
 }

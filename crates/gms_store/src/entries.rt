@@ -1,8 +1,8 @@
 //! A finite map from tuples.
-ghost use Rattle.std.specs.Prelude.{◌≡◌, ℕ, IfOk, OnOk, OnErr};
+ghost use Rattle.std.specs.Prelude.{◌≡◌, OnOk, OnErr};
 ghost use Rattle.std.specs.FinMap as finite;
 ghost use Rattle.gms_tuple.specs.TupleOrder.{IsOrdered};
-ghost use Rattle.gms_store.specs.State.{after_write, put_where};
+ghost use Rattle.gms_store.specs.State.{after_write};
 
 use crate::values::Values;
 use gms_tuple::{Tuple, TupleSet};
@@ -109,46 +109,6 @@ impl<X: Copy> Entries<X> {
         }
         self.remove(t);
         Ok(())
-    }
-
-    /// An equal map.
-    pub fn copy(&self, alloc: Global) -> Result<Entries<X>, AllocError>
-        ensures { IfOk result (λ copy. copy ≡ self.now) }
-    {
-        match self.values.copy(alloc)? {
-            Some(values) => {
-                let given = self.given.copy(alloc)?;
-                Ok(Entries { values, given })
-            }
-            None => self.refilled(alloc),
-        }
-    }
-
-    /// An equal map, into which each entry is put.
-    fn refilled(&self, alloc: Global) -> Result<Entries<X>, AllocError>
-        ensures { IfOk result (λ copy. copy ≡ self.now) }
-    {
-        let given = self.given();
-        let mut copy = Entries::new(alloc);
-        for place in 0..given.len() {
-            copy.insert_from(alloc, given.get(place), self)?;
-        }
-        Ok(copy)
-    }
-
-    /// Puts what another map has at a tuple, where it has anything there.
-    fn insert_from(
-        &mut self,
-        alloc: Global,
-        t: &Tuple,
-        other: &Entries<X>,
-    ) -> Result<(), AllocError>
-        ensures { OnOk result (self.new ≡ put_where (finite.get other.now t.now) self.old t.now) }
-    {
-        match other.get(t) {
-            Some(value) => self.insert(alloc, t, value),
-            None => Ok(()),
-        }
     }
 
     /// Takes the value at a tuple out, where there is one.

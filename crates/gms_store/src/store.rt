@@ -387,31 +387,27 @@ impl<F: ExactField> Store<F> {
         self.settings = s;
     }
 
-    /// Puts what another state has over this one: at each name that is declared there all that is given of it there, and its
-    /// settings. What it does not declare stays (GAMS User's Guide, "Save and Restart"). After want of memory some names may
-    /// have what the other state has, and others what was there.
-    pub fn overlay(&mut self, alloc: Global, other: &Store<F>) -> Result<(), AllocError>
-        ensures { OnOk result (self.new ≡ overlaid self.old other.now) }
+    /// Puts another state over this one: at each name that is declared there all that is given of it there, and its
+    /// settings. What it does not declare stays (GAMS User's Guide, "Save and Restart"). All of it is moved, and nothing copied,
+    /// so that no memory is asked for.
+    pub fn overlay(&mut self, other: Store<F>)
+        ensures { self.new ≡ overlaid self.old other }
     {
-        overlay_symbols(alloc, &mut self.symbols, &other.symbols)?;
+        let mut other = other;
+        overlay_symbols(&mut self.symbols, &mut other.symbols);
         self.settings = other.settings;
-        Ok(())
     }
 }
 
-/// Puts symbols in the places of others, where they are declared.
-fn overlay_symbols<F: ExactField>(
-    alloc: Global,
-    symbols: &mut [Symbol<F>],
-    others: &[Symbol<F>],
-) -> Result<(), AllocError>
-    ensures { OnOk result (symbols.new ≡ overlaid_symbols symbols.old others.now) }
+/// Moves symbols to the places of others, where they are declared.
+fn overlay_symbols<F: ExactField>(symbols: &mut [Symbol<F>], others: &mut [Symbol<F>])
+    ensures { symbols.new ≡ overlaid_symbols symbols.old others.old }
 {
-    for (name, other) in others.iter().enumerate() {
+    for name in 0..others.len() {
         if name < symbols.len() {
             let symbol = &mut symbols[name];
-            symbol.overlay(alloc, other)?;
+            let other = &mut others[name];
+            symbol.overlay(other);
         }
     }
-    Ok(())
 }

@@ -18,6 +18,7 @@ use gq_extended::Ext;
 use gq_field::ExactField;
 use std::alloc::{AllocError, Global};
 use std::marker::Model;
+use std::mem;
 
 /// A name of the program.
 pub struct Symbol<F: ExactField> {
@@ -172,28 +173,13 @@ impl<F: ExactField> Symbol<F> {
         }
     }
 
-    /// An equal symbol.
-    pub fn copy(&self, alloc: Global) -> Result<Symbol<F>, AllocError>
-        ensures { IfOk result (λ copy. copy ≡ self.now) }
+    /// Becomes another symbol, where that is declared, and that one becomes this.
+    pub fn overlay(&mut self, other: &mut Symbol<F>)
+        ensures { self.new ≡ chosen self.old other.old }
     {
-        let domain = copied(alloc, self.domain.as_slice())?;
-        let content = self.content.copy(alloc)?;
-        Ok(Symbol {
-            domain: Sequence::new(domain),
-            content,
-        })
-    }
-
-    /// Becomes another symbol, where that is declared.
-    pub fn overlay(&mut self, alloc: Global, other: &Symbol<F>) -> Result<(), AllocError>
-        ensures { OnOk result (self.new ≡ chosen self.old other.now) }
-    {
-        if other.is_undeclared() {
-            return Ok(());
+        if !other.is_undeclared() {
+            mem::swap(self, other);
         }
-        let copy = other.copy(alloc)?;
-        *self = copy;
-        Ok(())
     }
 
     /// What the name is declared as.
@@ -401,17 +387,6 @@ impl<F: ExactField> Symbol<F> {
         };
         self.content = Content::Model(model, solver);
     }
-}
-
-/// The same positions.
-fn copied(alloc: Global, domain: &[Option<u32>]) -> Result<Vec<Option<u32>>, AllocError>
-    ensures { IfOk result (λ copy. copy.items ≡ domain.now) }
-{
-    let mut copy = Vec::with_capacity(alloc, domain.len())?;
-    for position in domain {
-        copy.push(*position)?;
-    }
-    Ok(copy)
 }
 
 /// Whether a value is one that a parameter keeps: it is not 0.

@@ -1,5 +1,5 @@
 //! Values at tuples: a finite map in two parts.
-ghost use Rattle.std.specs.Prelude.{◌≡◌, ◌<◌, ◌++◌, ◌∷◌, [], ℕ, List, length, IsTrue, IfSome, IfNone, IfOk, OnOk, OnErr, set};
+ghost use Rattle.std.specs.Prelude.{◌≡◌, ◌<◌, ◌++◌, ◌∷◌, [], ℕ, List, length, IsTrue, IfSome, IfNone, OnOk, OnErr, set};
 ghost use Rattle.std.specs.Map.{keys_of};
 ghost use Rattle.std.specs.FinMap as finite;
 ghost use Rattle.gms_tuple.specs.TupleOrder.{tuple_cmp, IsOrdered};
@@ -91,18 +91,6 @@ impl<X: Copy> Values<X> {
         Ok(())
     }
 
-    /// An equal map, where the tree has no values.
-    pub fn copy(&self, alloc: Global) -> Result<Option<Values<X>>, AllocError>
-        ensures { IfOk result (λ some. IfSome some (λ copy. copy ≡ self.now)) }
-    {
-        if !self.tree.is_empty() {
-            return Ok(None);
-        }
-        let behind = copied(alloc, &self.behind)?;
-        let tree = BTreeMap::new(alloc);
-        Ok(Some(Values { tree, behind }))
-    }
-
     /// Takes the value at a tuple out, where there is one.
     pub fn remove(&mut self, t: &Tuple)
         ensures { self.new ≡ finite.remove self.old t.now }
@@ -155,19 +143,4 @@ fn put_at<X: Copy>(behind: &mut Vec<(Tuple, Option<X>)>, place: usize, value: Op
     ensures { (t : List ℕ) → StandsAt behind.old.items place t → behind.new.items ≡ set behind.old.items place (t, value) }
 {
     behind[place].1 = value;
-}
-
-/// Equal tuples, with the same values.
-fn copied<X: Copy>(
-    alloc: Global,
-    behind: &[(Tuple, Option<X>)],
-) -> Result<Vec<(Tuple, Option<X>)>, AllocError>
-    ensures { IfOk result (λ copy. copy.items ≡ behind.now) }
-{
-    let mut copy = Vec::with_capacity(alloc, behind.len())?;
-    for entry in behind {
-        let tuple = entry.0.copy(alloc)?;
-        copy.push((tuple, entry.1))?;
-    }
-    Ok(copy)
 }

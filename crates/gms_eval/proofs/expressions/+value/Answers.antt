@@ -76,41 +76,53 @@ value-returns-in-Times g t c = gives-same g.F.ExactField.value (extended g.F.Exa
 pub value-returns-in_err-all_hold-in-Guard : goal.value-returns-in_err-all_hold-in-Guard
 value-returns-in_err-all_hold-in-Guard g t c = handed_on g.F.ExactField.value (extended g.F.ExactField.value) c.from_residual-in_err-all_hold-in-Guard.result c.in_err-all_hold-in-Guard.field-0.0 _ c.from_residual-in_err-all_hold-in-Guard.ensures.1 (stops-same g.F.ExactField.value c.in_err-all_hold-in-Guard.field-0.0 ((of_expr g.F.ExactField.value g.F.ExactField.limit c.args.store.now c.args.b.now) c.args.e.now) _ (ap (of_expr g.F.ExactField.value g.F.ExactField.limit c.args.store.now c.args.b.now) c.in-Guard.is ∙ value-Guard g.F.ExactField.value g.F.ExactField.limit c.args.store.now c.args.b.now c.in-Guard.operand c.in-Guard.guards ∙ ap (λ guards. each_holds (map (of_expr g.F.ExactField.value g.F.ExactField.limit c.args.store.now c.args.b.now) guards) and_then (λ hold. if hold then (of_expr g.F.ExactField.value g.F.ExactField.limit c.args.store.now c.args.b.now) c.in-Guard.operand.value else Ok nothing)) (sym c.deref-in-Guard.ensures.value)) (stops-then g.F.ExactField.value c.in_err-all_hold-in-Guard.field-0.0 (each_holds (map (of_expr g.F.ExactField.value g.F.ExactField.limit c.args.store.now c.args.b.now) c.deref-in-Guard.result.now)) (λ hold. if hold then (of_expr g.F.ExactField.value g.F.ExactField.limit c.args.store.now c.args.b.now) c.in-Guard.operand.value else Ok nothing) c.in_err-all_hold-in-Guard.ensures))
 
-pub value-returns-in_err-args-in-Call : goal.value-returns-in_err-args-in-Call
-value-returns-in_err-args-in-Call g t c = handed_on g.F.ExactField.value (extended g.F.ExactField.value) c.from_residual-in_err-args-in-Call.result c.in_err-args-in-Call.field-0.0 _ c.from_residual-in_err-args-in-Call.ensures.1 (stops-same g.F.ExactField.value c.in_err-args-in-Call.field-0.0 ((of_expr g.F.ExactField.value g.F.ExactField.limit c.args.store.now c.args.b.now) c.args.e.now) _ (ap (of_expr g.F.ExactField.value g.F.ExactField.limit c.args.store.now c.args.b.now) c.in-Call.is ∙ value-Call g.F.ExactField.value g.F.ExactField.limit c.args.store.now c.args.b.now c.in-Call.at c.in-Call.function c.in-Call.args ∙ ap (λ args. in_order (map (of_expr g.F.ExactField.value g.F.ExactField.limit c.args.store.now c.args.b.now) args) and_then (λ xs. called g.F.ExactField.limit c.args.b.now c.in-Call.at c.in-Call.function xs)) (sym c.deref-in-Call.ensures.value)) (stops-then g.F.ExactField.value c.in_err-args-in-Call.field-0.0 (in_order (map (of_expr g.F.ExactField.value g.F.ExactField.limit c.args.store.now c.args.b.now) c.deref-in-Call.result.now)) (λ xs. called g.F.ExactField.limit c.args.b.now c.in-Call.at c.in-Call.function xs) c.in_err-args-in-Call.ensures))
+pub call-returns-in_err-values : goal.call-returns-in_err-values
+call-returns-in_err-values g t c = handed_on g.F.ExactField.value (extended g.F.ExactField.value) c.from_residual.result c.in_err-values.field-0.0 _ c.from_residual.ensures.1 (stops-then g.F.ExactField.value c.in_err-values.field-0.0 (in_order (map (of_expr g.F.ExactField.value g.F.ExactField.limit c.args.store.now c.args.b.now) c.args.args.now)) (λ xs. called g.F.ExactField.limit c.args.b.now c.args.at c.args.function xs) c.in_err-values.ensures)
+
+pub call-returns : goal.call-returns
+call-returns g t c = gives-same g.F.ExactField.value (extended g.F.ExactField.value) c.called.result _ _ (then-value (in_order (map (of_expr g.F.ExactField.value g.F.ExactField.limit c.args.store.now c.args.b.now) c.args.args.now)) (map (extended g.F.ExactField.value) c.in_ok-values.values.items) (λ xs. called g.F.ExactField.limit c.args.b.now c.args.at c.args.function xs) c.in_ok-values.ensures ∙ ap (λ xs. called g.F.ExactField.limit c.args.b.now c.args.at c.args.function (map (extended g.F.ExactField.value) xs)) (sym c.as_slice.ensures.value)) c.called.ensures
 
 pub value-returns-in_err-those-in-Fold : goal.value-returns-in_err-those-in-Fold
 value-returns-in_err-those-in-Fold g t c = handed_on g.F.ExactField.value (extended g.F.ExactField.value) c.from_residual-in_err-those-in-Fold.result c.in_err-those-in-Fold.field-0.0 _ c.from_residual-in_err-those-in-Fold.ensures.1 (stops-same g.F.ExactField.value c.in_err-those-in-Fold.field-0.0 ((of_expr g.F.ExactField.value g.F.ExactField.limit c.args.store.now c.args.b.now) c.args.e.now) _ (ap (of_expr g.F.ExactField.value g.F.ExactField.limit c.args.store.now c.args.b.now) c.in-Fold.is ∙ value-Fold g.F.ExactField.value g.F.ExactField.limit c.args.store.now c.args.b.now c.in-Fold.at c.in-Fold.op c.in-Fold.control c.in-Fold.body) (stops-then g.F.ExactField.value c.in_err-those-in-Fold.field-0.0 (domain g.F.ExactField.value g.F.ExactField.limit c.args.store.now c.args.b.now c.in-Fold.at (control_tree c.in-Fold.control)) _ c.in_err-those-in-Fold.ensures.value))
 
-pub value-returns-in_err-tuple-in-Ref : goal.value-returns-in_err-tuple-in-Ref
-value-returns-in_err-tuple-in-Ref g t c = handed_on g.F.ExactField.value (extended g.F.ExactField.value) c.from_residual.result c.in_err-tuple-in-Ref.field-0.0 _ c.from_residual.ensures.1 (stops-same g.F.ExactField.value c.in_err-tuple-in-Ref.field-0.0 ((of_expr g.F.ExactField.value g.F.ExactField.limit c.args.store.now c.args.b.now) c.args.e.now) _ (ap (of_expr g.F.ExactField.value g.F.ExactField.limit c.args.store.now c.args.b.now) c.in-Ref.is ∙ value-Ref g.F.ExactField.value g.F.ExactField.limit c.args.store.now c.args.b.now c.in-Ref.at c.in-Ref.name c.in-Ref.suffix c.in-Ref.indices ∙ ap (λ indices. (in_order (map (label_answer g.F.ExactField.value g.F.ExactField.limit c.args.store.now c.args.b.now) indices) and_then λ those. Ok (tuple_of those)) and_then entry_of g.F.ExactField.limit c.args.store.now c.args.b.now c.in-Ref.at c.in-Ref.name c.in-Ref.suffix) (sym c.deref.ensures.value)) (stops-then g.F.ExactField.value c.in_err-tuple-in-Ref.field-0.0 (in_order (map (label_answer g.F.ExactField.value g.F.ExactField.limit c.args.store.now c.args.b.now) c.deref.result.now) and_then λ those. Ok (tuple_of those)) (entry_of g.F.ExactField.limit c.args.store.now c.args.b.now c.in-Ref.at c.in-Ref.name c.in-Ref.suffix) c.in_err-tuple-in-Ref.ensures))
+pub referred-returns-in_err-tuple : goal.referred-returns-in_err-tuple
+referred-returns-in_err-tuple g t c = handed_on g.F.ExactField.value (extended g.F.ExactField.value) c.from_residual.result c.in_err-tuple.field-0.0 _ c.from_residual.ensures.1 (stops-then g.F.ExactField.value c.in_err-tuple.field-0.0 (in_order (map (label_answer g.F.ExactField.value g.F.ExactField.limit c.args.store.now c.args.b.now) c.args.indices.now) and_then λ those. Ok (tuple_of those)) (entry_of g.F.ExactField.limit c.args.store.now c.args.b.now c.args.at c.args.name c.args.suffix) c.in_err-tuple.ensures)
 
-pub value-returns-in_err-value-in-Neg : goal.value-returns-in_err-value-in-Neg
-value-returns-in_err-value-in-Neg g t c = handed_on g.F.ExactField.value (extended g.F.ExactField.value) c.from_residual-in_err-value-in-Neg.result c.in_err-value-in-Neg.field-0.0 _ c.from_residual-in_err-value-in-Neg.ensures.1 (stops-same g.F.ExactField.value c.in_err-value-in-Neg.field-0.0 ((of_expr g.F.ExactField.value g.F.ExactField.limit c.args.store.now c.args.b.now) c.args.e.now) _ (ap (of_expr g.F.ExactField.value g.F.ExactField.limit c.args.store.now c.args.b.now) c.in-Neg.is ∙ value-Neg g.F.ExactField.value g.F.ExactField.limit c.args.store.now c.args.b.now c.in-Neg.operand ∙ ap (λ e. (of_expr g.F.ExactField.value g.F.ExactField.limit c.args.store.now c.args.b.now) e and_then (λ x. Ok (negated x))) (sym c.deref-in-Neg.ensures)) (stops-then g.F.ExactField.value c.in_err-value-in-Neg.field-0.0 ((of_expr g.F.ExactField.value g.F.ExactField.limit c.args.store.now c.args.b.now) c.deref-in-Neg.result.now) (λ x. Ok (negated x)) c.in_err-value-in-Neg.ensures))
+pub referred-returns : goal.referred-returns
+referred-returns g t c = gives-same g.F.ExactField.value (extended g.F.ExactField.value) c.entry_of.result _ _ (then-value (in_order (map (label_answer g.F.ExactField.value g.F.ExactField.limit c.args.store.now c.args.b.now) c.args.indices.now) and_then λ those. Ok (tuple_of those)) c.in_ok-tuple.tuple (entry_of g.F.ExactField.limit c.args.store.now c.args.b.now c.args.at c.args.name c.args.suffix) c.in_ok-tuple.ensures) c.entry_of.ensures
 
-pub value-returns-in_err-value-in-Not : goal.value-returns-in_err-value-in-Not
-value-returns-in_err-value-in-Not g t c = handed_on g.F.ExactField.value (extended g.F.ExactField.value) c.from_residual-in_err-value-in-Not.result c.in_err-value-in-Not.field-0.0 _ c.from_residual-in_err-value-in-Not.ensures.1 (stops-same g.F.ExactField.value c.in_err-value-in-Not.field-0.0 ((of_expr g.F.ExactField.value g.F.ExactField.limit c.args.store.now c.args.b.now) c.args.e.now) _ (ap (of_expr g.F.ExactField.value g.F.ExactField.limit c.args.store.now c.args.b.now) c.in-Not.is ∙ value-Not g.F.ExactField.value g.F.ExactField.limit c.args.store.now c.args.b.now c.in-Not.operand ∙ ap (λ e. (of_expr g.F.ExactField.value g.F.ExactField.limit c.args.store.now c.args.b.now) e and_then (λ x. Ok (truth (not (is_so x))))) (sym c.deref-in-Not.ensures)) (stops-then g.F.ExactField.value c.in_err-value-in-Not.field-0.0 ((of_expr g.F.ExactField.value g.F.ExactField.limit c.args.store.now c.args.b.now) c.deref-in-Not.result.now) (λ x. Ok (truth (not (is_so x)))) c.in_err-value-in-Not.ensures))
+pub value-returns-in-Neg : goal.value-returns-in-Neg
+value-returns-in-Neg g t c = gives-same g.F.ExactField.value (extended g.F.ExactField.value) c.negative.result ((of_expr g.F.ExactField.value g.F.ExactField.limit c.args.store.now c.args.b.now) c.args.e.now) _ (ap (of_expr g.F.ExactField.value g.F.ExactField.limit c.args.store.now c.args.b.now) c.in-Neg.is ∙ value-Neg g.F.ExactField.value g.F.ExactField.limit c.args.store.now c.args.b.now c.in-Neg.operand ∙ ap (λ e. (of_expr g.F.ExactField.value g.F.ExactField.limit c.args.store.now c.args.b.now) e and_then (λ x. Ok (negated x))) (sym c.deref-in-Neg.ensures)) c.negative.ensures
 
-pub value-returns-in_ok-args-in-Call : goal.value-returns-in_ok-args-in-Call
-value-returns-in_ok-args-in-Call g t c = gives-same g.F.ExactField.value (extended g.F.ExactField.value) c.called.result ((of_expr g.F.ExactField.value g.F.ExactField.limit c.args.store.now c.args.b.now) c.args.e.now) _ (ap (of_expr g.F.ExactField.value g.F.ExactField.limit c.args.store.now c.args.b.now) c.in-Call.is ∙ value-Call g.F.ExactField.value g.F.ExactField.limit c.args.store.now c.args.b.now c.in-Call.at c.in-Call.function c.in-Call.args ∙ ap (λ args. in_order (map (of_expr g.F.ExactField.value g.F.ExactField.limit c.args.store.now c.args.b.now) args) and_then (λ xs. called g.F.ExactField.limit c.args.b.now c.in-Call.at c.in-Call.function xs)) (sym c.deref-in-Call.ensures.value) ∙ then-value (in_order (map (of_expr g.F.ExactField.value g.F.ExactField.limit c.args.store.now c.args.b.now) c.deref-in-Call.result.now)) (map (extended g.F.ExactField.value) c.in_ok-args-in-Call.args.items) (λ xs. called g.F.ExactField.limit c.args.b.now c.in-Call.at c.in-Call.function xs) c.in_ok-args-in-Call.ensures ∙ ap (λ xs. called g.F.ExactField.limit c.args.b.now c.in-Call.at c.in-Call.function (map (extended g.F.ExactField.value) xs)) (sym c.as_slice.ensures.value)) c.called.ensures
+pub value-returns-in-Not : goal.value-returns-in-Not
+value-returns-in-Not g t c = gives-same g.F.ExactField.value (extended g.F.ExactField.value) c.denied.result ((of_expr g.F.ExactField.value g.F.ExactField.limit c.args.store.now c.args.b.now) c.args.e.now) _ (ap (of_expr g.F.ExactField.value g.F.ExactField.limit c.args.store.now c.args.b.now) c.in-Not.is ∙ value-Not g.F.ExactField.value g.F.ExactField.limit c.args.store.now c.args.b.now c.in-Not.operand ∙ ap (λ e. (of_expr g.F.ExactField.value g.F.ExactField.limit c.args.store.now c.args.b.now) e and_then (λ x. Ok (truth (not (is_so x))))) (sym c.deref-in-Not.ensures)) c.denied.ensures
+
+pub value-returns-in-Call : goal.value-returns-in-Call
+value-returns-in-Call g t c = gives-same g.F.ExactField.value (extended g.F.ExactField.value) c.call.result ((of_expr g.F.ExactField.value g.F.ExactField.limit c.args.store.now c.args.b.now) c.args.e.now) _ (ap (of_expr g.F.ExactField.value g.F.ExactField.limit c.args.store.now c.args.b.now) c.in-Call.is ∙ value-Call g.F.ExactField.value g.F.ExactField.limit c.args.store.now c.args.b.now c.in-Call.at c.in-Call.function c.in-Call.args ∙ ap (λ args. in_order (map (of_expr g.F.ExactField.value g.F.ExactField.limit c.args.store.now c.args.b.now) args) and_then λ xs. called g.F.ExactField.limit c.args.b.now c.in-Call.at c.in-Call.function xs) (sym c.deref-in-Call.ensures.value)) c.call.ensures
 
 pub value-returns-in_ok-place_in_set-in-Ord : goal.value-returns-in_ok-place_in_set-in-Ord
 value-returns-in_ok-place_in_set-in-Ord g t c = gives-same g.F.ExactField.value (extended g.F.ExactField.value) c.counted.result ((of_expr g.F.ExactField.value g.F.ExactField.limit c.args.store.now c.args.b.now) c.args.e.now) _ (ap (of_expr g.F.ExactField.value g.F.ExactField.limit c.args.store.now c.args.b.now) c.in-Ord.is ∙ value-Ord g.F.ExactField.value g.F.ExactField.limit c.args.store.now c.args.b.now c.in-Ord.at c.in-Ord.set ∙ ap (counted g.F.ExactField.limit c.args.b.now c.in-Ord.at) (sym c.in_ok-place_in_set-in-Ord.ensures)) c.counted.ensures
 
 pub value-returns-in_ok-those-in-Fold : goal.value-returns-in_ok-those-in-Fold
-value-returns-in_ok-those-in-Fold g t c = gives-same g.F.ExactField.value (extended g.F.ExactField.value) c.folded.result ((of_expr g.F.ExactField.value g.F.ExactField.limit c.args.store.now c.args.b.now) c.args.e.now) _ (ap (of_expr g.F.ExactField.value g.F.ExactField.limit c.args.store.now c.args.b.now) c.in-Fold.is ∙ fold-over g.F.ExactField.value g.F.ExactField.limit c.args.store.now c.args.b.now c.in-Fold.at c.in-Fold.control c.as_slice-in-Fold.result.now c.as_slice-in-Fold.ensures c.in-Fold.op c.in-Fold.body c.deref-in-Fold.result.now c.in_ok-those-in-Fold.those c.deref-in-Fold.ensures c.in_ok-those-in-Fold.ensures.value) c.folded.ensures
+value-returns-in_ok-those-in-Fold g t c = gives-same g.F.ExactField.value (extended g.F.ExactField.value) c.folded.result ((of_expr g.F.ExactField.value g.F.ExactField.limit c.args.store.now c.args.b.now) c.args.e.now) _ (ap (of_expr g.F.ExactField.value g.F.ExactField.limit c.args.store.now c.args.b.now) c.in-Fold.is ∙ fold-over g.F.ExactField.value g.F.ExactField.limit c.args.store.now c.args.b.now c.in-Fold.at c.in-Fold.control c.as_slice.result.now c.as_slice.ensures c.in-Fold.op c.in-Fold.body c.deref-in-Fold.result.now c.in_ok-those-in-Fold.those c.deref-in-Fold.ensures c.in_ok-those-in-Fold.ensures.value) c.folded.ensures
 
-pub value-returns-in_ok-tuple-in-Ref : goal.value-returns-in_ok-tuple-in-Ref
-value-returns-in_ok-tuple-in-Ref g t c = gives-same g.F.ExactField.value (extended g.F.ExactField.value) c.entry_of.result ((of_expr g.F.ExactField.value g.F.ExactField.limit c.args.store.now c.args.b.now) c.args.e.now) _ (ap (of_expr g.F.ExactField.value g.F.ExactField.limit c.args.store.now c.args.b.now) c.in-Ref.is ∙ value-Ref g.F.ExactField.value g.F.ExactField.limit c.args.store.now c.args.b.now c.in-Ref.at c.in-Ref.name c.in-Ref.suffix c.in-Ref.indices ∙ ap (λ indices. (in_order (map (label_answer g.F.ExactField.value g.F.ExactField.limit c.args.store.now c.args.b.now) indices) and_then λ those. Ok (tuple_of those)) and_then entry_of g.F.ExactField.limit c.args.store.now c.args.b.now c.in-Ref.at c.in-Ref.name c.in-Ref.suffix) (sym c.deref.ensures.value) ∙ then-value (in_order (map (label_answer g.F.ExactField.value g.F.ExactField.limit c.args.store.now c.args.b.now) c.deref.result.now) and_then λ those. Ok (tuple_of those)) c.in_ok-tuple-in-Ref.tuple (entry_of g.F.ExactField.limit c.args.store.now c.args.b.now c.in-Ref.at c.in-Ref.name c.in-Ref.suffix) c.in_ok-tuple-in-Ref.ensures) c.entry_of.ensures
+pub value-returns-in-Ref : goal.value-returns-in-Ref
+value-returns-in-Ref g t c = gives-same g.F.ExactField.value (extended g.F.ExactField.value) c.referred.result ((of_expr g.F.ExactField.value g.F.ExactField.limit c.args.store.now c.args.b.now) c.args.e.now) _ (ap (of_expr g.F.ExactField.value g.F.ExactField.limit c.args.store.now c.args.b.now) c.in-Ref.is ∙ value-Ref g.F.ExactField.value g.F.ExactField.limit c.args.store.now c.args.b.now c.in-Ref.at c.in-Ref.name c.in-Ref.suffix c.in-Ref.indices ∙ ap (λ indices. (in_order (map (label_answer g.F.ExactField.value g.F.ExactField.limit c.args.store.now c.args.b.now) indices) and_then λ those. Ok (tuple_of those)) and_then entry_of g.F.ExactField.limit c.args.store.now c.args.b.now c.in-Ref.at c.in-Ref.name c.in-Ref.suffix) (sym c.deref.ensures.value)) c.referred.ensures
 
-pub value-returns-in_ok-value-in-Neg : goal.value-returns-in_ok-value-in-Neg
-value-returns-in_ok-value-in-Neg g t c = ap (of_expr g.F.ExactField.value g.F.ExactField.limit c.args.store.now c.args.b.now) c.in-Neg.is ∙ value-Neg g.F.ExactField.value g.F.ExactField.limit c.args.store.now c.args.b.now c.in-Neg.operand ∙ ap (λ e. (of_expr g.F.ExactField.value g.F.ExactField.limit c.args.store.now c.args.b.now) e and_then (λ x. Ok (negated x))) (sym c.deref-in-Neg.ensures) ∙ then-value ((of_expr g.F.ExactField.value g.F.ExactField.limit c.args.store.now c.args.b.now) c.deref-in-Neg.result.now) (extended g.F.ExactField.value c.in_ok-value-in-Neg.field-0) (λ x. Ok (negated x)) c.in_ok-value-in-Neg.ensures ∙ ap Ok (sym c.neg.ensures)
+pub negative-returns-in_err-x : goal.negative-returns-in_err-x
+negative-returns-in_err-x g t c = handed_on g.F.ExactField.value (extended g.F.ExactField.value) c.from_residual.result c.in_err-x.field-0.0 _ c.from_residual.ensures.1 (stops-then g.F.ExactField.value c.in_err-x.field-0.0 ((of_expr g.F.ExactField.value g.F.ExactField.limit c.args.store.now c.args.b.now) c.args.operand.now) (λ x. Ok (negated x)) c.in_err-x.ensures)
 
-pub value-returns-in_ok-value-in-Not : goal.value-returns-in_ok-value-in-Not
-value-returns-in_ok-value-in-Not g t c = ap (of_expr g.F.ExactField.value g.F.ExactField.limit c.args.store.now c.args.b.now) c.in-Not.is ∙ value-Not g.F.ExactField.value g.F.ExactField.limit c.args.store.now c.args.b.now c.in-Not.operand ∙ ap (λ e. (of_expr g.F.ExactField.value g.F.ExactField.limit c.args.store.now c.args.b.now) e and_then (λ x. Ok (truth (not (is_so x))))) (sym c.deref-in-Not.ensures) ∙ then-value ((of_expr g.F.ExactField.value g.F.ExactField.limit c.args.store.now c.args.b.now) c.deref-in-Not.result.now) (extended g.F.ExactField.value c.in_ok-value-in-Not.field-0) (λ x. Ok (truth (not (is_so x)))) c.in_ok-value-in-Not.ensures ∙ ap Ok (sym (c.truth-in-Not.ensures ∙ ap (λ b. truth (not b)) c.is_so.ensures))
+pub negative-returns : goal.negative-returns
+negative-returns g t c = then-value ((of_expr g.F.ExactField.value g.F.ExactField.limit c.args.store.now c.args.b.now) c.args.operand.now) (extended g.F.ExactField.value c.in_ok-x.x) (λ x. Ok (negated x)) c.in_ok-x.ensures ∙ ap Ok (sym c.neg.ensures)
+
+pub denied-returns-in_err-x : goal.denied-returns-in_err-x
+denied-returns-in_err-x g t c = handed_on g.F.ExactField.value (extended g.F.ExactField.value) c.from_residual.result c.in_err-x.field-0.0 _ c.from_residual.ensures.1 (stops-then g.F.ExactField.value c.in_err-x.field-0.0 ((of_expr g.F.ExactField.value g.F.ExactField.limit c.args.store.now c.args.b.now) c.args.operand.now) (λ x. Ok (truth (not (is_so x)))) c.in_err-x.ensures)
+
+pub denied-returns : goal.denied-returns
+denied-returns g t c = then-value ((of_expr g.F.ExactField.value g.F.ExactField.limit c.args.store.now c.args.b.now) c.args.operand.now) (extended g.F.ExactField.value c.in_ok-x.x) (λ x. Ok (truth (not (is_so x)))) c.in_ok-x.ensures ∙ ap Ok (sym (c.truth.ensures ∙ ap (λ b. truth (not b)) c.is_so.ensures))
 
 pub value-returns-then-branch : goal.value-returns-then-branch
-value-returns-then-branch g t c = gives-same g.F.ExactField.value (extended g.F.ExactField.value) c.value-then-branch.result ((of_expr g.F.ExactField.value g.F.ExactField.limit c.args.store.now c.args.b.now) c.args.e.now) _ (ap (of_expr g.F.ExactField.value g.F.ExactField.limit c.args.store.now c.args.b.now) c.in-Guard.is ∙ value-Guard g.F.ExactField.value g.F.ExactField.limit c.args.store.now c.args.b.now c.in-Guard.operand c.in-Guard.guards ∙ ap (λ guards. each_holds (map (of_expr g.F.ExactField.value g.F.ExactField.limit c.args.store.now c.args.b.now) guards) and_then (λ hold. if hold then (of_expr g.F.ExactField.value g.F.ExactField.limit c.args.store.now c.args.b.now) c.in-Guard.operand.value else Ok nothing)) (sym c.deref-in-Guard.ensures.value) ∙ guard-so (each_holds (map (of_expr g.F.ExactField.value g.F.ExactField.limit c.args.store.now c.args.b.now) c.deref-in-Guard.result.now)) c.in_ok-all_hold-in-Guard.field-0 ((of_expr g.F.ExactField.value g.F.ExactField.limit c.args.store.now c.args.b.now) c.in-Guard.operand.value) c.in_ok-all_hold-in-Guard.ensures c.if-branch.true ∙ ap (of_expr g.F.ExactField.value g.F.ExactField.limit c.args.store.now c.args.b.now) (sym c.deref-then-branch.ensures)) c.value-then-branch.ensures
+value-returns-then-branch g t c = gives-same g.F.ExactField.value (extended g.F.ExactField.value) c.value.result ((of_expr g.F.ExactField.value g.F.ExactField.limit c.args.store.now c.args.b.now) c.args.e.now) _ (ap (of_expr g.F.ExactField.value g.F.ExactField.limit c.args.store.now c.args.b.now) c.in-Guard.is ∙ value-Guard g.F.ExactField.value g.F.ExactField.limit c.args.store.now c.args.b.now c.in-Guard.operand c.in-Guard.guards ∙ ap (λ guards. each_holds (map (of_expr g.F.ExactField.value g.F.ExactField.limit c.args.store.now c.args.b.now) guards) and_then (λ hold. if hold then (of_expr g.F.ExactField.value g.F.ExactField.limit c.args.store.now c.args.b.now) c.in-Guard.operand.value else Ok nothing)) (sym c.deref-in-Guard.ensures.value) ∙ guard-so (each_holds (map (of_expr g.F.ExactField.value g.F.ExactField.limit c.args.store.now c.args.b.now) c.deref-in-Guard.result.now)) c.in_ok-all_hold-in-Guard.field-0 ((of_expr g.F.ExactField.value g.F.ExactField.limit c.args.store.now c.args.b.now) c.in-Guard.operand.value) c.in_ok-all_hold-in-Guard.ensures c.if-branch.true ∙ ap (of_expr g.F.ExactField.value g.F.ExactField.limit c.args.store.now c.args.b.now) (sym c.deref-then-branch.ensures)) c.value.ensures
 
 pub signed_chain-loop-at-init : goal.signed_chain-loop-at-init
 signed_chain-loop-at-init g t c = refl
@@ -277,5 +289,5 @@ label_of-returns-in_err-amount-in-Some g t c = handed_on g.F.ExactField.value (�
 pub label_of-returns-in_ok-amount-in-Some : goal.label_of-returns-in_ok-amount-in-Some
 label_of-returns-in_ok-amount-in-Some g t c = gives-same g.F.ExactField.value (λ label. label) c.reached.result ((label_answer g.F.ExactField.value g.F.ExactField.limit c.args.store.now c.args.b.now) c.args.index.now) _ (ap (label_answer g.F.ExactField.value g.F.ExactField.limit c.args.store.now c.args.b.now) c.in-Set.is ∙ ap (λ lag. (label_answer g.F.ExactField.value g.F.ExactField.limit c.args.store.now c.args.b.now) (Set c.in-Set.name lag)) c.in-Some.is ∙ label-lagged g.F.ExactField.value g.F.ExactField.limit c.args.store.now c.args.b.now c.in-Set.name (c.in-Some.op, c.in-Some.at, c.in-Some.amount) ∙ then-value ((of_expr g.F.ExactField.value g.F.ExactField.limit c.args.store.now c.args.b.now) c.in-Some.amount.value) (extended g.F.ExactField.value c.in_ok-amount-in-Some.amount) _ (ap (of_expr g.F.ExactField.value g.F.ExactField.limit c.args.store.now c.args.b.now) (sym c.deref.ensures) ∙ c.in_ok-amount-in-Some.ensures)) c.reached.ensures
 
-pub value-tuple_of-requires : goal.value-tuple_of-requires
-value-tuple_of-requires g t c κs within = let s = indices-less_deep c.in-Ref.at c.in-Ref.name c.in-Ref.suffix c.in-Ref.indices in let f = ap (size-Expr g.row.F.Denot) c.in-Ref.is in let m = ap (most (size-Index g.row.F.Denot)) c.deref.ensures.value in let d : 2 * size-Expr g.row.F.Denot c.args.e.now + 0 ≡ t = c.decreases in let k : 2 * most (size-Index g.row.F.Denot) c.deref.result.now + 1 < t = omega arith in (k, search rules)
+pub value-referred-requires : goal.value-referred-requires
+value-referred-requires g t c κs within = let s = indices-less_deep c.in-Ref.at c.in-Ref.name c.in-Ref.suffix c.in-Ref.indices in let f = ap (size-Expr g.row.F.Denot) c.in-Ref.is in let m = ap (most (size-Index g.row.F.Denot)) c.deref.ensures.value in let d : 3 * size-Expr g.row.F.Denot c.args.e.now + 0 ≡ t = c.decreases in let k : 3 * most (size-Index g.row.F.Denot) c.deref.result.now + 2 < t = omega arith in (k, search rules)

@@ -1,7 +1,7 @@
 use Rattle.std.proofs.Common.{refl, rules, ap, sym, ◌∙◌}
 use Rattle.gms_ast.specs.TreeView.{index_tree, indices_of}
 use Rattle.std.proofs.Common.{map}
-use Rattle.gms_exec.specs.Assignment.{sets_among}
+use Rattle.gms_rows.specs.Rows.{sets_among}
 use Rattle.gms_exec.proofs.LeftSides.{noting, noting-start, noting-more, noting-end}
 use Rattle.gms_exec.proofs.assignment.newly_controlled.Goals as goal
 

@@ -1,6 +1,7 @@
 use Rattle.std.proofs.Common.{◌≡◌, map, drop}
 use Rattle.gms_ast.specs.TreeView.{index_tree, indices_of}
-use Rattle.gms_exec.specs.Assignment.{newly_controlled, sets_among}
+use Rattle.gms_rows.specs.Rows.{sets_among}
+use Rattle.gms_exec.specs.Assignment.{newly_controlled}
 use Rattle.gms_exec.proofs.LeftSides.{noting}
 use Rattle.gms_exec.proofs.assignment.newly_controlled.Given as goal
 

@@ -1,5 +1,5 @@
 -- Errors are listed, or the program is run.
-use Rattle.std.proofs.Common.{◌++◌, ◌∙◌, ap, map, refl}
+use Rattle.std.proofs.Common.{◌++◌, ◌∙◌, ap, length, map, refl}
 use Rattle.std.specs.Prelude.{string_bytes}
 use Rattle.std.proofs.lemmas.Result.{err_from_is_err_and}
 use Rattle.gms_host.proofs.Counting.{writing_none}
@@ -8,21 +8,27 @@ use Rattle.gms_run.specs.declared.status.Status.TheVariants.{Compile}
 use Rattle.gms_run.specs.InnerReports.{script_in}
 use Rattle.gms_run.specs.Scripts.{errors_of, scripted}
 use Rattle.gms_run.specs.Solving.{solving}
+use Rattle.gms_run.proofs.Beginning.{first_plain, first_settings}
 use Rattle.gms_run.proofs.Comings.{writing_memory}
 use Rattle.gms_run.proofs.Reports.{lists_as, lists_none, nothing_follows, prepares_errors}
 use Rattle.gms_run.proofs.report.checked.Goals as goal
 
 pub begin-requires : goal.begin-requires
 begin-requires g c =
-    (map (λ b. (goal.LpSolver-dyn g (b.vtable, b.value)).name b.value) c.args.solvers.now.items, (lists_none c.in_ok-has_errors.field-0 (errors_of (script_in c.args.script).saved (script_in c.args.script).line c.args.program.now (map (λ b. (goal.LpSolver-dyn g (b.vtable, b.value)).name b.value) c.args.solvers.now.items)) (script_in c.args.script) c.args.outlet.now.listing c.has_errors.new.listing c.if-branch.false (lists_as (λ b. (goal.LpSolver-dyn g (b.vtable, b.value)).name b.value) c.as_slice.result.now c.args.solvers.now.items c.in_ok-has_errors.field-0 (script_in c.args.script) c.args.program.now c.args.outlet.now.listing c.has_errors.new.listing c.as_slice.ensures.value c.in_ok-has_errors.ensures)).0)
+    (map (λ b. (goal.LpSolver-dyn g (b.vtable, b.value)).name b.value) c.args.solvers.now.items, (lists_none c.in_ok-has_errors.field-0 (errors_of (script_in c.args.script c.args.run.now.store).saved (script_in c.args.script c.args.run.now.store).line c.args.program.now (map (λ b. (goal.LpSolver-dyn g (b.vtable, b.value)).name b.value) c.args.solvers.now.items)) (script_in c.args.script c.args.run.now.store) c.args.outlet.now.listing c.has_errors.new.listing c.if-branch.false (lists_as (λ b. (goal.LpSolver-dyn g (b.vtable, b.value)).name b.value) c.as_slice.result.now c.args.solvers.now.items c.in_ok-has_errors.field-0 (script_in c.args.script c.args.run.now.store) c.args.program.now c.args.outlet.now.listing c.has_errors.new.listing c.as_slice.ensures.value (c.in_ok-has_errors.ensures c.args.run.now.store))).0)
 
-pub fitted-requires-clause-no_error : goal.fitted-requires-clause-no_error
-fitted-requires-clause-no_error g c =
-    (lists_none c.in_ok-has_errors.field-0 (errors_of (script_in c.args.script).saved (script_in c.args.script).line c.args.program.now (map (λ b. (goal.LpSolver-dyn g (b.vtable, b.value)).name b.value) c.args.solvers.now.items)) (script_in c.args.script) c.args.outlet.now.listing c.has_errors.new.listing c.if-branch.false (lists_as (λ b. (goal.LpSolver-dyn g (b.vtable, b.value)).name b.value) c.as_slice.result.now c.args.solvers.now.items c.in_ok-has_errors.field-0 (script_in c.args.script) c.args.program.now c.args.outlet.now.listing c.has_errors.new.listing c.as_slice.ensures.value c.in_ok-has_errors.ensures)).0
+pub execute-requires-clause-settings : goal.execute-requires-clause-settings
+execute-requires-clause-settings g c =
+    first_settings (length c.args.solvers.now.items) (script_in c.args.script c.args.run.now.store).source (script_in c.args.script c.args.run.now.store).saved c.args.program.now c.begin.new.store c.in_ok-begin.ensures c.requires.sound
 
-pub fitted-requires-clause-empty : goal.fitted-requires-clause-empty
-fitted-requires-clause-empty g c =
-    ap (λ t. c.args.outlet.now.spool ++ t) (lists_none c.in_ok-has_errors.field-0 (errors_of (script_in c.args.script).saved (script_in c.args.script).line c.args.program.now (map (λ b. (goal.LpSolver-dyn g (b.vtable, b.value)).name b.value) c.args.solvers.now.items)) (script_in c.args.script) c.args.outlet.now.listing c.has_errors.new.listing c.if-branch.false (lists_as (λ b. (goal.LpSolver-dyn g (b.vtable, b.value)).name b.value) c.as_slice.result.now c.args.solvers.now.items c.in_ok-has_errors.field-0 (script_in c.args.script) c.args.program.now c.args.outlet.now.listing c.has_errors.new.listing c.as_slice.ensures.value c.in_ok-has_errors.ensures)).1 ∙ c.requires.empty
+pub execute-requires-clause-plain : goal.execute-requires-clause-plain
+execute-requires-clause-plain g c =
+    first_plain (map (λ b. (goal.LpSolver-dyn g (b.vtable, b.value)).name b.value) c.args.solvers.now.items) (length c.args.solvers.now.items) (script_in c.args.script c.args.run.now.store) c.args.program.now c.begin.new.store c.in_ok-begin.ensures
+    (record { is_program = c.requires.is_program; no_error = (lists_none c.in_ok-has_errors.field-0 (errors_of (script_in c.args.script c.args.run.now.store).saved (script_in c.args.script c.args.run.now.store).line c.args.program.now (map (λ b. (goal.LpSolver-dyn g (b.vtable, b.value)).name b.value) c.args.solvers.now.items)) (script_in c.args.script c.args.run.now.store) c.args.outlet.now.listing c.has_errors.new.listing c.if-branch.false (lists_as (λ b. (goal.LpSolver-dyn g (b.vtable, b.value)).name b.value) c.as_slice.result.now c.args.solvers.now.items c.in_ok-has_errors.field-0 (script_in c.args.script c.args.run.now.store) c.args.program.now c.args.outlet.now.listing c.has_errors.new.listing c.as_slice.ensures.value (c.in_ok-has_errors.ensures c.args.run.now.store))).0 }) c.requires.sound
+
+pub execute-requires-clause-empty : goal.execute-requires-clause-empty
+execute-requires-clause-empty g c =
+    ap (λ t. c.args.outlet.now.spool ++ t) (lists_none c.in_ok-has_errors.field-0 (errors_of (script_in c.args.script c.args.run.now.store).saved (script_in c.args.script c.args.run.now.store).line c.args.program.now (map (λ b. (goal.LpSolver-dyn g (b.vtable, b.value)).name b.value) c.args.solvers.now.items)) (script_in c.args.script c.args.run.now.store) c.args.outlet.now.listing c.has_errors.new.listing c.if-branch.false (lists_as (λ b. (goal.LpSolver-dyn g (b.vtable, b.value)).name b.value) c.as_slice.result.now c.args.solvers.now.items c.in_ok-has_errors.field-0 (script_in c.args.script c.args.run.now.store) c.args.program.now c.args.outlet.now.listing c.has_errors.new.listing c.as_slice.ensures.value (c.in_ok-has_errors.ensures c.args.run.now.store))).1 ∙ c.requires.empty
 
 pub returns-in_err-has_errors-clause-outside : goal.returns-in_err-has_errors-clause-outside
 returns-in_err-has_errors-clause-outside g c =
@@ -36,31 +42,33 @@ returns-in_err-has_errors-clause-counts g c =
 
 pub returns-then-branch-clause-outside : goal.returns-then-branch-clause-outside
 returns-then-branch-clause-outside g c =
-    prepares_errors (solving (λ b. (goal.LpSolver-dyn g (b.vtable, b.value)).name b.value) (λ b. (goal.LpSolver-dyn g (b.vtable, b.value)).rule b.value) (λ b. (goal.LpSolver-dyn g (b.vtable, b.value)).paths b.value) c.args.solvers.now.items c.args.solvers.now.items c.args.answers.now.items) (g.H.Host.meaning c.args.host.now).outside (script_in c.args.script) c.args.program.now c.in_ok-has_errors.field-0 c.args.outlet.now.spool c.args.outlet.now.listing c.has_errors.new.listing c.requires.is_program c.if-branch.true
-    (lists_as (λ b. (goal.LpSolver-dyn g (b.vtable, b.value)).name b.value) c.as_slice.result.now c.args.solvers.now.items c.in_ok-has_errors.field-0 (script_in c.args.script) c.args.program.now c.args.outlet.now.listing c.has_errors.new.listing c.as_slice.ensures.value c.in_ok-has_errors.ensures) (c.requires.none, refl) c.requires.empty
+    prepares_errors (solving (λ b. (goal.LpSolver-dyn g (b.vtable, b.value)).name b.value) (λ b. (goal.LpSolver-dyn g (b.vtable, b.value)).rule b.value) (λ b. (goal.LpSolver-dyn g (b.vtable, b.value)).paths b.value) c.args.solvers.now.items c.args.solvers.now.items c.args.answers.now.items) (g.H.Host.meaning c.args.host.now).outside (script_in c.args.script c.args.run.now.store) c.args.program.now c.in_ok-has_errors.field-0 c.args.outlet.now.spool c.args.outlet.now.listing c.has_errors.new.listing c.requires.is_program c.if-branch.true
+    (lists_as (λ b. (goal.LpSolver-dyn g (b.vtable, b.value)).name b.value) c.as_slice.result.now c.args.solvers.now.items c.in_ok-has_errors.field-0 (script_in c.args.script c.args.run.now.store) c.args.program.now c.args.outlet.now.listing c.has_errors.new.listing c.as_slice.ensures.value (c.in_ok-has_errors.ensures c.args.run.now.store)) (c.requires.none, refl) c.requires.empty
 
 pub returns-then-branch-clause-follows : goal.returns-then-branch-clause-follows
 returns-then-branch-clause-follows g c =
-    nothing_follows Compile (solving (λ b. (goal.LpSolver-dyn g (b.vtable, b.value)).name b.value) (λ b. (goal.LpSolver-dyn g (b.vtable, b.value)).rule b.value) (λ b. (goal.LpSolver-dyn g (b.vtable, b.value)).paths b.value) c.args.solvers.now.items c.args.solvers.now.items c.args.answers.now.items) (asked_by c.args.request) (scripted (script_in c.args.script)) (string_bytes c.args.sequel.now.remarks) c.args.sequel.now.save.items refl c.requires.silent
+    nothing_follows Compile (solving (λ b. (goal.LpSolver-dyn g (b.vtable, b.value)).name b.value) (λ b. (goal.LpSolver-dyn g (b.vtable, b.value)).rule b.value) (λ b. (goal.LpSolver-dyn g (b.vtable, b.value)).paths b.value) c.args.solvers.now.items c.args.solvers.now.items c.args.answers.now.items) (asked_by c.args.request) (scripted (script_in c.args.script c.args.run.now.store)) (string_bytes c.args.run.now.remarks) c.args.run.now.save.items refl c.requires.silent
 
 pub returns-then-branch-clause-counts : goal.returns-then-branch-clause-counts
 returns-then-branch-clause-counts g c = writing_none _ _
 
-pub returns-in_err-run-clause-outside : goal.returns-in_err-run-clause-outside
-returns-in_err-run-clause-outside g c =
-    let p = err_from_is_err_and c.from_residual-in_err-run.result c.from_residual-in_err-run.ensures.1 in
+pub returns-in_err-begin-clause-outside : goal.returns-in_err-begin-clause-outside
+returns-in_err-begin-clause-outside g c =
+    let p = err_from_is_err_and c.from_residual-in_err-begin.result c.from_residual-in_err-begin.ensures.1 in
     rw (p.1, p.2) tt
 
-pub returns-in_err-run-clause-counts : goal.returns-in_err-run-clause-counts
-returns-in_err-run-clause-counts g c =
-    let p = err_from_is_err_and c.from_residual-in_err-run.result c.from_residual-in_err-run.ensures.1 in
+pub returns-in_err-begin-clause-counts : goal.returns-in_err-begin-clause-counts
+returns-in_err-begin-clause-counts g c =
+    let p = err_from_is_err_and c.from_residual-in_err-begin.result c.from_residual-in_err-begin.ensures.1 in
     rw (p.1, p.2) (writing_memory _ _)
 
 pub returns-clause-outside : goal.returns-clause-outside
-returns-clause-outside g c = c.fitted.ensures.outside
+returns-clause-outside g c =
+    c.execute.ensures.outside c.args.run.now.store (record { accepted = record { is_program = c.requires.is_program; no_error = (lists_none c.in_ok-has_errors.field-0 (errors_of (script_in c.args.script c.args.run.now.store).saved (script_in c.args.script c.args.run.now.store).line c.args.program.now (map (λ b. (goal.LpSolver-dyn g (b.vtable, b.value)).name b.value) c.args.solvers.now.items)) (script_in c.args.script c.args.run.now.store) c.args.outlet.now.listing c.has_errors.new.listing c.if-branch.false (lists_as (λ b. (goal.LpSolver-dyn g (b.vtable, b.value)).name b.value) c.as_slice.result.now c.args.solvers.now.items c.in_ok-has_errors.field-0 (script_in c.args.script c.args.run.now.store) c.args.program.now c.args.outlet.now.listing c.has_errors.new.listing c.as_slice.ensures.value (c.in_ok-has_errors.ensures c.args.run.now.store))).0 }; first = c.in_ok-begin.ensures })
 
 pub returns-clause-follows : goal.returns-clause-follows
-returns-clause-follows g c = c.fitted.ensures.follows
+returns-clause-follows g c =
+    c.execute.ensures.follows c.args.run.now.store (record { accepted = record { is_program = c.requires.is_program; no_error = (lists_none c.in_ok-has_errors.field-0 (errors_of (script_in c.args.script c.args.run.now.store).saved (script_in c.args.script c.args.run.now.store).line c.args.program.now (map (λ b. (goal.LpSolver-dyn g (b.vtable, b.value)).name b.value) c.args.solvers.now.items)) (script_in c.args.script c.args.run.now.store) c.args.outlet.now.listing c.has_errors.new.listing c.if-branch.false (lists_as (λ b. (goal.LpSolver-dyn g (b.vtable, b.value)).name b.value) c.as_slice.result.now c.args.solvers.now.items c.in_ok-has_errors.field-0 (script_in c.args.script c.args.run.now.store) c.args.program.now c.args.outlet.now.listing c.has_errors.new.listing c.as_slice.ensures.value (c.in_ok-has_errors.ensures c.args.run.now.store))).0 }; first = c.in_ok-begin.ensures })
 
 pub returns-clause-counts : goal.returns-clause-counts
-returns-clause-counts g c = c.fitted.ensures.counts
+returns-clause-counts g c = c.execute.ensures.counts

@@ -1,9 +1,9 @@
-use Rattle.std.proofs.Common.{◌∙◌, Bool, List, subst}
-use Rattle.std.specs.Prelude.{IfOk}
-use Rattle.gms_check.specs.declared.error.CompileError.{CompileError}
-use Rattle.gms_run.specs.InnerReports.{ListsErrors, script_in}
+use Rattle.std.proofs.Common.{◌∙◌, map}
+use Rattle.gms_run.specs.InnerReports.{script_in}
+use Rattle.gms_run.specs.Scripts.{errors_of}
+use Rattle.gms_run.proofs.Reports.{lists_each}
 use Rattle.gms_run.proofs.report.has_errors.Goals as goal
 
 pub returns : goal.returns
 returns g c =
-    subst (λ (errors : List CompileError). IfOk c.list_errors.result (λ (some : Bool). ListsErrors some errors (script_in c.args.script) c.args.listing.now c.list_errors.new.listing)) (c.as_slice.ensures.value ∙ c.in_ok-errors.ensures) c.list_errors.ensures
+    lists_each c.list_errors.result c.as_slice.result.now (λ state. errors_of (script_in c.args.script state).saved c.args.script.line c.args.program.now (map (λ b. (goal.LpSolver-dyn g (b.vtable, b.value)).name b.value) c.args.solvers.now)) (script_in c.args.script) c.args.listing.now c.list_errors.new.listing (λ state. c.as_slice.ensures.value ∙ c.in_ok-errors.ensures state) c.list_errors.ensures

@@ -7,11 +7,11 @@ use Rattle.gms_run.proofs.report.refused.Goals as goal
 use Rattle.gms_run.proofs.report.refused.Goals.{then-has_echo+in_ok-echo_from, else-has_echo}
 
 pub returns-clause-text : goal.returns-clause-text
-returns-clause-text c =
+returns-clause-text c = λ state.
     let old = c.args.outlet.now.listing in
-    let echoed : c.if-has_echo.outlet.listing ≡ old ++ echo_with c.args.fault.error (script_in c.args.script) =
+    let echoed : c.if-has_echo.outlet.listing ≡ old ++ echo_with c.args.fault.error (script_in c.args.script state) =
     elim c.if-has_echo.branch [
-      | then-has_echo+in_ok-echo_from w ↦ ap (λ (o : Outlet). o.listing) w.outlet-is ∙ w.in_ok-echo_from.ensures ∙ ap (λ t. old ++ t) (sym (echo_there c.args.fault.error (script_in c.args.script) (sym w.if-has_echo.ensures)))
-      | else-has_echo w ↦ ap (λ (o : Outlet). o.listing) w.outlet-is ∙ sym (append-nil old) ∙ ap (λ t. old ++ t) (sym (echo_nowhere c.args.fault.error (script_in c.args.script) (sym w.if-has_echo.ensures)))
+      | then-has_echo+in_ok-echo_from w ↦ ap (λ (o : Outlet). o.listing) w.outlet-is ∙ w.in_ok-echo_from.ensures ∙ ap (λ t. old ++ t) (sym (echo_there c.args.fault.error (script_in c.args.script state) (sym w.if-has_echo.ensures)))
+      | else-has_echo w ↦ ap (λ (o : Outlet). o.listing) w.outlet-is ∙ sym (append-nil old) ∙ ap (λ t. old ++ t) (sym (echo_nowhere c.args.fault.error (script_in c.args.script state) (sym w.if-has_echo.ensures)))
     ] in
     two_behind old _ _ _ _ echoed c.in_ok-source_fault.ensures

@@ -38,7 +38,7 @@ returns-in_err-status-clause-counts g c =
 pub returns-in_err-end-clause-outside : goal.returns-in_err-end-clause-outside
 returns-in_err-end-clause-outside g c =
     let p = err_from_is_err_and c.from_residual-in_err-end.result c.from_residual-in_err-end.ensures.1 in
-    rw (p.1, p.2) (comes_err _ _ c.in_err-end.field-0.0 (front_ended c.in_ok-status.status (solving (λ b. (goal.LpSolver-dyn g (b.vtable, b.value)).name b.value) (λ b. (goal.LpSolver-dyn g (b.vtable, b.value)).rule b.value) (λ b. (goal.LpSolver-dyn g (b.vtable, b.value)).paths b.value) c.args.solvers.now.items c.listed.new.solvers.items c.listed.new.answers.items) (g.H.Host.meaning c.args.host.now).outside (g.H.Host.meaning c.listed.new.host).outside (g.H.Host.meaning c.end.new.host).outside (matter_in c.args.matter) (c.listed.new.outlet.spool ++ c.listed.new.outlet.listing) c.len.result (counted c.listed.new.answers c.len.result c.len.ensures) c.in_ok-status.ensures.outside) c.in_err-end.ensures.outside)
+    rw (p.1, p.2) (comes_err _ _ c.in_err-end.field-0.0 (front_ended c.in_ok-status.status (solving (λ b. (goal.LpSolver-dyn g (b.vtable, b.value)).name b.value) (λ b. (goal.LpSolver-dyn g (b.vtable, b.value)).rule b.value) (λ b. (goal.LpSolver-dyn g (b.vtable, b.value)).paths b.value) c.args.solvers.now.items c.listed.new.solvers.items c.listed.new.answers.items) (g.H.Host.meaning c.args.host.now).outside (g.H.Host.meaning c.listed.new.host).outside (g.H.Host.meaning c.end.new.host).outside (matter_in c.args.matter c.args.run.now.store) (c.listed.new.outlet.spool ++ c.listed.new.outlet.listing) c.len.result (counted c.listed.new.answers c.len.result c.len.ensures) c.in_ok-status.ensures.outside) c.in_err-end.ensures.outside)
 
 pub returns-in_err-end-clause-counts : goal.returns-in_err-end-clause-counts
 returns-in_err-end-clause-counts g c =
@@ -47,7 +47,7 @@ returns-in_err-end-clause-counts g c =
 
 pub returns-clause-outside : goal.returns-clause-outside
 returns-clause-outside g c =
-    lists_ended c.in_ok-status.status (solving (λ b. (goal.LpSolver-dyn g (b.vtable, b.value)).name b.value) (λ b. (goal.LpSolver-dyn g (b.vtable, b.value)).rule b.value) (λ b. (goal.LpSolver-dyn g (b.vtable, b.value)).paths b.value) c.args.solvers.now.items c.listed.new.solvers.items c.listed.new.answers.items) (g.H.Host.meaning c.args.host.now).outside (g.H.Host.meaning c.listed.new.host).outside (g.H.Host.meaning c.end.new.host).outside (matter_in c.args.matter) (c.listed.new.outlet.spool ++ c.listed.new.outlet.listing) c.len.result (counted c.listed.new.answers c.len.result c.len.ensures) c.in_ok-status.ensures.outside c.in_ok-end.ensures.outside
+    lists_ended c.in_ok-status.status (solving (λ b. (goal.LpSolver-dyn g (b.vtable, b.value)).name b.value) (λ b. (goal.LpSolver-dyn g (b.vtable, b.value)).rule b.value) (λ b. (goal.LpSolver-dyn g (b.vtable, b.value)).paths b.value) c.args.solvers.now.items c.listed.new.solvers.items c.listed.new.answers.items) (g.H.Host.meaning c.args.host.now).outside (g.H.Host.meaning c.listed.new.host).outside (g.H.Host.meaning c.end.new.host).outside (matter_in c.args.matter c.args.run.now.store) (c.listed.new.outlet.spool ++ c.listed.new.outlet.listing) c.len.result (counted c.listed.new.answers c.len.result c.len.ensures) c.in_ok-status.ensures.outside c.in_ok-end.ensures.outside
 
 pub returns-clause-counts : goal.returns-clause-counts
 returns-clause-counts g c = writing_more _ c.in_ok-status.ensures.counts (writing_done _ _ c.in_ok-end.ensures.counts)

@@ -1,12 +1,14 @@
 -- What was restored goes on, and of what was not it is listed why.
-use Rattle.std.proofs.Common.{◌≡◌, ◌<◌, ◌^◌, length, map, List, ℕ, ap, subst, sym}
+use Rattle.std.proofs.Common.{◌≡◌, ◌<◌, ◌^◌, length, map, List, ℕ, ap, refl, subst, sym}
 use Rattle.std.proofs.lemmas.List.{length-map}
 use Rattle.gms_save.specs.Saves.{IsRestored}
 use Rattle.gms_words.specs.CommandLine.{asked_by}
-use Rattle.gms_run.specs.Scripts.{IsUnrestored}
+use Rattle.gms_run.specs.declared.script.Matter.TheVariants.{Unrestored}
+use Rattle.gms_run.specs.InnerReports.{matter_in}
+use Rattle.gms_run.specs.Scripts.{IsUnrestored, unrestored}
 use Rattle.gms_run.specs.Solving.{solving}
 use Rattle.gms_run.proofs.Going.{can_go_on}
-use Rattle.gms_run.proofs.Runs.{counts_nothing, of_joint, of_unrestored}
+use Rattle.gms_run.proofs.Runs.{counts_nothing, of_joint, of_unrestored, ran_anew}
 use Rattle.gms_run.proofs.top_call.run_save.Goals as goal
 
 pub restored-requires : goal.restored-requires
@@ -18,17 +20,20 @@ run_joint-requires-clause-short g c = c.in-Ok.ensures.answer.1.is_save.is_progra
 pub run_joint-requires-clause-sound : goal.run_joint-requires-clause-sound
 run_joint-requires-clause-sound g c =
     let names : map (λ b. (goal.LpSolver-dyn g (b.vtable, b.value)).name b.value) c.as_slice.result.now ≡ map (λ b. (goal.LpSolver-dyn g (b.vtable, b.value)).name b.value) c.args.solvers.now.items = ap (map (λ b. (goal.LpSolver-dyn g (b.vtable, b.value)).name b.value)) c.as_slice.ensures.value in
-    can_go_on (map (λ b. (goal.LpSolver-dyn g (b.vtable, b.value)).name b.value) c.args.solvers.now.items) (length c.args.solvers.now.items) c.args.save.now c.in-Ok.saved (sym (length-map c.args.solvers.now.items (λ b. (goal.LpSolver-dyn g (b.vtable, b.value)).name b.value))) (subst (λ (ns : List (List ℕ)). IsRestored ns c.args.save.now c.in-Ok.saved) names c.in-Ok.ensures.answer.1)
+    can_go_on (map (λ b. (goal.LpSolver-dyn g (b.vtable, b.value)).name b.value) c.args.solvers.now.items) (length c.args.solvers.now.items) c.args.save.items c.in-Ok.saved (sym (length-map c.args.solvers.now.items (λ b. (goal.LpSolver-dyn g (b.vtable, b.value)).name b.value))) (subst (λ (ns : List (List ℕ)). IsRestored ns c.args.save.items c.in-Ok.saved) names c.in-Ok.ensures.answer.1) c.args.file.now
 
 pub returns-in-Ok-clause-ran : goal.returns-in-Ok-clause-ran
 returns-in-Ok-clause-ran g c =
     let names : map (λ b. (goal.LpSolver-dyn g (b.vtable, b.value)).name b.value) c.as_slice.result.now ≡ map (λ b. (goal.LpSolver-dyn g (b.vtable, b.value)).name b.value) c.args.solvers.now.items = ap (map (λ b. (goal.LpSolver-dyn g (b.vtable, b.value)).name b.value)) c.as_slice.ensures.value in
-    of_joint c.run_joint.result (solving (λ b. (goal.LpSolver-dyn g (b.vtable, b.value)).name b.value) (λ b. (goal.LpSolver-dyn g (b.vtable, b.value)).rule b.value) (λ b. (goal.LpSolver-dyn g (b.vtable, b.value)).paths b.value) c.args.solvers.now.items c.run_joint.new.solvers.items c.run_joint.new.answers.items) (g.H.Host.meaning c.args.host.now).outside (g.H.Host.meaning c.run_joint.new.host).outside (asked_by c.args.request) c.args.save.now c.args.file.now c.in-Ok.saved c.in-Ok.ensures.answer.0 (subst (λ (ns : List (List ℕ)). IsRestored ns c.args.save.now c.in-Ok.saved) names c.in-Ok.ensures.answer.1) c.run_joint.ensures.ran
+    of_joint c.run_joint.result (solving (λ b. (goal.LpSolver-dyn g (b.vtable, b.value)).name b.value) (λ b. (goal.LpSolver-dyn g (b.vtable, b.value)).rule b.value) (λ b. (goal.LpSolver-dyn g (b.vtable, b.value)).paths b.value) c.args.solvers.now.items c.run_joint.new.solvers.items c.run_joint.new.answers.items) (g.H.Host.meaning c.args.host.now).outside (g.H.Host.meaning c.run_joint.new.host).outside (asked_by c.args.request) c.args.save.items c.args.file.now c.in-Ok.saved c.in-Ok.ensures.answer.0 (subst (λ (ns : List (List ℕ)). IsRestored ns c.args.save.items c.in-Ok.saved) names c.in-Ok.ensures.answer.1) c.run_joint.ensures.ran
+
+pub run_anew-requires-clause-sound : goal.run_anew-requires-clause-sound
+run_anew-requires-clause-sound g c = λ state. tt
 
 pub returns-in-Err-Fault-clause-ran : goal.returns-in-Err-Fault-clause-ran
 returns-in-Err-Fault-clause-ran g c =
     let names : map (λ b. (goal.LpSolver-dyn g (b.vtable, b.value)).name b.value) c.as_slice.result.now ≡ map (λ b. (goal.LpSolver-dyn g (b.vtable, b.value)).name b.value) c.args.solvers.now.items = ap (map (λ b. (goal.LpSolver-dyn g (b.vtable, b.value)).name b.value)) c.as_slice.ensures.value in
-    of_unrestored c.run_matter.result (solving (λ b. (goal.LpSolver-dyn g (b.vtable, b.value)).name b.value) (λ b. (goal.LpSolver-dyn g (b.vtable, b.value)).rule b.value) (λ b. (goal.LpSolver-dyn g (b.vtable, b.value)).paths b.value) c.args.solvers.now.items c.run_matter.new.solvers.items c.run_matter.new.answers.items) (g.H.Host.meaning c.args.host.now).outside (g.H.Host.meaning c.run_matter.new.host).outside (asked_by c.args.request) c.args.save.now c.args.file.now c.in-Err-Fault.fault (subst (λ (ns : List (List ℕ)). IsUnrestored ns c.args.save.now c.in-Err-Fault.fault) names (record { answer = rw c.in-Err-Fault.field-0-is at c.in-Err-Fault.ensures.answer; back = rw c.in-Err-Fault.field-0-is at c.in-Err-Fault.ensures.back })) c.run_matter.ensures.ran
+    of_unrestored c.run_anew.result (solving (λ b. (goal.LpSolver-dyn g (b.vtable, b.value)).name b.value) (λ b. (goal.LpSolver-dyn g (b.vtable, b.value)).rule b.value) (λ b. (goal.LpSolver-dyn g (b.vtable, b.value)).paths b.value) c.args.solvers.now.items c.run_anew.new.solvers.items c.run_anew.new.answers.items) (g.H.Host.meaning c.args.host.now).outside (g.H.Host.meaning c.run_anew.new.host).outside (asked_by c.args.request) c.args.save.items c.args.file.now c.in-Err-Fault.fault (subst (λ (ns : List (List ℕ)). IsUnrestored ns c.args.save.items c.in-Err-Fault.fault) names (record { answer = rw c.in-Err-Fault.field-0-is at c.in-Err-Fault.ensures.answer; back = rw c.in-Err-Fault.field-0-is at c.in-Err-Fault.ensures.back })) (ran_anew c.run_anew.result (solving (λ b. (goal.LpSolver-dyn g (b.vtable, b.value)).name b.value) (λ b. (goal.LpSolver-dyn g (b.vtable, b.value)).rule b.value) (λ b. (goal.LpSolver-dyn g (b.vtable, b.value)).paths b.value) c.args.solvers.now.items c.run_anew.new.solvers.items c.run_anew.new.answers.items) (g.H.Host.meaning c.args.host.now).outside (g.H.Host.meaning c.run_anew.new.host).outside (asked_by c.args.request) (matter_in (Unrestored c.in-Err-Fault.fault)) (unrestored c.in-Err-Fault.fault) (λ state. refl) c.run_anew.ensures.ran)
 
 pub returns-in-Err-Memory-clause-counts : goal.returns-in-Err-Memory-clause-counts
 returns-in-Err-Memory-clause-counts g c = counts_nothing _ _ _

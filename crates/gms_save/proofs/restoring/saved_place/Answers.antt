@@ -5,10 +5,10 @@ not_both : (b : Bool) → b ≡ true → b ≡ false → ⊥
 not_both b e f = absurd cc
 
 pub returns-then-not-branch : goal.returns-then-not-branch
-returns-then-not-branch c = λ is. not_both c.in_ok-is_text.field-0 (c.in_ok-is_text.ensures.1 is) c.if-not-branch.true
+returns-then-not-branch c = λ is. not_both c.in_ok-is_text_of.field-0 (c.in_ok-is_text_of.ensures.1 is) c.if-not-branch.true
 
 pub returns-in-Some : goal.returns-in-Some
-returns-in-Some c = (c.in_ok-is_text.ensures.0 c.if-not-branch.false, sym c.in-Some.ensures)
+returns-in-Some c = (c.in_ok-is_text_of.ensures.0 c.if-not-branch.false, sym c.in-Some.ensures)
 
 pub returns-in-None : goal.returns-in-None
-returns-in-None c = (c.in_ok-is_text.ensures.0 c.if-not-branch.false, sym c.in-None.ensures)
+returns-in-None c = (c.in_ok-is_text_of.ensures.0 c.if-not-branch.false, sym c.in-None.ensures)

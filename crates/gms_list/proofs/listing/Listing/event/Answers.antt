@@ -7,10 +7,11 @@ use Rattle.gq_frac.specs.declared.frac.Frac.{Frac}
 use Rattle.gq_frac.specs.Frac.{frac_value}
 use Rattle.lp_core.specs.declared.answer.Answer.{Answer}
 use Rattle.lp_core.specs.Numbers.{answer_numbers}
+use Rattle.gms_eval.specs.Gives.{shown_by}
 use Rattle.gms_event.specs.declared.event.Shown.{Shown}
 use Rattle.gms_event.specs.EventView.{event_in, shown_in}
 use Rattle.gms_list.specs.Conditions.{IsListable, IsListableSolve, IsProved}
-use Rattle.gms_list.specs.ListingText.{event_text, items_text}
+use Rattle.gms_list.specs.ListingText.{event_text, items_text, stop_text}
 use Rattle.gms_list.proofs.Walks.{reshaped}
 use Rattle.gms_list.proofs.EventTexts.{solve_shown, solve_missing, holds_of}
 use Rattle.gms_list.proofs.listing.Listing.event.Goals as goal
@@ -52,7 +53,8 @@ returns-in-Abort c =
 pub returns-in-Fault : goal.returns-in-Fault
 returns-in-Fault c =
     reshaped _ _ _ _ c.push_stop.result
-    (ap (λ e. event_text c.args.p.now.names c.args.p.now.labels (2 ^ 127 - 1) (map (answer_numbers frac_value) c.args.answers.now) (event_in frac_value e)) (sym c.in-Fault.is))
+    (ap (λ stop. stop_text c.args.p.now.names c.args.p.now.labels (shown_by frac_value stop)) c.deref.ensures
+    ∙ ap (λ e. event_text c.args.p.now.names c.args.p.now.labels (2 ^ 127 - 1) (map (answer_numbers frac_value) c.args.answers.now) (event_in frac_value e)) (sym c.in-Fault.is))
     c.push_stop.ensures
 
 pub returns-in-Some : goal.returns-in-Some

@@ -21,9 +21,9 @@ remark-requires g c =
     (ends_answered _ _ (solving (λ b. (goal.LpSolver-dyn g (b.vtable, b.value)).name b.value) (λ b. (goal.LpSolver-dyn g (b.vtable, b.value)).rule b.value) (λ b. (goal.LpSolver-dyn g (b.vtable, b.value)).paths b.value) c.args.solvers.now.items c.statements.new.solvers.items c.statements.new.answers.items) _ _ c.in_ok-status.ensures.outside.ends)
 
 pub returns-in_err-status-clause-outside : goal.returns-in_err-status-clause-outside
-returns-in_err-status-clause-outside g c =
+returns-in_err-status-clause-outside g c state =
     let p = err_from_is_err_and c.from_residual.result c.from_residual.ensures.1 in
-    rw (p.1, p.2, ← c.statements_of.ensures) (comes_err _ _ c.in_err-status.field-0.0 (λ u. u) c.in_err-status.ensures.outside)
+    rw (p.1, p.2, ← c.statements_of.ensures state) (comes_err _ _ c.in_err-status.field-0.0 (λ u. u) c.in_err-status.ensures.outside)
 
 pub returns-in_err-status-clause-counts : goal.returns-in_err-status-clause-counts
 returns-in_err-status-clause-counts g c =
@@ -31,7 +31,7 @@ returns-in_err-status-clause-counts g c =
     rw (p.1, p.2) (writing_err c.in_err-status.field-0.0 c.in_err-status.ensures.counts)
 
 pub returns-in_err-text-clause-outside : goal.returns-in_err-text-clause-outside
-returns-in_err-text-clause-outside g c =
+returns-in_err-text-clause-outside g c state =
     let p = err_from_is_err_and c.from_residual-in_err-text.result c.from_residual-in_err-text.ensures.1 in
     rw (p.1, p.2) tt
 
@@ -41,7 +41,7 @@ returns-in_err-text-clause-counts g c =
     rw (p.1, p.2) (writing_more _ c.in_ok-status.ensures.counts (writing_memory _ _))
 
 pub returns-in_err-save-clause-outside : goal.returns-in_err-save-clause-outside
-returns-in_err-save-clause-outside g c =
+returns-in_err-save-clause-outside g c state =
     let p = err_from_is_err_and c.from_residual-in_err-save.result c.from_residual-in_err-save.ensures.1 in
     rw (p.1, p.2) tt
 
@@ -51,7 +51,7 @@ returns-in_err-save-clause-counts g c =
     rw (p.1, p.2) (writing_more _ c.in_ok-status.ensures.counts (writing_memory _ _))
 
 pub returns-clause-outside : goal.returns-clause-outside
-returns-clause-outside g c = rw (← c.statements_of.ensures) c.in_ok-status.ensures.outside
+returns-clause-outside g c state = rw (← c.statements_of.ensures state) c.in_ok-status.ensures.outside
 
 pub returns-clause-told : goal.returns-clause-told
 returns-clause-told g c =

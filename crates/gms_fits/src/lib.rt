@@ -1,0 +1,6 @@
+//! Beside floor 7. A saved state fits each joint program of its source.
+#![tactic(auto)]
+
+mod laws;
+
+pub use laws::fits_laws;

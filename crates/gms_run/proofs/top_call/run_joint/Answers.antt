@@ -1,0 +1,19 @@
+-- What was saved stands in the run, behind its source.
+use Rattle.std.proofs.Common.{◌∙◌, List, ap, length, subst, sym, ℕ}
+use Rattle.gms_store.specs.State.{State}
+use Rattle.gms_words.specs.CommandLine.{asked_by}
+use Rattle.gms_run.specs.InnerReports.{CanGoOn}
+use Rattle.gms_run.specs.Scripts.{first_line, joint_source}
+use Rattle.gms_run.specs.Solving.{solving}
+use Rattle.gms_run.proofs.Runs.{ran_joint}
+use Rattle.gms_run.proofs.top_call.run_joint.Goals as goal
+
+pub run_matter-requires-clause-sound : goal.run_matter-requires-clause-sound
+run_matter-requires-clause-sound g c =
+    subst (λ (t : List ℕ). CanGoOn (length c.args.solvers.now.items) t c.swap.new.x) (sym (c.as_slice-3.ensures.value ∙ c.in_ok-source.ensures ∙ ap (λ (t : List ℕ). joint_source t c.args.file.now) c.as_slice.ensures.value))
+    (subst (λ (s : State). CanGoOn (length c.args.solvers.now.items) (joint_source c.args.saved.now.source.items c.args.file.now) s) (sym c.swap.ensures.x_after) c.requires.sound)
+
+pub returns-clause-ran : goal.returns-clause-ran
+returns-clause-ran g c =
+    ran_joint c.run_matter.result (solving (λ b. (goal.LpSolver-dyn g (b.vtable, b.value)).name b.value) (λ b. (goal.LpSolver-dyn g (b.vtable, b.value)).rule b.value) (λ b. (goal.LpSolver-dyn g (b.vtable, b.value)).paths b.value) c.args.solvers.now.items c.run_matter.new.solvers.items c.run_matter.new.answers.items) (g.H.Host.meaning c.args.host.now).outside (g.H.Host.meaning c.run_matter.new.host).outside (asked_by c.args.request) c.as_slice-3.result.now c.args.file.now c.args.saved.now.source.items c.first_line-line.result c.swap.new.x c.args.saved.now.store
+    (c.as_slice-3.ensures.value ∙ c.in_ok-source.ensures ∙ ap (λ (t : List ℕ). joint_source t c.args.file.now) c.as_slice.ensures.value) (c.first_line-line.ensures ∙ ap first_line c.as_slice-2.ensures.value) c.swap.ensures.x_after c.run_matter.ensures.ran

@@ -1,0 +1,3 @@
+pub mod TokenLines
+pub mod OwnNames
+pub mod Sequel

@@ -1,0 +1,5 @@
+pub mod SeenRows
+pub mod SeenRuns
+pub mod NewTypes
+pub mod Studied
+pub mod Whole

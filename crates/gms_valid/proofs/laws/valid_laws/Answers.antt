@@ -1,0 +1,25 @@
+use Rattle.std.proofs.Common.{length}
+use Rattle.gms_valid.specs.LastStates.{last_state}
+use Rattle.gms_valid.proofs.OwnLoaded.{has-its-labels}
+use Rattle.gms_valid.proofs.Runs.{kept-stand}
+use Rattle.gms_valid.proofs.LastSaves.{last-saved}
+use Rattle.gms_valid.proofs.Saved.{kept-saved, state-kept}
+use Rattle.gms_valid.proofs.laws.valid_laws.Goals as goal
+
+pub returns-clause-stand : goal.returns-clause-stand
+returns-clause-stand g c world answers name accepted own =
+    let v = g.F.ExactField.value in
+    let limit = g.F.ExactField.limit in
+    kept-stand v world.program accepted (length world.program.labels) (last_state v limit world answers) (state-kept v limit world accepted own answers) name
+
+pub returns-clause-saved : goal.returns-clause-saved
+returns-clause-saved g c world answers most solver accepted own fit named =
+    let v = g.F.ExactField.value in
+    let limit = g.F.ExactField.limit in
+    kept-saved v world.program accepted (last_state v limit world answers) (state-kept v limit world accepted own answers) most solver fit named
+
+pub returns-clause-own : goal.returns-clause-own
+returns-clause-own g c limit source program is = has-its-labels limit source program is
+
+pub returns-clause-last : goal.returns-clause-last
+returns-clause-last g c limit source world answers solver is none fit named = last-saved limit source world answers solver is none fit named

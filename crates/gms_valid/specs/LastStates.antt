@@ -1,0 +1,24 @@
+-- The state in which the run of a program ends (GAMS User's Guide, "GAMS Programs", "Save and Restart").
+use Rattle.std.specs.Prelude.{◌≡◌, ◌≤◌, ◌++◌, ℕ, List, flat_map, length}
+use Rattle.gq_number.specs.Number.{Number}
+use Rattle.gms_ast.specs.declared.program.Program.{Program}
+use Rattle.gms_ast.specs.declared.program.Stmt.{Stmt}
+use Rattle.gms_store.specs.State.{State}
+use Rattle.gms_known.specs.DynamicSets.{assigned}
+use Rattle.gms_check.specs.Loaded.{loaded}
+use Rattle.gms_exec.specs.Run.{World, run_from}
+use Rattle.gms_frames.specs.Agreeing.{HasAll}
+use Rattle.lp_core.specs.declared.answer.Answer.{Answer}
+
+-- the last state of the run of a program from its first state, with these answers
+abbrev pub last_state : {F : Type 0} → (F → Number) → ℕ → World F → List (Answer Number) → State
+last_state value limit world answers =
+    (run_from value limit world (loaded value world.program) answers world.program.statements.items).state
+
+-- A program goes on behind a saved one: its first statements assign the sets that those of the saved one assign, it has at least the labels of that, and
+-- it begins with all that the saved one begins with.
+pub record GoesOnBehind {F : Type 0} (value : F → Number) (saved whole : Program F) (firsts others : List (Stmt F)) : Type 0 where
+  pub statements : whole.statements.items ≡ firsts ++ others
+  pub assigns : flat_map assigned firsts ≡ flat_map assigned saved.statements.items
+  pub labels : length saved.labels ≤ length whole.labels
+  pub has_all : HasAll (loaded value whole) (loaded value saved)

@@ -1,0 +1,6 @@
+//! Floor 5, the run. The last state of a run is one that a save restores.
+#![tactic(auto)]
+
+mod laws;
+
+pub use laws::valid_laws;
