@@ -3,16 +3,13 @@ ghost use Rattle.std.specs.Prelude.{◌≡◌};
 ghost use Rattle.gms_labels.specs.declared.fault.LabelFault.TheVariants.{Memory};
 
 use std::alloc::{AllocError, AllocFailed};
-use thiserror::Error;
 
 /// Why a text was not entered in a table of labels.
-#[derive(Clone, Copy, Debug, PartialEq, Eq, Error)]
+#[derive(Clone, Copy)]
 pub enum LabelFault {
     /// The text is new, and the table has as many labels as a table may have.
-    #[error("the table of labels is full")]
     Full,
     /// A growth found no memory.
-    #[error("out of memory")]
     Memory,
 }
 

@@ -11,6 +11,7 @@ pub mod TableLemmas
 pub mod FrontLemmas
 pub mod NumberLemmas
 pub mod SymbolLemmas
+pub mod LongestTexts
 pub mod LongestLemmas
 pub mod ApartLemmas
 pub mod UnquotedLemmas

@@ -1,9 +1,8 @@
 -- What stands first in a text is the longest token, or text, that the mode allows there.
-use Rattle.std.proofs.Common.{◌≡◌, ◌⊎◌, inl, inr, ℕ, zero, suc, ◌+◌, ◌==◌, ◌<◌, ◌≤◌, ◌&&◌, ◌||◌, Bool, true, false, not, nat_lt, nat_le, if◌then◌else◌, List, [], ◌∷◌, ◌++◌, length, take, drop, Option, Some, None, option_map, find, Ok, Err, refl, sym, ap, ◌∙◌, subst, arith, append_assoc, length-append}
+use Rattle.std.proofs.Common.{◌≡◌, ◌⊎◌, inl, inr, ℕ, zero, suc, ◌+◌, ◌==◌, ◌<◌, ◌≤◌, ◌&&◌, ◌||◌, Bool, true, false, not, nat_lt, nat_le, if◌then◌else◌, List, [], ◌∷◌, ◌++◌, length, take, drop, Ok, Err, refl, sym, ap, ◌∙◌, subst, arith, length-append, length-take}
 use Rattle.std.proofs.lemmas.Bool.Decides.{nat_tests}
-use Rattle.std.proofs.lemmas.List.{length-take-le, take-append-drop}
-use Rattle.std.proofs.lemmas.List.Folds.{length-prefix_len}
-use Rattle.std.proofs.Math.Seq.{take-add}
+use Rattle.std.proofs.lemmas.List.{length-take-le}
+use Rattle.std.proofs.lemmas.List.Sums.{prefix_len-le-length}
 use Rattle.std.specs.List.{prefix_len, list_all}
 use Rattle.std.specs.Char.{is_ascii_alphabetic, is_ascii_alphanumeric, is_ascii_digit}
 use Rattle.gms_lines.specs.Lines.{begins, before, is_blank, is_line_end, content}
@@ -14,12 +13,12 @@ use Rattle.gms_lexemes.specs.declared.kind.Sym.{Sym}
 use Rattle.gms_lexemes.specs.declared.lexeme.Piece.{Piece}
 use Rattle.gms_lexemes.specs.declared.lexeme.Piece.TheVariants.{Gap, LineEnd, Remark, Token}
 use Rattle.gms_lexemes.specs.declared.lexeme.Lexeme.{Lexeme}
-use Rattle.gms_lexemes.specs.Bytes.{is_name_byte, is_label_byte, is_quote, is_text_byte, is_plain}
+use Rattle.gms_lexemes.specs.declared.lexeme.Misread.{Misread}
+use Rattle.gms_lexemes.specs.Bytes.{is_name_byte, is_label_byte, is_quote, is_plain}
 use Rattle.gms_lexemes.specs.Numbers.{begins_dot, begins_number, number_length}
-use Rattle.gms_lexemes.specs.Symbols.{written, symbols, begins_with, symbol_at}
-use Rattle.gms_lexemes.specs.Shapes.{Read, longest_label, bounded, symbol_of, symbol, quoted_length, is_closed, is_label, quoted, code_token, label_token, remark}
+use Rattle.gms_lexemes.specs.Shapes.{Read, longest_label, bounded, symbol, code_token, label_token, remark}
 use Rattle.gms_lexemes.specs.TableLines.{table_bytes, table_line}
-use Rattle.gms_lexemes.proofs.WithinLemmas.{run_within}
+use Rattle.gms_lexemes.proofs.WithinLemmas.{run_within, table_bytes_le}
 use Rattle.gms_lex.specs.declared.keyword.Shape.{Shape}
 use Rattle.gms_lex.specs.declared.keyword.Shape.TheVariants.{Set, Parameter, Scalar, Model}
 use Rattle.gms_lex.specs.declared.mode.Stage.{Stage}
@@ -30,29 +29,15 @@ use Rattle.gms_lex.specs.declared.mode.LineEnds.{LineEnds}
 use Rattle.gms_lex.specs.declared.mode.LineEnds.TheVariants.{Skipped, EndItem, EndElement}
 use Rattle.gms_lex.specs.Keywords.{begins_statement}
 use Rattle.gms_lex.specs.Pieces.{passes, ends_or_begins, begins_other, space_length, line_end_length, line_ends, line_end, is_item_mark, is_element_mark, element_tail, behind_label, in_list, token_at, table_piece, plain_piece, piece_at}
-use Rattle.gms_lex.specs.Spellings.{IsWord, IsLabel, IsQuoted, IsUnquotedText, IsText, IsSymbol, IsNumber}
-use Rattle.gms_lex.specs.Longest.{IsCode, IsElement, IsMarkOrText, IsValue, IsBehindElement, IsListed, IsOfTable, IsAllowed, has_text, IsLongest}
+use Rattle.gms_lex.specs.Spellings.{IsWord, IsLabel, IsQuoted, IsText, IsSymbol, IsNumber}
+use Rattle.gms_lex.specs.Longest.{IsCode, IsElement, IsMarkOrText, IsValue, IsBehindElement, IsListed, IsOfTable, IsAllowed, has_text, IsLongest, IsRefused}
 use Rattle.gms_lex.specs.Apart.{is_space, IsOneLineEnd}
-use Rattle.gms_lex.proofs.FrontLemmas.{both_true, and_true, not_both, front_most, front_all, run_over, begins_take, begins_front, begins_apart}
+use Rattle.gms_lex.proofs.FrontLemmas.{both_true, and_true, not_both, front_most, front_all, begins_take, begins_front, begins_apart}
 use Rattle.gms_lex.proofs.NumberLemmas.{number_most, number_begins, number_positive, number_spelled}
-use Rattle.gms_lex.proofs.SymbolLemmas.{is_outside, symbol_length, symbol_outside, point_symbol, IsFirstSymbol, found_first}
-
--- what is allowed at the front of a text: a piece of so many bytes
-abbrev pub Allowing : Type 1
-Allowing = Piece → ℕ → Type 0
-
--- a piece is allowed, and none that is allowed is longer
-abbrev pub IsMost : Allowing → List ℕ → Lexeme → Type 0
-IsMost allowed text p = allowed p.piece p.length × ((other : Piece) (n : ℕ) → n ≤ length text → allowed other n → n ≤ p.length)
-
--- a piece that is read is so
-abbrev IsLongestRead : Allowing → List ℕ → Read → Type 0
-IsLongestRead allowed text (Ok p) = IsMost allowed text p
-IsLongestRead allowed text (Err m) = Unit {0}
-
-if_longest : (allowed : Allowing) (text : List ℕ) (b : Bool) (x y : Read) → (b ≡ true → IsLongestRead allowed text x) → (b ≡ false → IsLongestRead allowed text y) → IsLongestRead allowed text (if b then x else y)
-if_longest allowed text true x y p q = p refl
-if_longest allowed text false x y p q = q refl
+use Rattle.gms_lex.specs.TokenTexts.{unquoted}
+use Rattle.gms_lex.proofs.UnquotedLemmas.{unquoted_same}
+use Rattle.gms_lex.proofs.SymbolLemmas.{is_outside, symbol_outside, point_symbol}
+use Rattle.gms_lex.proofs.LongestTexts.{Allowing, IsMost, IsRefusedBy, IsLongestRead, if_longest, quoted_begins, not_true, bad_byte, quoted_longest, symbol_longest, symbol_front, remark_longest}
 
 -- ---- bytes of two kinds
 
@@ -115,108 +100,6 @@ number_apart test text digit dot h number = elim (number_front text number) [
   | inr both ↦ begins_apart test (λ b. b == 46) text dot h both.1
 ]
 
--- ---- quoted tokens and texts
-
-quoted_begins : (n : ℕ) (text : List ℕ) → IsQuoted (take n text) → begins is_quote text ≡ true
-quoted_begins n text h = begins_front is_quote n text (ap (begins is_quote) h.spelled ∙ h.quotes)
-
-same_front : (a b : ℕ) (xs ys : List ℕ) → a ∷ xs ≡ b ∷ ys → (a ≡ b) × (xs ≡ ys)
-same_front a b xs ys e = (cc, cc)
-
--- what is quoted between a mark and its next
-inner_most : (mark n : ℕ) (text inner : List ℕ) → n ≤ length text → list_all (λ b. not (b == mark || b == 10)) inner ≡ true → take n text ≡ inner ++ mark ∷ [] → n ≤ quoted_length mark text + 1
-inner_most mark n text inner le free spelled =
-    let long : n ≡ length inner + 1 = omega (arith, ap length spelled, length-append inner (mark ∷ []), length-take-le n text le) in
-    let same : inner ++ ((mark ∷ []) ++ drop n text) ≡ text = sym (append_assoc inner (mark ∷ []) (drop n text)) ∙ ap (λ t. t ++ drop n text) (sym spelled) ∙ take-append-drop n text in
-    let run : quoted_length mark (inner ++ ((mark ∷ []) ++ drop n text)) ≡ length inner + quoted_length mark ((mark ∷ []) ++ drop n text) = run_over (λ b. not (b == mark || b == 10)) inner ((mark ∷ []) ++ drop n text) free in
-    omega (arith, long, run, ap (quoted_length mark) same)
-
-quoted_most : (mark n : ℕ) (text : List ℕ) → n ≤ length (mark ∷ text) → IsQuoted (take n (mark ∷ text)) → n ≤ quoted_length mark text + 2
-quoted_most mark zero text le h = omega arith
-quoted_most mark (suc n) text le h =
-    let same = same_front mark h.mark (take n text) (h.inner ++ h.mark ∷ []) h.spelled in
-    let free : list_all (λ b. not (b == mark || b == 10)) h.inner ≡ true = subst (λ m. list_all (λ b. not (b == m || b == 10)) h.inner ≡ true) (sym same.0) h.free in
-    let spelled : take n text ≡ h.inner ++ mark ∷ [] = same.1 ∙ ap (λ m. h.inner ++ m ∷ []) (sym same.0) in
-    omega (arith, inner_most mark n text h.inner (omega arith) free spelled)
-
-one_front : (mark : ℕ) (text : List ℕ) → begins (λ b. b == mark) text ≡ true → take 1 text ≡ mark ∷ []
-one_front mark [] h = not_both false h refl
-one_front mark (b ∷ text) h = let same : b ≡ mark = grind (arith, nat_tests, h) in ap (λ c. c ∷ []) same
-
-quoted_spelled : (mark : ℕ) (text : List ℕ) → is_quote mark ≡ true → is_closed mark text ≡ true → IsQuoted (take (quoted_length mark text + 2) (mark ∷ text))
-quoted_spelled mark text quote closed =
-    let inner : ℕ = quoted_length mark text in
-    let long : suc (inner + 1) ≡ inner + 2 = omega arith in
-    let front : take (inner + 1) text ≡ take inner text ++ mark ∷ [] = take-add inner 1 text ∙ ap (λ t. take inner text ++ t) (one_front mark (drop inner text) closed) in
-    subst (λ k. IsQuoted (take k (mark ∷ text))) long record {
-      mark = mark;
-      inner = take inner text;
-      quotes = quote;
-      free = front_all (λ b. not (b == mark || b == 10)) text;
-      spelled = ap (λ t. mark ∷ t) front;
-    }
-
-not_false : (b : Bool) → not b ≡ false → b ≡ true
-not_false true h = refl
-not_false false h = cc
-
-quoted_longest : (allowed : Allowing) (piece : Piece) (text : List ℕ) → begins is_quote text ≡ true → ((n : ℕ) → IsQuoted (take n text) → allowed piece n) → ((other : Piece) (n : ℕ) → n ≤ length text → allowed other n → IsQuoted (take n text)) → IsLongestRead allowed text (quoted piece text)
-quoted_longest allowed piece [] quote may others = tt
-quoted_longest allowed piece (mark ∷ text) quote may others =
-    let inner : ℕ = quoted_length mark text in
-    let plain : ℕ = prefix_len is_plain (take inner text) in
-    if_longest allowed (mark ∷ text) (not (is_closed mark text)) _ _
-    (λ _. tt)
-    (λ closed. if_longest allowed (mark ∷ text) (is_label piece && nat_lt longest_label inner) _ _
-    (λ _. tt)
-    (λ _. if_longest allowed (mark ∷ text) (nat_lt plain inner) _ _
-    (λ _. tt)
-    (λ _. (may (inner + 2) (quoted_spelled mark text quote (not_false _ closed)), λ other n le h. quoted_most mark n text le (others other n le h)))))
-
--- ---- symbols
-
-symbol_of_longest : (allowed : Allowing) (text : List ℕ) (found : Option Sym) → found ≡ find (λ s. begins_with text (written s)) symbols → ((s : Sym) (n : ℕ) → IsSymbol s (take n text) → allowed (Token (Symbol s)) n) → ((other : Piece) (n : ℕ) → n ≤ length text → allowed other n → (s : Sym) × IsSymbol s (take n text)) → IsLongestRead allowed text (symbol_of (option_map (λ s. (length (written s), s)) found))
-symbol_of_longest allowed text None e may others = tt
-symbol_of_longest allowed text (Some s) e may others =
-    let first : IsFirstSymbol text s = found_first text s (sym e) in
-    (may s (symbol_length s) first.spelled, λ other n le h. let is = others other n le h in first.longest is.0 n le is.1)
-
-symbol_longest : (allowed : Allowing) (text : List ℕ) → ((s : Sym) (n : ℕ) → IsSymbol s (take n text) → allowed (Token (Symbol s)) n) → ((other : Piece) (n : ℕ) → n ≤ length text → allowed other n → (s : Sym) × IsSymbol s (take n text)) → IsLongestRead allowed text (symbol text)
-unfolding symbol_at
-symbol_longest allowed text may others = symbol_of_longest allowed text (find (λ s. begins_with text (written s)) symbols) refl may others
-
-symbol_front : (s : Sym) (n : ℕ) (text : List ℕ) → IsSymbol s (take n text) → begins is_outside text ≡ true
-symbol_front s n text h = begins_front is_outside n text (symbol_outside s (take n text) h)
-
--- ---- descriptive texts
-
-unquoted_begins : (n : ℕ) (text : List ℕ) → IsUnquotedText (take n text) → begins is_quote text ≡ false
-unquoted_begins zero text h = absurd (omega (arith, h.0))
-unquoted_begins (suc n) text h = sym (begins_take is_quote (suc n) text (omega arith)) ∙ h.1
-
-some_from_test : (n : ℕ) → (n == 0) ≡ false → 0 < n
-some_from_test n h = grind (arith, nat_tests, h)
-
-remark_longest : (allowed : Allowing) (text : List ℕ) → ((n : ℕ) → IsText (take n text) → allowed Remark n) → ((other : Piece) (n : ℕ) → n ≤ length text → allowed other n → IsText (take n text)) → IsLongestRead allowed text (remark text)
-remark_longest allowed text may others =
-    let run : ℕ = prefix_len is_text_byte text in
-    if_longest allowed text (begins is_quote text) _ _
-    (λ quote. quoted_longest allowed Remark text quote (λ n h. may n (inl h)) (λ other n le h. elim (others other n le h) [
-      | inl q ↦ q
-      | inr u ↦ not_both (begins is_quote text) quote (unquoted_begins n text u)
-    ]))
-    (λ plain. if_longest allowed text (run == 0) _ _
-    (λ _. tt)
-    (λ some.
-    let long : 0 < run = some_from_test run some in
-    let here : IsUnquotedText (take run text) = (omega (arith, long, length-prefix_len is_text_byte text), begins_take is_quote run text long ∙ plain, front_all is_text_byte text) in (
-      may run (inr here),
-      λ other n le h. elim (others other n le h) [
-        | inl q ↦ not_both (begins is_quote text) (quoted_begins n text q) plain
-        | inr u ↦ front_most is_text_byte n text le u.2
-      ],
-    )))
-
 -- ---- tokens of code
 
 -- the spelling of a token of code
@@ -236,8 +119,21 @@ code_spelled kind Gap text behind h = absurd h
 code_spelled kind LineEnd text behind h = absurd h
 code_spelled kind Remark text behind h = absurd h
 
-bounded_longest : (allowed : Allowing) (kind : Kind) (n : ℕ) (text : List ℕ) → allowed (Token kind) n → ((other : Piece) (k : ℕ) → k ≤ length text → allowed other k → k ≤ n) → IsLongestRead allowed text (bounded kind n)
-bounded_longest allowed kind n text may most = if_longest allowed text (nat_lt longest_label n) _ _ (λ _. tt) (λ _. (may, most))
+bounded_longest : (allowed : Allowing) (kind : Kind) (n : ℕ) (text : List ℕ) → n ≤ length text → begins is_quote text ≡ false → allowed (Token kind) n → ((other : Piece) (k : ℕ) → k ≤ length text → allowed other k → k ≤ n) → IsLongestRead allowed text (bounded kind n)
+bounded_longest allowed kind n text le plain may most =
+    if_longest allowed text (nat_lt longest_label n) _ _
+    (λ over.
+    let many : longest_label < n = grind (arith, nat_tests, over) in
+    let bare : length (unquoted (take n text)) ≡ n = ap length (unquoted_same (take n text) (begins_take is_quote n text (omega (arith, many)) ∙ plain)) ∙ length-take-le n text le in
+    inr (record { piece = Token kind; length = n }, (may, most), inl (refl, subst (λ k. longest_label < k) (sym bare) many)))
+    (λ _. (may, most))
+
+-- a text that begins with a byte of another kind begins with no quotation mark
+no_quote : (test : ℕ → Bool) (text : List ℕ) → ((b : ℕ) → test b ≡ true → is_quote b ≡ true → ⊥) → begins test text ≡ true → begins is_quote text ≡ false
+no_quote test text apart h = elim (true_or_false (begins is_quote text)) [
+  | inl q ↦ begins_apart test is_quote text apart h q
+  | inr f ↦ f
+]
 
 letter_in_name : (b : ℕ) → is_ascii_alphabetic b ≡ true → is_name_byte b ≡ true
 letter_in_name b h = grind (arith, nat_tests, h)
@@ -287,7 +183,7 @@ code_longest allowed kind text quotes may others =
     (λ letter.
     let some : 0 < run = run_within is_ascii_alphabetic is_name_byte letter_in_name text letter in
     let word : IsWord (take run text) = (begins_take is_ascii_alphabetic run text some ∙ letter, front_all is_name_byte text) in
-    bounded_longest allowed Word run text (may (Token Word) run word) (λ other n le h. word_most text letter n le (others other n le h)))
+    bounded_longest allowed Word run text (prefix_len-le-length is_name_byte text) (no_quote is_ascii_alphabetic text letter_quote letter) (may (Token Word) run word) (λ other n le h. word_most text letter n le (others other n le h)))
     (λ letter. if_longest allowed text (begins_number text) _ _
     (λ number. (may (Token Number) (number_length text) (number_spelled text number), λ other n le h. number_is_most text letter number n le (others other n le h)))
     (λ number. if_longest allowed text (begins is_quote text) _ _
@@ -337,7 +233,7 @@ element_longest allowed text may others =
     (λ label.
     let some : 0 < run = run_within is_ascii_alphanumeric is_label_byte alphanumeric_in_label text label in
     let here : IsLabel (take run text) = (begins_take is_ascii_alphanumeric run text some ∙ label, front_all is_label_byte text) in
-    bounded_longest allowed Label run text (may (Token Label) run (inl here)) (λ other n le h. label_most text label n le (others other n le h)))
+    bounded_longest allowed Label run text (prefix_len-le-length is_label_byte text) (no_quote is_ascii_alphanumeric text label_quote label) (may (Token Label) run (inl here)) (λ other n le h. label_most text label n le (others other n le h)))
     (λ label. if_longest allowed text (begins is_quote text) _ _
     (λ quote. quoted_longest allowed (Token Label) text quote (λ n h. may (Token Label) n (inr h)) (λ other n le h. element_quote_only text label quote n (others other n le h)))
     (λ quote. symbol_longest allowed text (λ s n h. may (Token (Symbol s)) n h) (λ other n le h. element_symbol_only text label quote n (others other n le h))))
@@ -495,10 +391,6 @@ no_value_dot text n none number = elim (number_front text (number_begins n text 
 and_false : (b : Bool) → (b && true) ≡ false → b ≡ false
 and_false true h = h
 and_false false h = refl
-
-not_true : (b : Bool) → not b ≡ true → b ≡ false
-not_true true h = cc
-not_true false h = refl
 
 -- in a parameter's list outside parentheses, right behind an element
 parameter_after : (text : List ℕ) → IsLongestRead (λ piece n. IsValue After piece (take n text) (drop n text)) text (behind_label Parameter 0 After text)
@@ -707,13 +599,20 @@ table_code_longest : (text : List ℕ) → (table_bytes (content text) == 0 || b
 table_code_longest text ends =
     code_longest (IsOfTable text) Text text is_text_quoted (λ piece n h. code_of_table text piece n ends h) (λ other n le h. of_table_code text other n ends h)
 
+-- the bytes of a line that belong to the table are bytes of the text
+line_within : (text : List ℕ) → table_bytes (content text) ≤ length text
+line_within text = omega (arith, table_bytes_le (content text), length-take (before is_line_end text) text)
+
 table_line_longest : (text : List ℕ) → (table_bytes (content text) == 0 || begins_statement text) ≡ false → IsLongestRead (IsOfTable text) text (table_line (table_bytes (content text)) text)
 table_line_longest text goes =
     let bytes : ℕ = table_bytes (content text) in
     let some = line_some bytes (begins_statement text) goes in
+    let most : IsMost (IsOfTable text) text (record { piece = Token TableLine; length = bytes }) = ((some.0, some.1, refl), λ other n le h. of_table_line text other n goes h) in
     if_longest (IsOfTable text) text (nat_lt (prefix_len is_plain (take bytes text)) bytes) _ _
-    (λ _. tt)
-    (λ _. ((some.0, some.1, refl), λ other n le h. of_table_line text other n goes h))
+    (λ h.
+    let early : prefix_len is_plain (take bytes text) < bytes = grind (arith, nat_tests, h) in
+    inr (record { piece = Token TableLine; length = bytes }, most, inr (refl, early, bad_byte text bytes (line_within text) early)))
+    (λ _. most)
 
 -- ---- what is read has a text
 
@@ -817,7 +716,7 @@ IsDue allowed text p =
 
 abbrev IsDueRead : Allowing → List ℕ → Read → Type 0
 IsDueRead allowed text (Ok p) = IsDue allowed text p
-IsDueRead allowed text (Err m) = Unit {0}
+IsDueRead allowed text (Err m) = IsRefusedBy allowed text m
 
 if_due : (allowed : Allowing) (text : List ℕ) (b : Bool) (x y : Read) → (b ≡ true → IsDueRead allowed text x) → (b ≡ false → IsDueRead allowed text y) → IsDueRead allowed text (if b then x else y)
 if_due allowed text true x y p q = p refl
@@ -826,7 +725,7 @@ if_due allowed text false x y p q = q refl
 -- what is the longest has a text
 longest_due : (allowed : Allowing) (text : List ℕ) (read : Read) → ((piece : Piece) (n : ℕ) → allowed piece n → Tells piece (take n text)) → IsLongestRead allowed text read → IsDueRead allowed text read
 longest_due allowed text (Ok p) tells h = (λ _. h, λ none. not_both (has_text p.piece) (tells p.piece p.length h.0).0 none)
-longest_due allowed text (Err m) tells h = tt
+longest_due allowed text (Err m) tells h = h
 
 -- blanks and line ends have none
 no_text : (allowed : Allowing) (piece : Piece) (n : ℕ) (text : List ℕ) → has_text piece ≡ false → list_all is_space (take n text) ≡ true → IsDueRead allowed text (Ok record { piece = piece; length = n })
@@ -866,3 +765,10 @@ due current text p e = subst (IsDueRead (IsAllowed current text) text) e (piece_
 -- what stands first in a text is the longest that the mode allows there
 pub longest : (current : Mode) (text : List ℕ) (p : Lexeme) → piece_at current text ≡ Ok p → has_text p.piece ≡ true → IsLongest current text p
 longest current text p e h = let most = (due current text p e).0 h in record { allowed = most.0; longest = most.1 }
+
+-- an error stands where nothing is allowed, or the longest that is allowed is no token
+pub refused : (current : Mode) (text : List ℕ) (m : Misread) → piece_at current text ≡ Err m → IsRefused current text m
+refused current text m e = elim (subst (IsDueRead (IsAllowed current text) text) e (piece_due current text)) [
+  | inl none ↦ inl none
+  | inr found ↦ inr (found.0, record { allowed = found.1.0; longest = found.1.1 }, found.2)
+]

@@ -1,5 +1,5 @@
 -- The symbol with which a text begins is the longest, and begins as no other token does.
-use Rattle.std.proofs.Common.{◌≡◌, ◌⊎◌, inl, inr, ℕ, zero, suc, ◌+◌, ◌==◌, ◌≤◌, ◌&&◌, ◌||◌, Bool, true, false, not, nat_lt, nat_le, cond, List, [], ◌∷◌, length, take, drop, Some, find, refl, sym, ap, ◌∙◌, subst, arith}
+use Rattle.std.proofs.Common.{◌≡◌, ◌⊎◌, inl, inr, ℕ, zero, suc, ◌+◌, ◌==◌, ◌≤◌, ◌&&◌, ◌||◌, Bool, true, false, not, nat_lt, nat_le, cond, List, [], ◌∷◌, length, take, drop, Some, None, find, refl, sym, ap, ◌∙◌, subst, arith}
 use Rattle.std.proofs.lemmas.Bool.Decides.{nat_tests}
 use Rattle.std.proofs.lemmas.List.{length-take-le}
 use Rattle.std.specs.Char.{is_ascii_alphanumeric, is_ascii_digit, to_ascii_lowercase}
@@ -225,3 +225,17 @@ found_first text found e = record {
       let most : symbol_length s ≤ symbol_length found = found_longest (λ s. begins_with text (written s)) symbols found s refl e (each_stands s) begin.1 in
       omega (arith, begin.0, most);
 }
+
+found_none : (test : Sym → Bool) (xs : List Sym) (s : Sym) → find test xs ≡ None → Stands s xs → test s ≡ true → ⊥
+found_none test [] s h there passes = absurd there
+found_none test (y ∷ ys) s h there passes = elim (true_or_false (test y)) [
+  | inl t ↦ let found : Some y ≡ None = ap (λ v. cond v (Some y) (find test ys)) (sym t) ∙ h in absurd (cc)
+  | inr f ↦ elim there [
+    | inl e ↦ not_both (test s) passes (ap test (sym e) ∙ f)
+    | inr behind ↦ found_none test ys s (ap (λ v. cond v (Some y) (find test ys)) (sym f) ∙ h) behind passes
+  ]
+]
+
+-- where none is found, the text begins with none
+pub none_first : (text : List ℕ) → find (λ s. begins_with text (written s)) symbols ≡ None → (s : Sym) (n : ℕ) → n ≤ length text → IsSymbol s (take n text) → ⊥
+none_first text e s n le h = found_none (λ s. begins_with text (written s)) symbols s e (each_stands s) (front_begins s n text le h).1

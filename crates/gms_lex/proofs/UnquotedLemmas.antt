@@ -1,5 +1,5 @@
 -- Quoted texts and labels without their marks.
-use Rattle.std.proofs.Common.{◌≡◌, ℕ, ◌+◌, ◌-◌, ◌≤◌, Bool, true, false, cond, List, [], ◌∷◌, length, take, ap, arith, length-take}
+use Rattle.std.proofs.Common.{◌≡◌, ℕ, suc, ◌+◌, ◌-◌, ◌<◌, ◌≤◌, Bool, true, false, cond, List, [], ◌∷◌, length, take, refl, ap, ◌∙◌, arith, length-take}
 use Rattle.std.proofs.lemmas.Str.{IsAscii-take, IsAscii-drop}
 use Rattle.std.specs.Str.{IsAscii}
 use Rattle.gms_lines.specs.Lines.{begins}
@@ -30,3 +30,16 @@ unquoted_short [] n quote short = omega arith
 unquoted_short (b ∷ text) n quote short =
     let marks : length (unquoted (b ∷ text)) ≡ length (take (length text - 1) text) = ap (λ c. length (cond c (take (length text - 1) text) (b ∷ text))) quote in
     omega (arith, marks, length-take (length text - 1) text)
+
+-- a text that begins with no mark is its own
+pub unquoted_same : (text : List ℕ) → begins is_quote text ≡ false → unquoted text ≡ text
+unquoted_same [] h = refl
+unquoted_same (b ∷ text) h = ap (λ c. cond c (take (length text - 1) text) (b ∷ text)) h
+
+-- a text between two marks is the text
+pub unquoted_inner : (mark : ℕ) (text : List ℕ) (inner : ℕ) → is_quote mark ≡ true → inner < length text → length (unquoted (take (inner + 2) (mark ∷ text))) ≡ inner
+unquoted_inner mark text inner quote some =
+    let long : inner + 2 ≡ suc (inner + 1) = omega arith in
+    let behind : List ℕ = take (inner + 1) text in
+    let marks : length (unquoted (mark ∷ behind)) ≡ length (take (length behind - 1) behind) = ap (λ c. length (cond c (take (length behind - 1) behind) (mark ∷ behind))) quote in
+    ap (λ n. length (unquoted (take n (mark ∷ text)))) long ∙ marks ∙ omega (arith, length-take (inner + 1) text, length-take (length behind - 1) behind)

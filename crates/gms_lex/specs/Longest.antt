@@ -1,13 +1,16 @@
 -- Which tokens and texts may stand at the front of a text, in each mode, and which of them is the longest (GAMS User's Guide,
 -- "Language Items", "GAMS Programs", data declarations, lists and tables).
-use Rattle.std.specs.Prelude.{◌≡◌, ◌⊎◌, ℕ, zero, suc, ◌<◌, ◌≤◌, Bool, true, false, ◌||◌, ◌==◌, List, length, take, drop}
+use Rattle.std.specs.Prelude.{◌≡◌, ◌⊎◌, ℕ, zero, suc, ◌<◌, ◌≤◌, Bool, true, false, ◌||◌, ◌==◌, List, length, take, drop, get_or}
+use Rattle.gms_lines.specs.declared.fault.LexError.TheVariants.{BadByte, LongLabel}
 use Rattle.gms_lines.specs.Lines.{begins, content}
 use Rattle.gms_lexemes.specs.declared.kind.Kind.{Kind}
 use Rattle.gms_lexemes.specs.declared.kind.Kind.TheVariants.{Word, Label, Number, Text, Symbol, Break, TableLine}
 use Rattle.gms_lexemes.specs.declared.lexeme.Piece.{Piece}
 use Rattle.gms_lexemes.specs.declared.lexeme.Piece.TheVariants.{Gap, LineEnd, Remark, Token}
 use Rattle.gms_lexemes.specs.declared.lexeme.Lexeme.{Lexeme}
+use Rattle.gms_lexemes.specs.declared.lexeme.Misread.{Misread}
 use Rattle.gms_lexemes.specs.Numbers.{begins_dot}
+use Rattle.gms_lexemes.specs.Shapes.{longest_label}
 use Rattle.gms_lexemes.specs.TableLines.{table_bytes}
 use Rattle.gms_lex.specs.declared.keyword.Shape.{Shape}
 use Rattle.gms_lex.specs.declared.keyword.Shape.TheVariants.{Set, Parameter, Scalar, Model}
@@ -17,6 +20,7 @@ use Rattle.gms_lex.specs.declared.mode.Mode.{Mode}
 use Rattle.gms_lex.specs.declared.mode.Mode.TheVariants.{Named, Bare, Element, Value, Tail, TableNamed, TableBare, TableLines}
 use Rattle.gms_lex.specs.Keywords.{begins_statement}
 use Rattle.gms_lex.specs.Pieces.{is_item_mark, is_element_mark}
+use Rattle.gms_lex.specs.TokenTexts.{unquoted}
 use Rattle.gms_lex.specs.Spellings.{IsWord, IsLabel, IsQuoted, IsText, IsSymbol, IsNumber}
 
 -- a token of code, before what stands behind it: a word, a number, a symbol, or a quoted token of this kind
@@ -91,3 +95,16 @@ has_text piece = true
 pub record IsLongest (mode : Mode) (text : List ℕ) (p : Lexeme) : Type 0 where
   pub allowed : IsAllowed mode text p.piece p.length
   pub longest : (other : Piece) (n : ℕ) → n ≤ length text → IsAllowed mode text other n → n ≤ p.length
+
+-- No token is this piece at the front of a text: a word or a label has over 63 bytes, quotation marks not counted; or the byte at
+-- which the error stands is not of ASCII.
+abbrev pub IsUnlawful : Lexeme → List ℕ → Misread → Type 0
+IsUnlawful p text misread =
+    ((misread.error ≡ LongLabel) × (longest_label < length (unquoted (take p.length text))))
+    ⊎ ((misread.error ≡ BadByte) × (misread.ahead < p.length) × (127 < get_or text misread.ahead 0))
+
+-- an error stands in place of a piece: the mode allows none there, or the longest that it allows is no token
+abbrev pub IsRefused : Mode → List ℕ → Misread → Type 0
+IsRefused mode text misread =
+    ((other : Piece) (n : ℕ) → n ≤ length text → IsAllowed mode text other n → ⊥)
+    ⊎ ((p : Lexeme) × IsLongest mode text p × IsUnlawful p text misread)

@@ -1,12 +1,13 @@
 //! Laws of tokens.
-ghost use Rattle.std.specs.Prelude.{◌≡◌, ◌<◌, ◌≤◌, ℕ, List, Result, Ok, All, length, take, true};
+ghost use Rattle.std.specs.Prelude.{◌≡◌, ◌<◌, ◌≤◌, ℕ, List, Result, Ok, Err, All, length, take, true};
 ghost use Rattle.gms_lines.specs.Lines.{code_text};
 ghost use Rattle.gms_lexemes.specs.declared.lexeme.Lexeme.{Lexeme};
+ghost use Rattle.gms_lexemes.specs.declared.lexeme.Misread.{Misread};
 ghost use Rattle.gms_lex.specs.declared.mode.Mode.{Mode};
 ghost use Rattle.gms_lex.specs.declared.token.Token.{Token};
 ghost use Rattle.gms_lex.specs.declared.fault.LexFault.{LexFault};
 ghost use Rattle.gms_lex.specs.Apart.{AreApart, IsBreak, IsOneLineEnd, break_of};
-ghost use Rattle.gms_lex.specs.Longest.{IsLongest, has_text};
+ghost use Rattle.gms_lex.specs.Longest.{IsLongest, IsRefused, has_text};
 ghost use Rattle.gms_lex.specs.Pieces.{piece_at};
 ghost use Rattle.gms_lex.specs.Places.{IsEarlier, place_of};
 ghost use Rattle.gms_lex.specs.Tokens.{Means, IsTokens};
@@ -15,9 +16,10 @@ ghost use Rattle.gms_lex.specs.TokenTexts.{IsPlaced};
 /// Each source has exactly one list of tokens or exactly one first fault, and not both; its places come in the order of its bytes.
 ///
 /// Each token, and each descriptive text, is the longest that its mode allows where it stands: `**` is one token and not two `*`, in
-/// code and in lists. Between two neighbouring tokens stand only blanks, line ends, comments, control lines and descriptive texts;
-/// comments and control lines are blank in the text that tokens are read off. A line end is a token exactly where it ends an item of
-/// a declaration or an element of a list. GAMS User's Guide, "Language Items" and "GAMS Programs".
+/// code and in lists. An error stands where the mode allows nothing, or where the longest that it allows is a word or a label of over 63
+/// bytes, or has a byte that is not of ASCII. Between two neighbouring tokens stand only blanks, line ends, comments, control lines and
+/// descriptive texts; comments and control lines are blank in the text that tokens are read off. A line end is a token exactly where it
+/// ends an item of a declaration or an element of a list. GAMS User's Guide, "Language Items" and "GAMS Programs".
 pub fn token_laws()
     ensures there_is_one { (source : List ℕ) → (meaning : Result (List Token) LexFault) × Means source meaning }
     ensures only_one { (source : List ℕ) (one other : Result (List Token) LexFault) →
@@ -26,6 +28,8 @@ pub fn token_laws()
         m < n → n ≤ length source → IsEarlier (place_of source m) (place_of source n) }
     ensures longest { (mode : Mode) (text : List ℕ) (piece : Lexeme) →
         piece_at mode text ≡ Ok piece → has_text piece.piece ≡ true → IsLongest mode text piece }
+    ensures refused { (mode : Mode) (text : List ℕ) (misread : Misread) →
+        piece_at mode text ≡ Err misread → IsRefused mode text misread }
     ensures apart { (source : List ℕ) (tokens : List Token) → IsTokens source tokens → AreApart (code_text source) 0 tokens }
     ensures breaks { (mode : Mode) (text : List ℕ) (bytes : ℕ) →
         piece_at mode text ≡ Ok (break_of bytes) → IsBreak mode text × IsOneLineEnd (take bytes text) }

@@ -2,29 +2,21 @@
 ghost use Rattle.std.specs.Prelude.{◌≡◌};
 ghost use Rattle.gms_lines.specs.Errors.{error_code, error_name};
 
-use thiserror::Error;
-
 /// A lexical error, by its cause.
-#[derive(Clone, Copy, Debug, PartialEq, Eq, Error)]
+#[derive(Clone, Copy)]
 pub enum LexError {
     /// A byte that may not stand where it stands: a control character other than tab; a byte above 127 outside comments
     /// and unquoted descriptive texts; in code, a character that begins no token.
-    #[error("a byte that may not stand here")]
     BadByte,
     /// A quotation mark that does not come again on its line.
-    #[error("a quotation mark is not closed on its line")]
     OpenQuote,
     /// An `$ontext` without `$offtext`.
-    #[error("a block of comment is not ended")]
     OpenText,
     /// A name or a label of over 63 bytes.
-    #[error("a name or label is too long")]
     LongLabel,
     /// A line of over 32,768 bytes.
-    #[error("a line is too long")]
     LongLine,
     /// A control line whose first word is not accepted.
-    #[error("an unknown control word")]
     UnknownControl,
 }
 
@@ -59,7 +51,7 @@ impl LexError {
 }
 
 /// A lexical error and the byte of the source at which it stands, counted from 0.
-#[derive(Clone, Copy, Debug, PartialEq, Eq)]
+#[derive(Clone, Copy)]
 pub struct ByteFault {
     /// How many bytes stand before it.
     pub at: usize,

@@ -6,7 +6,7 @@ ghost use Rattle.std.specs.List.{prefix_len, list_any};
 ghost use Rattle.gms_lines.specs.ControlWords.{control_words, is_among};
 
 /// What a line is.
-#[derive(Clone, Copy, Debug, PartialEq, Eq)]
+#[derive(Clone, Copy)]
 pub enum Class {
     /// It begins with `*`, or stands inside a block of comment.
     Comment,

@@ -1,5 +1,6 @@
 -- The state in which an accepted script begins.
 use Rattle.std.proofs.Common.{◌≡◌, ℕ, List, [], Option, Some, None, sym, subst}
+use Rattle.std.specs.Prelude.{IfSome}
 use Rattle.gq_frac.specs.declared.frac.Frac.{Frac}
 use Rattle.gq_frac.specs.Frac.{frac_value}
 use Rattle.gms_ast.specs.declared.program.Program.{Program}
@@ -9,25 +10,30 @@ use Rattle.gms_exec.specs.Dimensions.{AreOneDimensional}
 use Rattle.gms_exec.specs.Stepping.{AreKept}
 use Rattle.gms_run.specs.Scripts.{Script, errors_of, first_state}
 use Rattle.gms_run.specs.Listings.{IsAccepted}
-use Rattle.gms_run.specs.InnerReports.{IsSound}
+use Rattle.gms_run.specs.InnerReports.{IsGoneOn, IsSound}
 use Rattle.gms_save.proofs.Joints.{accepted as accepted_joint}
 use Rattle.gms_run.proofs.FirstSettings.{begins-kept}
 use Rattle.gms_run.proofs.Loading.{begins-one-dimensional}
 use Rattle.gms_run.proofs.Resuming.{resumes-one-dimensional}
 
 -- Its settings are within their ranges.
-pub first_settings : (solvers : ℕ) (source : List ℕ) (saved : Option State) (program : Program Frac) (state : State) → state ≡ first_state saved program → IsSound solvers source saved → AreKept solvers state.settings
-first_settings solvers source saved program state is sound = subst (λ (s : State). AreKept solvers s.settings) (sym is) (by saved sound)
+pub first_settings : (solvers : ℕ) (source : List ℕ) (line : ℕ) (saved : Option State) (program : Program Frac) (state : State) → state ≡ first_state saved program → IsSound solvers source line saved → AreKept solvers state.settings
+first_settings solvers source line saved program state is sound = subst (λ (s : State). AreKept solvers s.settings) (sym is) (by saved sound)
   where
-    by : (o : Option State) → IsSound solvers source o → AreKept solvers (first_state o program).settings
+    by : (o : Option State) → IsSound solvers source line o → AreKept solvers (first_state o program).settings
     by None sound = begins-kept frac_value program solvers
     by (Some s) sound = sound.settings
 
+-- Where there is a saved state it is one of the saved source's program.
+pub first_origin : (solvers : ℕ) (source : List ℕ) (line : ℕ) (saved : Option State) → IsSound solvers source line saved → IfSome saved (IsGoneOn source line)
+first_origin solvers source line None sound = tt
+first_origin solvers source line (Some state) sound = sound.origin
+
 -- The definitions of its program are over sets of one dimension.
-pub first_plain : (solvers : List (List ℕ)) (many : ℕ) (script : Script) (program : Program Frac) (state : State) → state ≡ first_state script.saved program → IsAccepted solvers script program → IsSound many script.source script.saved → AreOneDimensional state program.statements.items
+pub first_plain : (solvers : List (List ℕ)) (many : ℕ) (script : Script) (program : Program Frac) (state : State) → state ≡ first_state script.saved program → IsAccepted solvers script program → IsSound many script.source script.line script.saved → AreOneDimensional state program.statements.items
 first_plain solvers many script program state is is_accepted sound = subst (λ (s : State). AreOneDimensional s program.statements.items) (sym is) (by script.saved is_accepted.no_error sound)
   where
-    by : (o : Option State) → errors_of o script.line program solvers ≡ [] → IsSound many script.source o → AreOneDimensional (first_state o program) program.statements.items
+    by : (o : Option State) → errors_of o script.line program solvers ≡ [] → IsSound many script.source script.line o → AreOneDimensional (first_state o program) program.statements.items
     by None none sound = begins-one-dimensional frac_value program solvers (checked-program frac_value program solvers none)
     by (Some s) none sound =
         let accepted = accepted_joint frac_value program script.line (solvers, none) in

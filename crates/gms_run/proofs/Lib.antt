@@ -5,7 +5,6 @@ pub mod Executed
 pub mod Executing
 pub mod FirstSettings
 pub mod Going
-pub mod Growing
 pub mod Joined
 pub mod Kept
 pub mod Listed
@@ -18,5 +17,6 @@ pub mod Reports
 pub mod Rest
 pub mod Resuming
 pub mod Runs
+pub mod Saving
 pub mod Settled
 pub mod Transfers

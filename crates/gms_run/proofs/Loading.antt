@@ -1,11 +1,7 @@
 -- The state in which an accepted program begins: the sets among the indices of its definitions have one position, and their members one label.
-use Rattle.std.proofs.Common.{◌≡◌, ℕ, zero, suc, Bool, true, false, ◌&&◌, List, [], ◌∷◌, ◌++◌, length, slice_get, refl, sym, ap, ◌∙◌, subst, cond, Option, unwrap_or, append_assoc, inl, inr}
-use Rattle.std.specs.Prelude.{replicate}
-use Rattle.std.specs.List.{All, fold}
-use Rattle.std.proofs.lemmas.Bool.{eqb-true}
-use Rattle.std.proofs.lemmas.List.{map-append}
-use Rattle.std.proofs.lemmas.List.Elements.{All-nil, All-cons, All-head, All-tail, All-append}
-use Rattle.std.proofs.lemmas.List.Sums.{fold-append}
+use Rattle.std.proofs.Common.{◌≡◌, ℕ, Bool, true, false, List, [], ◌∷◌, ◌++◌, length, refl, sym, ◌∙◌, subst, cond, Option, append_assoc}
+use Rattle.std.specs.List.{All}
+use Rattle.std.proofs.lemmas.List.Elements.{All-nil, All-cons, All-head, All-tail, All-append, All-weaker}
 use Rattle.gq_number.specs.Number.{Number}
 use Rattle.gms_labels.specs.declared.place.Place.{Place}
 use Rattle.gms_ast.specs.declared.expression.Expr.{Expr}
@@ -18,104 +14,37 @@ use Rattle.gms_ast.specs.declared.program.Act.TheVariants.{Define, rolls-Declare
 use Rattle.gms_ast.specs.declared.program.Program.{Program}
 use Rattle.gms_ast.specs.declared.program.Stmt.{Stmt}
 use Rattle.gms_ast.specs.Trees as tree
-use Rattle.gms_store.specs.State.{State, Content, undeclared, alias_of, set_of, parameter_of, variable_of, equation_of, model_with, Symbol, no_symbol, symbol_at, base_of, symbol_of, members_in, members_of}
-use Rattle.gms_store.specs.Declarations.{is_set, is_undeclared, blank_state}
-use Rattle.gms_known.specs.Names.{is_set_name, has_one_position, is_index_set}
+use Rattle.gms_store.specs.State.{State}
+use Rattle.gms_known.specs.Names.{is_index_set}
 use Rattle.gms_rows.specs.Plain.{ArePlain}
 use Rattle.gms_rows.specs.Rows.{Definition, has_lag, defined_at, definitions}
 use Rattle.gms_exec.specs.Dimensions.{AreOverOne, AreOneDimensional}
 use Rattle.gms_check.specs.Uses.{defining, index_sets}
 use Rattle.gms_check.specs.StatementUses.{index_list}
-use Rattle.gms_check.specs.Past.{state_after, after_statement}
+use Rattle.gms_check.specs.Past.{state_after}
 use Rattle.gms_check.specs.CompileErrors.{known_after}
 use Rattle.gms_check.specs.Loaded.{sound, loaded}
 use Rattle.gms_check.proofs.ActUses.{uses-act, uses-Define}
 use Rattle.gms_check.specs.Checked.{IsChecked, IsSound, AreSound, StandsAfter}
-use Rattle.gms_run.proofs.Growing.{IsFitting, IsLater, HaveLength, Grows, grows-past, by_parts}
-
--- where two tests hold, each does
-first-holds : (a b : Bool) → (a && b) ≡ true → a ≡ true
-first-holds true b e = refl
-first-holds false b e = cc
-
-second-holds : (a b : Bool) → (a && b) ≡ true → b ≡ true
-second-holds true b e = e
-second-holds false b e = cc
-
--- ---- the state before any statement
-
--- nothing is declared
-none-declared : (names n : ℕ) → unwrap_or (slice_get (replicate names no_symbol) n) no_symbol ≡ no_symbol
-none-declared zero n = refl
-none-declared (suc names) zero = refl
-none-declared (suc names) (suc n) = none-declared names n
-
-blank-fits : (names n : ℕ) → IsFitting (symbol_at (blank_state names) n)
-blank-fits names n = subst IsFitting (sym (none-declared names n)) (record { blank = λ none. refl; arity = All-nil (λ (t : List ℕ). length t ≡ 0) })
-
--- a set is declared
-set-declared : (content : Content) → is_set content ≡ true → is_undeclared content ≡ false
-set-declared undeclared e = cc
-set-declared (alias_of base) e = refl
-set-declared (set_of members) e = refl
-set-declared (parameter_of values) e = refl
-set-declared (variable_of type entries) e = refl
-set-declared (equation_of entries) e = refl
-set-declared (model_with model solver) e = refl
-
--- no list without elements has one
-none-is-no-one : (xs : List (Option ℕ)) → xs ≡ [] → length xs ≡ 1 → ⊥
-none-is-no-one xs none one = let no : ◌≡◌ {A = ℕ} 0 1 = ap length (sym none) ∙ one in cc
-
--- The set of this name has one position, and members of one label.
-abbrev IsOverOne : State → ℕ → Type 0
-IsOverOne state set = (length (symbol_of state set).domain ≡ 1) × HaveLength 1 (members_of state set)
-
--- a symbol that grew out of one with one position
-of-one : (old new : Symbol) → IsFitting old → IsFitting new × IsLater old new → length old.domain ≡ 1 → (length new.domain ≡ 1) × HaveLength 1 (members_in new.content)
-of-one old new fits (there, inl none) one = absurd (none-is-no-one old.domain (fits.blank none) one)
-of-one old new fits (there, inr after) one =
-    let still : length new.domain ≡ 1 = ap length after.domain ∙ one in
-    (still, subst (λ n. HaveLength n (members_in new.content)) still there.arity)
-
--- An index set stays one in a state that grew.
-stays-one : (old new : State) → ((n : ℕ) → IsFitting (symbol_at old n)) → Grows old new → (set : ℕ) → is_index_set old set ≡ true → IsOverOne new set
-stays-one old new fits grows set is = by (grows set (fits set)).1
-  where
-    one : length (symbol_of old set).domain ≡ 1
-    one = eqb-true (length (symbol_of old set).domain) 1 (second-holds (is_set_name old set) (has_one_position old set) is)
-
-    declared : is_undeclared (symbol_at old set).content ≡ false
-    declared = set-declared (symbol_at old set).content (first-holds (is_set_name old set) (has_one_position old set) is)
-
-    by : IsLater (symbol_at old set) (symbol_at new set) → IsOverOne new set
-    by (inl none) = absurd (let no : true ≡ false = sym none ∙ declared in cc)
-    by (inr after) =
-        let base = base_of old set in
-        subst (λ n. (length (symbol_at new n).domain ≡ 1) × HaveLength 1 (members_in (symbol_at new n).content)) (sym (after.alike set)) (of-one (symbol_at old base) (symbol_at new base) (fits base) (grows base (fits base)) one)
+use Rattle.gms_check.proofs.Growing.{by_parts}
+use Rattle.gms_check.proofs.IndexSetsStay.{IsOverOne, index-set-loaded}
 
 -- ---- indices of definitions
-
--- index sets of a state that grew
-all-over : (state old : State) → ((n : ℕ) → IsFitting (symbol_at old n)) → Grows old state → (sets : List ℕ) → All (λ set. is_index_set old set ≡ true) sets → All (IsOverOne state) sets
-all-over state old fits grows [] are = All-nil (IsOverOne state)
-all-over state old fits grows (set ∷ sets) are =
-    All-cons (IsOverOne state) set sets (stays-one old state fits grows set (All-head (λ set. is_index_set old set ≡ true) set sets are)) (all-over state old fits grows sets (All-tail (λ set. is_index_set old set ≡ true) set sets are))
 
 module _ {F : Type 0} (state : State) where
   over-one : (indices : tree.Indices F) → All (IsOverOne state) (index_sets indices) → AreOverOne state indices
   over-one tree.no_index are = tt
   over-one (tree.label label rest) are = over-one rest are
   over-one (tree.set set rest) are =
-      ((All-head (IsOverOne state) set (index_sets rest) are).0, over-one rest (All-tail (IsOverOne state) set (index_sets rest) are))
+      ((All-head (IsOverOne state) set (index_sets rest) are).position, over-one rest (All-tail (IsOverOne state) set (index_sets rest) are))
   over-one (tree.lagged set op at amount rest) are =
-      ((All-head (IsOverOne state) set (index_sets rest) are).0, over-one rest (All-tail (IsOverOne state) set (index_sets rest) are))
+      ((All-head (IsOverOne state) set (index_sets rest) are).position, over-one rest (All-tail (IsOverOne state) set (index_sets rest) are))
 
   are-plain : (indices : tree.Indices F) → has_lag indices ≡ false → All (IsOverOne state) (index_sets indices) → ArePlain state indices
   are-plain tree.no_index none are = tt
   are-plain (tree.label label rest) none are = are-plain rest none are
   are-plain (tree.set set rest) none are =
-      ((All-head (IsOverOne state) set (index_sets rest) are).1, are-plain rest none (All-tail (IsOverOne state) set (index_sets rest) are))
+      ((All-head (IsOverOne state) set (index_sets rest) are).labels, are-plain rest none (All-tail (IsOverOne state) set (index_sets rest) are))
   are-plain (tree.lagged set op at amount rest) none are = cc
 
   -- what is asked of a definition
@@ -142,17 +71,6 @@ module _ {F : Type 0} (value : F → Number) (program : Program F) (solvers : Li
   abbrev first : State
   first = loaded value program
 
-  fits-before : (before : List (Stmt F)) (n : ℕ) → IsFitting (symbol_at (before_state before) n)
-  fits-before before n =
-      let blank = blank_state (length program.names) in
-      (grows-past value (sound before) blank n (blank-fits (length program.names) n)).0
-
-  grows-on : (before : List (Stmt F)) (statement : Stmt F) → StandsAfter program before statement → Grows (before_state before) first
-  grows-on before statement stands =
-      let rest : List (Stmt F) = statement ∷ stands.0 in
-      let blank = blank_state (length program.names) in
-      subst (Grows (before_state before)) (sym (ap (λ (all : List (Stmt F)). fold (after_statement value) blank (sound all)) stands.1 ∙ ap (fold (after_statement value) blank) (map-append (λ statement. (statement, true)) before rest) ∙ fold-append (after_statement value) blank (sound before) (sound rest))) (grows-past value (sound rest) (before_state before))
-
   -- the definition that a statement is
   of-define : (before : List (Stmt F)) (at : Place) (equation : Named) (indices : List (Index F)) (condition : Option (Expr F)) (left_at : Place) (left : Expr F) (side : Side) (right_at : Place) (right : Expr F) →
       StandsAfter program before (record { at = at; act = Define equation indices condition left_at left side right_at right }) → All (IsFine first) (defined_at at (Define equation indices condition left_at left side right_at right))
@@ -161,7 +79,7 @@ module _ {F : Type 0} (value : F → Number) (program : Program F) (solvers : Li
       let known = known_after value program solvers (sound before) in
       let parts = uses-act statement known.state [] ∙ uses-Define known.state at [] equation indices condition left_at left side right_at right in
       let defined = All-head (λ u. IsSound known u.1) (equation.at, defining equation.name (index_list indices)) _ (subst (AreSound known) parts (checked before statement stands)) in
-      if-no-lag first (index_list indices) _ refl (all-over first (before_state before) (fits-before before) (grows-on before statement stands) (index_sets (index_list indices)) defined.2.sets)
+      if-no-lag first (index_list indices) _ refl (All-weaker (λ set. is_index_set (before_state before) set ≡ true) (IsOverOne first) (index-set-loaded value program before statement stands) (index_sets (index_list indices)) defined.2.sets)
 
   of-act : (before : List (Stmt F)) (at : Place) (act : Act F) → StandsAfter program before (record { at = at; act = act }) → All (IsFine first) (defined_at at act)
   of-act before at act = by_parts P by act

@@ -30,20 +30,21 @@ use Rattle.gms_ranges.specs.RangeTexts.{SaysRanges}
 use Rattle.gms_list.specs.ListingText.{echo_text, end_text}
 use Rattle.gms_run.specs.declared.status.Status.{Status}
 use Rattle.gms_run.specs.declared.status.Status.TheVariants.{Done, Usage, Compile, Execution, ReadFault, WriteFault}
-use Rattle.gms_store.specs.State.{State}
+use Rattle.gms_store.specs.State.{State, fits_at, symbol_of}
 use Rattle.gms_words.specs.CommandLine.{Asked, Origin, in_file, restarted, generated, closing_line}
 use Rattle.gms_run.specs.Solving.{Solving, SolvesNothing, number_limit, numbers_of, solves_in}
 use Rattle.gms_saved.specs.SavedState.{saved_text}
 use Rattle.gms_run.specs.Scripts.{Matter, Script, scripted, errors_of}
-use Rattle.gms_run.specs.Jobs.{HaltsSo, IsCutOff, IsSolved, Job, body_of, course_of, first_of, job_of, job_text, last_line, solver_name, status_code}
+use Rattle.gms_run.specs.Jobs.{HaltsSo, IsCutOff, IsSolved, Job, body_of, course_of, first_of, job_of, job_text, last_line, save_text, solver_name, status_code}
 use Rattle.gms_run.specs.Listings.{AreClosing, AreRemarks, IsAccepted, IsExecuted, IsFront, IsJob, IsListing, IsModelLine, SavesLast, SavesSo, ShowsErrors, ShowsWhy, TellsModel, TellsRanges, TellsRun, TellsSpans, echo_with, errors_text, has_echo, refused_text, save_file, unrestored_text}
 use Rattle.gms_run.specs.Statuses.{IsUnwritten}
 use Rattle.gms_save.specs.declared.fault.SaveFault.{SaveFault}
 use Rattle.gms_run.specs.declared.script.Matter.{Matter as OwnMatter}
 use Rattle.gms_run.specs.declared.script.Matter.TheVariants.{Unrestored}
-use Rattle.gms_run.specs.InnerReports.{Follows, IsRanged, IsRemarked, IsSave, IsTold, Lists, ListsErrors, Prepares, matter_in}
+use Rattle.gms_run.specs.InnerReports.{Follows, IsGoneOn, IsRanged, IsRemarked, IsSave, IsTold, KeepsState, Lists, ListsErrors, Prepares, matter_in}
 use Rattle.gms_run.specs.InnerSteps.{Ends, IsAnsweredAt, KeepsPrograms}
 use Rattle.gms_run.proofs.Executing.{BreaksJob, EndsJob}
+use Rattle.gms_run.proofs.Saving.{placed-again, saves-state}
 
 -- what stands behind a spool and a text that are both empty
 pub behind_nothing : (spool before text : List ℕ) → spool ++ before ≡ [] → spool ++ (before ++ text) ≡ text
@@ -125,7 +126,7 @@ ends_line ReadFault halted n is = absurd is
 ends_line WriteFault halted n is = absurd is
 
 -- the job of an accepted script
-pub job_of_script : (solvers : List (List ℕ)) (script : Script) (program : Program Frac) → IsAccepted solvers script program → IsJob solvers (scripted script) (job_of script program)
+abbrev pub job_of_script : (solvers : List (List ℕ)) (script : Script) (program : Program Frac) → IsAccepted solvers script program → IsJob solvers (scripted script) (job_of script program)
 job_of_script solvers script program accepted = record { script = script; to_run = refl; accepted = accepted; is_job = refl }
 
 -- a job that came to its end has its listing
@@ -211,24 +212,32 @@ remarked status solving request matter text job last solved is_job ends (ranges,
     tells (generated size) WriteFault h told = absurd h
 
 -- The save of the last state of a job that came to its end.
-pub saves_job : (status : Status) (solving : Solving) (request : Asked) (matter : Matter) (bytes : List ℕ) (job : Job) (last : State) (programs : List (Lp Frac)) (solvers : List (List ℕ)) → solvers ≡ solving.before.names → IsJob solving.before.names matter job → Ends status job solving last programs →
+pub saves_job : (status : Status) (solving : Solving) (request : Asked) (matter : Matter) (bytes : List ℕ) (job : Job) (last : State) (programs : List (Lp Frac)) (solvers : List (List ℕ)) → solvers ≡ solving.before.names → (is_job : IsJob solving.before.names matter job) → IfSome is_job.script.saved (IsGoneOn is_job.script.source is_job.script.line) → Ends status job solving last programs →
     IsSave status request solvers job.source job.program last bytes → SavesSo status solving request matter bytes
-saves_job status solving request matter bytes job last programs solvers names is_job ends = by (save_file status request)
+saves_job status solving request matter bytes job last programs solvers names is_job origin ends = by (save_file status request)
   where
-    by : (file : Option (List ℕ)) → IfSome file (λ f. bytes ≡ saved_text job.source job.program.names last (solver_name solvers last)) → IfSome file (λ f. SavesLast solving matter bytes)
+    by : (file : Option (List ℕ)) → IfSome file (λ f. KeepsState solvers job.source job.program last bytes) → IfSome file (λ f. SavesLast solving matter bytes)
     by None is = tt
     by (Some file) is =
+        let text : bytes ≡ save_text job solving = is.text ∙ ap₂ (λ (ns : List (List ℕ)) (state : State). saved_text job.source job.program.names state (solver_name ns state)) names (sym ends.comes) in
         record {
           job = job;
           is_job = is_job;
-          text = is ∙ ap₂ (λ (ns : List (List ℕ)) (state : State). saved_text job.source job.program.names state (solver_name ns state)) names (sym ends.comes);
+          text = text;
+          is_save = λ named.
+              saves-state solving is_job.script job is_job.accepted is_job.is_job origin bytes text
+              (subst (λ (s : State). (name : ℕ) → name < length job.program.names → (t : List ℕ) → fits_at number_limit (symbol_of s name).content t ≡ true) (sym ends.comes) is.fit) named;
+          placed = λ named.
+              placed-again solving.before.names (course_of job solving).state named
+              (subst (λ (s : State). 0 < length solving.before.names → s.settings.solver < length solving.before.names) (sym ends.comes)
+              (subst (λ (ns : List (List ℕ)). 0 < length ns → last.settings.solver < length ns) names is.chosen));
         }
 
 -- What is to be done behind the listing of a job that came to its end.
-pub follows_job : (status : Status) (solving : Solving) (request : Asked) (matter : Matter) (text bytes : List ℕ) (job : Job) (last : State) (programs : List (Lp Frac)) (solvers : List (List ℕ)) → IsJob solving.before.names matter job → Ends status job solving last programs →
+pub follows_job : (status : Status) (solving : Solving) (request : Asked) (matter : Matter) (text bytes : List ℕ) (job : Job) (last : State) (programs : List (Lp Frac)) (solvers : List (List ℕ)) → (is_job : IsJob solving.before.names matter job) → IfSome is_job.script.saved (IsGoneOn is_job.script.source is_job.script.line) → Ends status job solving last programs →
     IsRemarked request job.program last programs solving.answers text → IsSave status request solvers job.source job.program last bytes → solvers ≡ solving.before.names → Follows status solving request matter text bytes
-follows_job status solving request matter text bytes job last programs solvers is_job ends told saved names =
-    record { remarks = remarked status solving request matter text job last programs is_job ends told; saves = saves_job status solving request matter bytes job last programs solvers names is_job ends saved }
+follows_job status solving request matter text bytes job last programs solvers is_job origin ends told saved names =
+    record { remarks = remarked status solving request matter text job last programs is_job ends told; saves = saves_job status solving request matter bytes job last programs solvers names is_job origin ends saved }
 
 -- On what is refused there are no remarks, and nothing is saved.
 pub nothing_follows : (status : Status) (solving : Solving) (request : Asked) (matter : Matter) (text bytes : List ℕ) → status ≡ Compile → text ≡ [] → Follows status solving request matter text bytes

@@ -1,5 +1,5 @@
 -- What the pieces that read what is to be run and report it promise each other.
-use Rattle.std.specs.Prelude.{◌≡◌, ◌≢◌, ◌≤◌, ◌⊎◌, Bool, true, false, ℕ, List, [], ◌++◌, map, take, drop, length, Option, Some, None, option_map, IfSome, IfOk, Result, Ok, Err, Vec}
+use Rattle.std.specs.Prelude.{◌≡◌, ◌≢◌, ◌≤◌, ◌<◌, ◌⊎◌, Bool, true, false, ℕ, List, [], ◌++◌, map, take, drop, length, Option, Some, None, option_map, IfSome, IfOk, Result, Ok, Err, Vec}
 use Rattle.std.specs.List.{All}
 use Rattle.std.specs.declared.alloc.Global.{Global}
 use Rattle.std.specs.declared.alloc.AllocError.{AllocError}
@@ -12,10 +12,11 @@ use Rattle.gms_host.specs.Rules.{with_output, with_said}
 use Rattle.gms_host.specs.Spooling.{Passes, SaysFront}
 use Rattle.gms_ast.specs.declared.program.Program.{Program}
 use Rattle.gms_check.specs.declared.error.CompileError.{CompileError}
-use Rattle.gms_store.specs.State.{State, symbol_at, members_in}
+use Rattle.gms_store.specs.State.{State, fits_at, members_in, symbol_at, symbol_of}
 use Rattle.gms_store.specs.Declarations.{declared_state}
 use Rattle.gms_parse.specs.Outcomes.{IsProgram}
 use Rattle.gms_save.specs.JointErrors.{resumed}
+use Rattle.gms_save.specs.Saves.{IsSavedBy}
 use Rattle.gms_fits.specs.Alike.{IsAlike}
 use Rattle.gms_exec.specs.Stepping.{AreKept}
 use Rattle.gms_list.specs.ListingText.{end_text}
@@ -31,7 +32,7 @@ use Rattle.gms_run.specs.declared.script.Script.{Script as OwnScript}
 use Rattle.gms_run.specs.declared.script.Matter.{Matter as OwnMatter}
 use Rattle.gms_run.specs.declared.script.Matter.TheVariants.{ToRun, Unrestored}
 use Rattle.gms_run.specs.Solving.{Solving, SolvesNothing, number_limit, numbers_of}
-use Rattle.gms_run.specs.Scripts.{Script, Matter, scripted, unrestored, Taken, from_save, IsMatter, first_state}
+use Rattle.gms_run.specs.Scripts.{Script, Matter, scripted, unrestored, Taken, from_save, IsMatter, first_line, first_state, joint_source}
 use Rattle.gms_run.specs.Jobs.{solver_name, status_code}
 use Rattle.gms_run.specs.Listings.{AreRemarks, IsAccepted, IsListing, IsModelLine, SavesSo, errors_text, save_file}
 use Rattle.gms_run.specs.Statuses.{CountsSo, EndsByNoFault, IsFileOf, IsUnread, IsUnwrittenFile, RanSo, SaysLine, with_read, with_save, with_source}
@@ -53,26 +54,40 @@ abbrev pub matter_in : OwnMatter → State → Matter
 matter_in (ToRun script) state = scripted (script_in script state)
 matter_in (Unrestored fault) state = unrestored fault
 
--- A saved state from which a run of a joint source can go on: its settings choose one of so many solvers, the members of a set are as long as it
--- has positions, and where the source is a program its names are declared there as it declares them.
-pub record CanGoOn (solvers : ℕ) (source : List ℕ) (state : State) : Type 0 where
+-- A source is joint, a file behind that of a program, at this line, and the state is a saved one of the program.
+pub record IsGoneOn (source : List ℕ) (line : ℕ) (state : State) : Type 0 where
+  pub before : List ℕ
+  pub file : List ℕ
+  pub program : Program Frac
+  pub solver : List ℕ
+  pub joint : source ≡ joint_source before file
+  pub begins : line ≡ first_line before
+  pub is_program : IsProgram number_limit before frac_value program
+  pub is_saved : IsSavedBy program state solver
+
+-- A saved state from which a run of a joint source can go on, whose file begins at a line: its settings choose one of so many solvers, the members of
+-- a set are as long as it has positions, and where the source is a program its names are declared there as it declares them.
+pub record CanGoOn (solvers : ℕ) (source : List ℕ) (line : ℕ) (state : State) : Type 0 where
+  pub origin : IsGoneOn source line state
   pub settings : AreKept solvers state.settings
   pub arity : (name : ℕ) → All (λ t. length t ≡ length (symbol_at state name).domain) (members_in (symbol_at state name).content)
   pub declares : (program : Program Frac) → IsProgram number_limit source frac_value program → (name : ℕ) → IsAlike (resumed frac_value state program) (declared_state program) name
 
 -- a run of a source can go on from a saved state, where there is one
-abbrev pub IsSound : ℕ → List ℕ → Option State → Type 0
-IsSound solvers source None = Unit {0}
-IsSound solvers source (Some state) = CanGoOn solvers source state
+abbrev pub IsSound : ℕ → List ℕ → ℕ → Option State → Type 0
+IsSound solvers source line None = Unit {0}
+IsSound solvers source line (Some state) = CanGoOn solvers source line state
 
 -- the same of what there is to run
 abbrev pub IsSoundMatter : ℕ → Matter → Type 0
-IsSoundMatter solvers (scripted script) = IsSound solvers script.source script.saved
+IsSoundMatter solvers (scripted script) = IsSound solvers script.source script.line script.saved
 IsSoundMatter solvers (unrestored fault) = Unit {0}
 
--- A run begins its program in this state: the script is accepted, and the state is the first one of it.
+-- A run begins its program in this state: the script is accepted, and the state is the first one of it; a saved state that it goes on from is one of
+-- the saved source's program.
 pub record Begins (solvers : List (List ℕ)) (script : Script) (program : Program Frac) (state : State) : Type 0 where
   pub accepted : IsAccepted solvers script program
+  pub origin : IfSome script.saved (IsGoneOn script.source script.line)
   pub first : state ≡ first_state script.saved program
 
 -- ---- transfers
@@ -172,10 +187,16 @@ abbrev pub IsRemarked : Asked → Program Frac → State → List (Lp Frac) → 
 IsRemarked request program last solved answers text =
     (ranges line : List ℕ) × IsRanged request.ranges program solved answers ranges × IsTold request.source program last answers line × (text ≡ ranges ++ line)
 
--- the bytes are the save of a last state over a source, where the run is to be saved
+-- The bytes are the save of a last state over a source, the numbers of the state are within the limit, and its settings choose one of the solvers,
+-- where there are some.
+pub record KeepsState (solvers : List (List ℕ)) (source : List ℕ) (program : Program Frac) (last : State) (bytes : List ℕ) : Type 0 where
+  pub text : bytes ≡ saved_text source program.names last (solver_name solvers last)
+  pub fit : (name : ℕ) → name < length program.names → (t : List ℕ) → fits_at number_limit (symbol_of last name).content t ≡ true
+  pub chosen : 0 < length solvers → last.settings.solver < length solvers
+
+-- that is so where the run is to be saved
 abbrev pub IsSave : Status → Asked → List (List ℕ) → List ℕ → Program Frac → State → List ℕ → Type 0
-IsSave status request solvers source program last bytes =
-    IfSome (save_file status request) (λ file. bytes ≡ saved_text source program.names last (solver_name solvers last))
+IsSave status request solvers source program last bytes = IfSome (save_file status request) (λ file. KeepsState solvers source program last bytes)
 
 -- ---- counts
 

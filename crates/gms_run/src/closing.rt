@@ -1,6 +1,8 @@
 //! What is done at the end of a run: the remarks on it are said, its last state is saved, and the closing line is said.
-ghost use Rattle.std.specs.Prelude.{◌≡◌, ◌++◌, codes, map, option_map, slice_get, unwrap_or, IfOk, OnOk, string_bytes};
+ghost use Rattle.std.specs.Prelude.{◌≡◌, ◌<◌, ◌++◌, ℕ, List, true, codes, length, map, option_map, slice_get, unwrap_or, IfOk, OnOk, string_bytes};
 ghost use Rattle.gq_frac.specs.Frac.{frac_value};
+ghost use Rattle.gms_store.specs.State.{fits_at, symbol_of};
+ghost use Rattle.gms_exec.specs.Stepping.{AreKept};
 ghost use Rattle.gms_ranges.specs.Answered.{AreAnswered};
 ghost use Rattle.gms_words.specs.CommandLine.{asked_by, closing_line, origin};
 ghost use Rattle.gms_host.specs.Rules.{CountsWriting};
@@ -17,6 +19,7 @@ use gms_ast::Program;
 use gms_host::{Failed, Host};
 use gms_ranges::ranges_text;
 use gms_save::save;
+use gms_store::Store;
 use gms_tuple::Tuple;
 use gms_words::{Request, Source, closing_line, generated_line};
 use gq_field::ExactField;
@@ -56,6 +59,15 @@ fn solver_name(solvers: &[Box<dyn LpSolver>], place: u32) -> &str
     match solvers.get(place as usize) {
         Some(solver) => own_name(solver),
         None => NO_SOLVER,
+    }
+}
+
+/// Looks at what each of so many names of a state has: its numbers are within the limit, as those of a store are.
+fn look_at_numbers(store: &Store<Frac>, names: u32)
+    ensures { (name : ℕ) → name < names → (t : List ℕ) → fits_at number_limit (symbol_of store.now name).content t ≡ true }
+{
+    for name in 0..names {
+        let _given = store.given(name);
     }
 }
 
@@ -173,11 +185,13 @@ impl Run {
         program: &Program<Frac>,
         solvers: &[Box<dyn LpSolver>],
     ) -> Result<Vec<u8>, AllocError>
+        requires { AreKept (length solvers.now) self.now.store.settings }
         ensures { IfOk result (λ bytes. IsSave status (asked_by request.entry) (map name solvers.now) source.now program.now self.now.store bytes.items) }
     {
         if save_file(status, request).is_none() {
             return Ok(Vec::new(alloc));
         }
+        look_at_numbers(&self.store, program.names.len());
         let solver = solver_name(solvers, self.store.settings().solver);
         save(alloc, source, program, &self.store, solver)
     }

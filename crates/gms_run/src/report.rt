@@ -145,7 +145,7 @@ fn checked<H: Host>(
     requires open { (H.meaning host.old).outside.writing ≡ true }
     requires few { length solvers.old.items < 2 ^ 32 }
     requires is_program { IsProgram number_limit script.source.now frac_value program.now }
-    requires sound { IsSound (length solvers.old.items) (script_in script run.old.store).source (script_in script run.old.store).saved }
+    requires sound { IsSound (length solvers.old.items) (script_in script run.old.store).source script.line (script_in script run.old.store).saved }
     requires none { answers.old.items ≡ [] }
     requires empty { outlet.old.spool ++ outlet.old.listing ≡ [] }
     requires silent { string_bytes run.old.remarks ≡ [] }
@@ -178,7 +178,7 @@ fn parsed<H: Host>(
 ) -> Result<Status, Failed>
     requires open { (H.meaning host.old).outside.writing ≡ true }
     requires few { length solvers.old.items < 2 ^ 32 }
-    requires sound { IsSound (length solvers.old.items) (script_in script run.old.store).source (script_in script run.old.store).saved }
+    requires sound { IsSound (length solvers.old.items) (script_in script run.old.store).source script.line (script_in script run.old.store).saved }
     requires none { answers.old.items ≡ [] }
     requires empty { outlet.old.spool ++ outlet.old.listing ≡ [] }
     requires silent { string_bytes run.old.remarks ≡ [] }

@@ -6,7 +6,7 @@ ghost use Rattle.gms_lex.specs.Tokens.{most_bytes};
 ghost use Rattle.gms_words.specs.CommandLine.{texts, request_of, asked_by, in_file, restarted, generated, read_fault_line};
 ghost use Rattle.gms_run.specs.InnerReports.{CanGoOn, CountsMention, CountsRun, EndsAs, IsSoundMatter, RanBehind, RanOf, matter_in};
 ghost use Rattle.gms_run.specs.InnerSteps.{ComesTo};
-ghost use Rattle.gms_run.specs.Scripts.{from_save, joint_script, joint_source, script_of, scripted};
+ghost use Rattle.gms_run.specs.Scripts.{first_line, from_save, joint_script, joint_source, script_of, scripted};
 ghost use Rattle.gms_run.specs.Solving.{solving};
 ghost use Rattle.gms_run.specs.Statuses.{CountsSo, EndsByNoFault, HasOrigin, IsReadyFor, IsReported, IsRun, IsWriteFault, MeetsNoFault, NamesProgram, OfRequest, RanSo, SaysLine};
 
@@ -179,7 +179,7 @@ fn run_joint<H: Host>(
 ) -> Result<Status, AllocError>
     requires few { length solvers.old.items < 2 ^ 32 }
     requires short { length saved.old.source.items ≤ most_bytes }
-    requires sound { CanGoOn (length solvers.old.items) (joint_source saved.old.source.items file.now) saved.old.store }
+    requires sound { CanGoOn (length solvers.old.items) (joint_source saved.old.source.items file.now) (first_line saved.old.source.items) saved.old.store }
     requires none { answers.old.items ≡ [] }
     ensures ran { IfOk result (λ status. RanSo status (solving name rule paths solvers.old.items solvers.new.items answers.new.items) (H.meaning host.old).outside (H.meaning host.new).outside (asked_by request.entry) (scripted (joint_script saved.old.source.items saved.old.store file.now))) }
     ensures counts { CountsRun result ((H.meaning host.old).counts.reliable ≡ true) (H.meaning host.old).counts (H.meaning host.new).counts }
@@ -376,7 +376,8 @@ fn run_words<H: Host>(
 ///
 /// With `--restart` that file is read before FILE, and FILE goes on from the state that was saved in it: the source is the saved source with FILE
 /// behind it, of which FILE is echoed and its statements are executed. With `--save`, where every statement was executed, the last state is
-/// written to that file, behind the closed output and before the closing lines (docs/SAVES.md; GAMS User's Guide, "Save and Restart").
+/// written to that file, behind the closed output and before the closing lines (docs/SAVES.md; GAMS User's Guide, "Save and Restart"): a save by the
+/// definition that `restore` goes by, so that it gives this state back.
 ///
 /// What a run did is one statement, by its status, and holds over every host, whatever it tells: there is a source, which is what the
 /// host has at the name where it tells its files, and what the answers are to it, and what stands outside. Done and Execution: the source is

@@ -3,16 +3,13 @@ ghost use Rattle.std.specs.Prelude.{◌≡◌};
 ghost use Rattle.gms_saved.specs.declared.fault.ReadFault.TheVariants.{Memory};
 
 use std::alloc::{AllocError, AllocFailed};
-use thiserror::Error;
 
 /// Why a text was not read as a part of a saved state.
-#[derive(Clone, Copy, Debug, PartialEq, Eq, Error)]
+#[derive(Clone, Copy)]
 pub enum ReadFault {
     /// A growth found no memory.
-    #[error("out of memory")]
     Memory,
     /// The text is none that a state has.
-    #[error("this is no saved state")]
     Shape,
 }
 

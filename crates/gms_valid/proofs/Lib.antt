@@ -17,3 +17,4 @@ pub mod OwnProgram
 pub mod OwnLoaded
 pub mod ChosenSolvers
 pub mod LastSaves
+pub mod Continued

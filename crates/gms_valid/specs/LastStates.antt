@@ -1,19 +1,29 @@
 -- The state in which the run of a program ends (GAMS User's Guide, "GAMS Programs", "Save and Restart").
-use Rattle.std.specs.Prelude.{◌≡◌, ◌≤◌, ◌++◌, ℕ, List, flat_map, length}
+use Rattle.std.specs.Prelude.{◌≡◌, ◌≤◌, ◌++◌, ℕ, true, List, drop, flat_map, length}
 use Rattle.gq_number.specs.Number.{Number}
 use Rattle.gms_ast.specs.declared.program.Program.{Program}
 use Rattle.gms_ast.specs.declared.program.Stmt.{Stmt}
-use Rattle.gms_store.specs.State.{State}
+use Rattle.gms_store.specs.State.{State, fits_at, symbol_at}
 use Rattle.gms_known.specs.DynamicSets.{assigned}
 use Rattle.gms_check.specs.Loaded.{loaded}
 use Rattle.gms_exec.specs.Run.{World, run_from}
 use Rattle.gms_frames.specs.Agreeing.{HasAll}
+use Rattle.gms_save.specs.JointErrors.{resumed, saved_statements}
 use Rattle.lp_core.specs.declared.answer.Answer.{Answer}
 
 -- the last state of the run of a program from its first state, with these answers
 abbrev pub last_state : {F : Type 0} → (F → Number) → ℕ → World F → List (Answer Number) → State
 last_state value limit world answers =
     (run_from value limit world (loaded value world.program) answers world.program.statements.items).state
+
+-- the last state of a run that goes on from a saved state, of a joint program's statements that begin at this line or below it
+abbrev pub later_state : {F : Type 0} → (F → Number) → ℕ → ℕ → World F → State → List (Answer Number) → State
+later_state value limit from world state answers =
+    (run_from value limit world (resumed value state world.program) answers (drop (length (saved_statements from world.program)) world.program.statements.items)).state
+
+-- the numbers of a state fit a limit
+abbrev pub NumbersFit : ℕ → State → Type 0
+NumbersFit most state = (name : ℕ) (t : List ℕ) → fits_at most (symbol_at state name).content t ≡ true
 
 -- A program goes on behind a saved one: its first statements assign the sets that those of the saved one assign, it has at least the labels of that, and
 -- it begins with all that the saved one begins with.

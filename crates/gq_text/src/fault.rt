@@ -3,16 +3,13 @@ ghost use Rattle.std.specs.Prelude.{◌≡◌};
 ghost use Rattle.gq_text.specs.Faults.{fault_code};
 
 use gq_field::Limit;
-use thiserror::Error;
 
 /// Why a text was not read as a number.
-#[derive(Clone, Copy, Debug, PartialEq, Eq, Error)]
+#[derive(Clone, Copy)]
 pub enum NumberFault {
     /// The text is no number.
-    #[error("this is no number")]
     Shape,
     /// The text is a number that is not within the limit.
-    #[error("the number is out of range")]
     Limit,
 }
 

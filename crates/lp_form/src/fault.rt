@@ -5,16 +5,13 @@ ghost use Rattle.lp_form.specs.declared.fault.FormFault.TheVariants.{Memory};
 use crate::key::Key;
 use std::alloc::{AllocError, AllocFailed};
 use std::fmt;
-use thiserror::Error;
 
 /// Why a form was not made.
-#[derive(Debug, Drop, Error)]
+#[derive(Debug, Drop)]
 pub enum FormFault {
     /// A step does not fit under the limit of the field: that of the constant, or that of this key, the first such one.
-    #[error("a step passes the limit of the numbers")]
     Limit(Option<Key>),
     /// A growth found no memory.
-    #[error("out of memory")]
     Memory,
 }
 

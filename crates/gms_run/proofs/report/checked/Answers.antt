@@ -8,7 +8,7 @@ use Rattle.gms_run.specs.declared.status.Status.TheVariants.{Compile}
 use Rattle.gms_run.specs.InnerReports.{script_in}
 use Rattle.gms_run.specs.Scripts.{errors_of, scripted}
 use Rattle.gms_run.specs.Solving.{solving}
-use Rattle.gms_run.proofs.Beginning.{first_plain, first_settings}
+use Rattle.gms_run.proofs.Beginning.{first_origin, first_plain, first_settings}
 use Rattle.gms_run.proofs.Comings.{writing_memory}
 use Rattle.gms_run.proofs.Reports.{lists_as, lists_none, nothing_follows, prepares_errors}
 use Rattle.gms_run.proofs.report.checked.Goals as goal
@@ -19,7 +19,7 @@ begin-requires g c =
 
 pub execute-requires-clause-settings : goal.execute-requires-clause-settings
 execute-requires-clause-settings g c =
-    first_settings (length c.args.solvers.now.items) (script_in c.args.script c.args.run.now.store).source (script_in c.args.script c.args.run.now.store).saved c.args.program.now c.begin.new.store c.in_ok-begin.ensures c.requires.sound
+    first_settings (length c.args.solvers.now.items) (script_in c.args.script c.args.run.now.store).source c.args.script.line (script_in c.args.script c.args.run.now.store).saved c.args.program.now c.begin.new.store c.in_ok-begin.ensures c.requires.sound
 
 pub execute-requires-clause-plain : goal.execute-requires-clause-plain
 execute-requires-clause-plain g c =
@@ -64,11 +64,11 @@ returns-in_err-begin-clause-counts g c =
 
 pub returns-clause-outside : goal.returns-clause-outside
 returns-clause-outside g c =
-    c.execute.ensures.outside c.args.run.now.store (record { accepted = record { is_program = c.requires.is_program; no_error = (lists_none c.in_ok-has_errors.field-0 (errors_of (script_in c.args.script c.args.run.now.store).saved (script_in c.args.script c.args.run.now.store).line c.args.program.now (map (λ b. (goal.LpSolver-dyn g (b.vtable, b.value)).name b.value) c.args.solvers.now.items)) (script_in c.args.script c.args.run.now.store) c.args.outlet.now.listing c.has_errors.new.listing c.if-branch.false (lists_as (λ b. (goal.LpSolver-dyn g (b.vtable, b.value)).name b.value) c.as_slice.result.now c.args.solvers.now.items c.in_ok-has_errors.field-0 (script_in c.args.script c.args.run.now.store) c.args.program.now c.args.outlet.now.listing c.has_errors.new.listing c.as_slice.ensures.value (c.in_ok-has_errors.ensures c.args.run.now.store))).0 }; first = c.in_ok-begin.ensures })
+    c.execute.ensures.outside c.args.run.now.store (record { accepted = record { is_program = c.requires.is_program; no_error = (lists_none c.in_ok-has_errors.field-0 (errors_of (script_in c.args.script c.args.run.now.store).saved (script_in c.args.script c.args.run.now.store).line c.args.program.now (map (λ b. (goal.LpSolver-dyn g (b.vtable, b.value)).name b.value) c.args.solvers.now.items)) (script_in c.args.script c.args.run.now.store) c.args.outlet.now.listing c.has_errors.new.listing c.if-branch.false (lists_as (λ b. (goal.LpSolver-dyn g (b.vtable, b.value)).name b.value) c.as_slice.result.now c.args.solvers.now.items c.in_ok-has_errors.field-0 (script_in c.args.script c.args.run.now.store) c.args.program.now c.args.outlet.now.listing c.has_errors.new.listing c.as_slice.ensures.value (c.in_ok-has_errors.ensures c.args.run.now.store))).0 }; origin = first_origin (length c.args.solvers.now.items) (script_in c.args.script c.args.run.now.store).source c.args.script.line (script_in c.args.script c.args.run.now.store).saved c.requires.sound; first = c.in_ok-begin.ensures })
 
 pub returns-clause-follows : goal.returns-clause-follows
 returns-clause-follows g c =
-    c.execute.ensures.follows c.args.run.now.store (record { accepted = record { is_program = c.requires.is_program; no_error = (lists_none c.in_ok-has_errors.field-0 (errors_of (script_in c.args.script c.args.run.now.store).saved (script_in c.args.script c.args.run.now.store).line c.args.program.now (map (λ b. (goal.LpSolver-dyn g (b.vtable, b.value)).name b.value) c.args.solvers.now.items)) (script_in c.args.script c.args.run.now.store) c.args.outlet.now.listing c.has_errors.new.listing c.if-branch.false (lists_as (λ b. (goal.LpSolver-dyn g (b.vtable, b.value)).name b.value) c.as_slice.result.now c.args.solvers.now.items c.in_ok-has_errors.field-0 (script_in c.args.script c.args.run.now.store) c.args.program.now c.args.outlet.now.listing c.has_errors.new.listing c.as_slice.ensures.value (c.in_ok-has_errors.ensures c.args.run.now.store))).0 }; first = c.in_ok-begin.ensures })
+    c.execute.ensures.follows c.args.run.now.store (record { accepted = record { is_program = c.requires.is_program; no_error = (lists_none c.in_ok-has_errors.field-0 (errors_of (script_in c.args.script c.args.run.now.store).saved (script_in c.args.script c.args.run.now.store).line c.args.program.now (map (λ b. (goal.LpSolver-dyn g (b.vtable, b.value)).name b.value) c.args.solvers.now.items)) (script_in c.args.script c.args.run.now.store) c.args.outlet.now.listing c.has_errors.new.listing c.if-branch.false (lists_as (λ b. (goal.LpSolver-dyn g (b.vtable, b.value)).name b.value) c.as_slice.result.now c.args.solvers.now.items c.in_ok-has_errors.field-0 (script_in c.args.script c.args.run.now.store) c.args.program.now c.args.outlet.now.listing c.has_errors.new.listing c.as_slice.ensures.value (c.in_ok-has_errors.ensures c.args.run.now.store))).0 }; origin = first_origin (length c.args.solvers.now.items) (script_in c.args.script c.args.run.now.store).source c.args.script.line (script_in c.args.script c.args.run.now.store).saved c.requires.sound; first = c.in_ok-begin.ensures })
 
 pub returns-clause-counts : goal.returns-clause-counts
 returns-clause-counts g c = c.execute.ensures.counts

@@ -10,8 +10,9 @@ use Rattle.gms_run.proofs.top_call.run_joint.Goals as goal
 
 pub run_matter-requires-clause-sound : goal.run_matter-requires-clause-sound
 run_matter-requires-clause-sound g c =
-    subst (λ (t : List ℕ). CanGoOn (length c.args.solvers.now.items) t c.swap.new.x) (sym (c.as_slice-3.ensures.value ∙ c.in_ok-source.ensures ∙ ap (λ (t : List ℕ). joint_source t c.args.file.now) c.as_slice.ensures.value))
-    (subst (λ (s : State). CanGoOn (length c.args.solvers.now.items) (joint_source c.args.saved.now.source.items c.args.file.now) s) (sym c.swap.ensures.x_after) c.requires.sound)
+    subst (λ (t : List ℕ). CanGoOn (length c.args.solvers.now.items) t c.first_line-line.result c.swap.new.x) (sym (c.as_slice-3.ensures.value ∙ c.in_ok-source.ensures ∙ ap (λ (t : List ℕ). joint_source t c.args.file.now) c.as_slice.ensures.value))
+    (subst (λ (n : ℕ). CanGoOn (length c.args.solvers.now.items) (joint_source c.args.saved.now.source.items c.args.file.now) n c.swap.new.x) (sym (c.first_line-line.ensures ∙ ap first_line c.as_slice-2.ensures.value))
+    (subst (λ (s : State). CanGoOn (length c.args.solvers.now.items) (joint_source c.args.saved.now.source.items c.args.file.now) (first_line c.args.saved.now.source.items) s) (sym c.swap.ensures.x_after) c.requires.sound))
 
 pub returns-clause-ran : goal.returns-clause-ran
 returns-clause-ran g c =

@@ -1,16 +1,18 @@
 -- The statements, and what is to be done behind their listing.
-use Rattle.std.proofs.Common.{List, subst, sym}
+use Rattle.std.proofs.Common.{List, length, subst, sym}
 use Rattle.std.specs.Prelude.{string_bytes}
 use Rattle.std.proofs.lemmas.Result.{err_from_is_err_and}
 use Rattle.gq_frac.specs.declared.frac.Frac.{Frac}
 use Rattle.gq_frac.specs.Frac.{frac_value}
 use Rattle.lp_core.specs.declared.answer.Answer.{Answer}
+use Rattle.gms_exec.specs.Stepping.{AreKept}
 use Rattle.gms_host.proofs.Counting.{writing_done, writing_more}
 use Rattle.gms_ranges.specs.Answered.{AreAnswered}
 use Rattle.gms_words.specs.CommandLine.{asked_by}
 use Rattle.gms_run.specs.InnerReports.{IsRemarked}
 use Rattle.gms_run.specs.Solving.{number_limit, solving}
 use Rattle.gms_run.proofs.Comings.{comes_err, writing_err, writing_memory}
+use Rattle.gms_run.proofs.Executing.{same_many}
 use Rattle.gms_run.proofs.Reports.{ends_answered}
 use Rattle.gms_run.proofs.execution.Run.to_end.Goals as goal
 
@@ -19,6 +21,12 @@ pub remark-requires : goal.remark-requires
 remark-requires g c =
     subst (λ (given : List (Answer Frac)). AreAnswered frac_value number_limit c.statements.new.solved.items given) (sym c.as_slice-given.ensures.value)
     (ends_answered _ _ (solving (λ b. (goal.LpSolver-dyn g (b.vtable, b.value)).name b.value) (λ b. (goal.LpSolver-dyn g (b.vtable, b.value)).rule b.value) (λ b. (goal.LpSolver-dyn g (b.vtable, b.value)).paths b.value) c.args.solvers.now.items c.statements.new.solvers.items c.statements.new.answers.items) _ _ c.in_ok-status.ensures.outside.ends)
+
+-- the last state chooses one of the solvers, which are as many as before
+pub saved-requires : goal.saved-requires
+saved-requires g c =
+    subst (λ (solvers : List _). AreKept (length solvers) c.statements.new.store.settings) (sym c.as_slice.ensures.value)
+    (subst (λ n. AreKept n c.statements.new.store.settings) (sym (same_many (λ b. (goal.LpSolver-dyn g (b.vtable, b.value)).name b.value) c.statements.new.solvers.items c.args.solvers.now.items c.in_ok-status.ensures.outside.ends.solved.grown.names)) c.in_ok-status.ensures.settings)
 
 pub returns-in_err-status-clause-outside : goal.returns-in_err-status-clause-outside
 returns-in_err-status-clause-outside g c state =

@@ -1,0 +1,186 @@
+-- The save of the last state of a run is one that is restored.
+use Rattle.std.proofs.Common.{◌≡◌, ◌≢◌, ◌≤◌, ◌<◌, ◌∙◌, ◌+◌, ◌==◌, ℕ, zero, suc, Bool, true, false, ◌&&◌, not, List, [], ◌∷◌, length, get_or, slice_get, unwrap_or, Option, Some, None, Result, Ok, Err, Vec, refl, sym, ap, ap₂, subst, cond, arith, codes}
+use Rattle.std.specs.Prelude.{IfOk, IfSome, nat_le, nat_lt}
+use Rattle.std.specs.List.{All, list_all, position}
+use Rattle.std.specs.Char.{is_ascii_alphabetic}
+use Rattle.std.specs.Str.{bytes_eq, str_eq_ignore_ascii_case}
+use Rattle.std.specs.declared.alloc.Global.{Global}
+use Rattle.std.proofs.lemmas.Bool.{ltb-true}
+use Rattle.std.proofs.lemmas.Bool.Decides.{nat_tests}
+use Rattle.std.proofs.lemmas.List.{length-map}
+use Rattle.std.proofs.lemmas.List.Elements.{All-get_or, All-head, All-tail}
+use Rattle.std.proofs.lemmas.Option.{slice_get_past, unwrap_or-slice_get}
+use Rattle.std.proofs.lemmas.Slice.Eq.{bytes_eq-Decides}
+use Rattle.gq_frac.specs.declared.frac.Frac.{Frac}
+use Rattle.gq_frac.specs.Frac.{frac_value}
+use Rattle.gms_ast.specs.declared.program.Program.{Program}
+use Rattle.gms_ast.specs.declared.program.Stmt.{Stmt}
+use Rattle.gms_labels.proofs.Places.{is_same_refl, position_misses}
+use Rattle.gms_store.specs.State.{Content, undeclared, alias_of, set_of, parameter_of, variable_of, equation_of, model_with, Symbol, State, no_symbol, behind, fits_at, symbol_at, symbol_of, with_content}
+use Rattle.gms_parse.specs.Outcomes.{IsProgram}
+use Rattle.gms_check.specs.Loaded.{IsAccepted as IsAcceptedBy, loaded}
+use Rattle.gms_exec.specs.Run.{World, run_from}
+use Rattle.gms_saved.specs.SavedState.{saved_text}
+use Rattle.gms_saved.specs.Validity.{declared_in, emptied, is_solver_byte, is_solver_name}
+use Rattle.gms_save.specs.JointErrors.{joint_errors}
+use Rattle.gms_save.specs.Saves.{IsSaveOf, IsSavedBy, place_of_solver, solvers_chosen}
+use Rattle.gms_save.proofs.LoadedNames.{declared-count, loaded-declares}
+use Rattle.gms_valid.proofs.Continued.{later-saved, state-kept as later-state-kept}
+use Rattle.gms_valid.proofs.LastSaves.{last-saved}
+use Rattle.gms_valid.proofs.OwnLoaded.{has-its-labels}
+use Rattle.gms_valid.proofs.Saved.{state-kept}
+use Rattle.gms_valid.specs.LastStates.{later_state}
+use Rattle.lp_slot.specs.SolverNames.{IsSolverName, may_stand_in_name}
+use Rattle.gms_run.specs.Solving.{Solving, number_limit, numbers_of}
+use Rattle.gms_run.specs.Scripts.{Script, errors_of, first_line, first_state, joint_source, statements_of}
+use Rattle.gms_run.specs.Jobs.{Job, course_of, job_of, save_text, solver_name}
+use Rattle.gms_run.specs.Listings.{IsAccepted}
+use Rattle.gms_run.specs.InnerReports.{IsGoneOn, KeepsState}
+
+-- ---- the name of the solver
+
+both-true : (a b : Bool) → a ≡ true → b ≡ true → (a && b) ≡ true
+both-true a b e f = ap₂ (λ (x y : Bool). x && y) e f
+
+second-true : (a b : Bool) → (a && b) ≡ true → b ≡ true
+second-true true b e = e
+second-true false b e = cc
+
+short-rest : (n : ℕ) → n + 1 ≤ 63 → nat_le n 62 ≡ true
+short-rest n few = grind (arith, nat_tests)
+
+-- the name of a solver is one that a save has
+name-saved : (name : List ℕ) → IsSolverName name → is_solver_name name ≡ true
+name-saved [] is = absurd (let e : false ≡ true = is.letter in cc)
+name-saved (first ∷ rest) is =
+    both-true (is_ascii_alphabetic first) (list_all is_solver_byte rest && nat_le (length rest) 62) is.letter
+    (both-true (list_all is_solver_byte rest) (nat_le (length rest) 62) (second-true (may_stand_in_name first) (list_all may_stand_in_name rest) is.plain) (short-rest (length rest) (omega (arith, is.short))))
+
+-- what a save has for the solver of a place
+solver-saved : (names : List (List ℕ)) (place : ℕ) → All IsSolverName names → is_solver_name (unwrap_or (slice_get names place) (codes "none")) ≡ true
+solver-saved [] place all = refl
+solver-saved (name ∷ names) zero all = name-saved name (All-head IsSolverName name names all)
+solver-saved (name ∷ names) (suc place) all = solver-saved names place (All-tail IsSolverName name names all)
+
+-- the name of a solver is not the word that says that there was none
+not-none : (name : List ℕ) → IsSolverName name → bytes_eq name (codes "none") ≡ false
+not-none name is = by (bytes_eq name (codes "none")) refl
+  where
+    by : (b : Bool) → bytes_eq name (codes "none") ≡ b → b ≡ false
+    by false apart = refl
+    by true same =
+        let differs : not (str_eq_ignore_ascii_case (codes "none") (codes "none")) ≡ true = subst (λ (n : List ℕ). not (str_eq_ignore_ascii_case n (codes "none")) ≡ true) ((bytes_eq-Decides name (codes "none")).0 same) is.not_none in
+        absurd (let z : ⊥ = cc in z)
+
+-- a name that stands at a place is placed
+placed-there : (names : List (List ℕ)) (place : ℕ) → place < length names → All IsSolverName names → place_of_solver names (get_or names place (codes "none")) ≢ None
+placed-there names place below all none =
+    let solver = get_or names place (codes "none") in
+    let is : IsSolverName solver = All-get_or IsSolverName names place (codes "none") below all in
+    let lacks : position (λ name. str_eq_ignore_ascii_case name solver) names ≡ None =
+    ap (λ b. cond b (cond (length names == 0) (Some 0) None) (position (λ name. str_eq_ignore_ascii_case name solver) names)) (sym (not-none solver is)) ∙ none in
+    let misses : str_eq_ignore_ascii_case solver solver ≡ false = position_misses (λ name. str_eq_ignore_ascii_case name solver) names lacks place (codes "none") below in
+    let same : str_eq_ignore_ascii_case solver solver ≡ true = is_same_refl solver in
+    let z : ⊥ = cc in z
+
+-- what a save has for the solver of a state is placed among the same solvers, where the state chooses one of them or there are none
+pub placed-again : (names : List (List ℕ)) (state : State) → All IsSolverName names → (0 < length names → state.settings.solver < length names) → place_of_solver names (solver_name names state) ≢ None
+placed-again [] state all chosen none = let z : ⊥ = cc in z
+placed-again (name ∷ names) state all chosen none =
+    let below : state.settings.solver < length (name ∷ names) = chosen (omega arith) in
+    placed-there (name ∷ names) state.settings.solver below all
+    (ap (λ (solver : List ℕ). place_of_solver (name ∷ names) solver) (sym (unwrap_or-slice_get (name ∷ names) state.settings.solver (codes "none"))) ∙ none)
+
+-- ---- numbers
+
+-- what fits where a name stands for itself fits, and so does an alias, which has no numbers
+fits-itself : (limit : ℕ) (state : State) (name : ℕ) (t : List ℕ) → fits_at limit (symbol_of state name).content t ≡ true → fits_at limit (symbol_at state name).content t ≡ true
+fits-itself limit state name t fit = by (symbol_at state name).content refl
+  where
+    here : (content : Content) → (symbol_at state name).content ≡ content → behind name content ≡ name → fits_at limit content t ≡ true
+    here content is same =
+        subst (λ (c : Content). fits_at limit c t ≡ true) is (subst (λ (n : ℕ). fits_at limit (symbol_at state n).content t ≡ true) (ap (behind name) is ∙ same) fit)
+
+    by : (content : Content) → (symbol_at state name).content ≡ content → fits_at limit content t ≡ true
+    by undeclared is = refl
+    by (alias_of base) is = refl
+    by (set_of members) is = refl
+    by (parameter_of entries) is = here (parameter_of entries) is refl
+    by (variable_of type entries) is = here (variable_of type entries) is refl
+    by (equation_of entries) is = here (equation_of entries) is refl
+    by (model_with model solver) is = refl
+
+-- where the numbers of as many names fit as a state has, all do
+fits-each : (limit : ℕ) (state : State) (count : ℕ) → length state.symbols ≡ count → ((name : ℕ) → name < count → (t : List ℕ) → fits_at limit (symbol_of state name).content t ≡ true) → (name : ℕ) (t : List ℕ) → fits_at limit (symbol_at state name).content t ≡ true
+fits-each limit state count size fit name t = by (nat_lt name count) refl
+  where
+    by : (b : Bool) → nat_lt name count ≡ b → fits_at limit (symbol_at state name).content t ≡ true
+    by true below = fits-itself limit state name t (fit name (ltb-true name count below) t)
+    by false past =
+        let over : count ≤ name = grind (arith, nat_tests) in
+        ap (λ (o : Option Symbol). fits_at limit (unwrap_or o no_symbol).content t) (slice_get_past state.symbols name (subst (λ (n : ℕ). n ≤ name) (sym size) over))
+
+-- ---- the last state
+
+-- a state declares as much as another
+counts-as : (state : State) (program : Program Frac) → declared_in state ≡ declared_in (loaded frac_value program) → length state.symbols ≡ length program.names
+counts-as state program declares =
+    sym (length-map state.symbols (λ (symbol : Symbol). with_content symbol (emptied symbol.content)))
+    ∙ ap length (declares ∙ loaded-declares frac_value program)
+    ∙ declared-count program
+
+module _ (solving : Solving) (script : Script) (job : Job) (accepted : IsAccepted solving.before.names script job.program) (is_job : job ≡ job_of script job.program) where
+  abbrev world : World Frac
+  world = record { program = job.program; solvers = solving.before.names }
+
+  -- the state in which a script's program ends
+  abbrev ended : Option State → State
+  ended saved = (run_from frac_value number_limit world (first_state saved job.program) (numbers_of solving.answers) (statements_of saved script.line job.program)).state
+
+  ended-is : (course_of job solving).state ≡ ended script.saved
+  ended-is =
+      ap₂ (λ (state : State) (statements : List (Stmt Frac)). (run_from frac_value number_limit world state (numbers_of solving.answers) statements).state) (ap (λ (j : Job). j.state) is_job) (ap (λ (j : Job). j.statements) is_job)
+
+  -- the numbers of the names of a state fit
+  abbrev FitsThere : State → Type 0
+  FitsThere state = (name : ℕ) → name < length job.program.names → (t : List ℕ) → fits_at number_limit (symbol_of state name).content t ≡ true
+
+  abbrev named_by : State → List ℕ
+  named_by state = solver_name solving.before.names state
+
+  -- it is a saved state of the program, from the start and from a save
+  saved-by : (saved : Option State) → errors_of saved script.line job.program solving.before.names ≡ [] → IfSome saved (IsGoneOn script.source script.line) → FitsThere (ended saved) → All IsSolverName solving.before.names → IsSavedBy job.program (ended saved) (named_by (ended saved))
+  saved-by None none origin fit named =
+      let kept = state-kept frac_value number_limit world (solving.before.names, none) (has-its-labels number_limit script.source job.program accepted.is_program) (numbers_of solving.answers) in
+      last-saved number_limit script.source world (numbers_of solving.answers) (named_by (ended None)) accepted.is_program none
+      (fits-each number_limit (ended None) (length job.program.names) (counts-as (ended None) job.program kept.lasts.later.declares) fit) (solver-saved solving.before.names (ended None).settings.solver named)
+  saved-by (Some state) none origin fit named =
+      let joint : IsProgram number_limit (joint_source origin.before origin.file) frac_value job.program = subst (λ (source : List ℕ). IsProgram number_limit source frac_value job.program) origin.joint accepted.is_program in
+      let clean : joint_errors frac_value job.program (first_line origin.before) solving.before.names ≡ [] = ap (λ (n : ℕ). joint_errors frac_value job.program n solving.before.names) (sym origin.begins) ∙ none in
+      let one : IsAcceptedBy frac_value origin.program = (solvers_chosen origin.program, origin.is_saved.no_error) in
+      let kept = later-state-kept number_limit origin.before origin.file origin.program world origin.is_program joint one clean number_limit state origin.solver origin.is_saved (numbers_of solving.answers) in
+      subst (λ (s : State). IsSavedBy job.program s (named_by s)) (sym (later-is state origin))
+      (later-saved number_limit origin.before origin.file origin.program world state origin.solver (named_by (later state origin)) (numbers_of solving.answers) origin.is_program joint clean origin.is_saved
+      (fits-each number_limit (later state origin) (length job.program.names) (counts-as (later state origin) job.program kept.lasts.later.declares) (subst FitsThere (later-is state origin) fit)) (solver-saved solving.before.names (later state origin).settings.solver named))
+    where
+      later : (s : State) → IsGoneOn script.source script.line s → State
+      later s gone = later_state frac_value number_limit (first_line gone.before) world s (numbers_of solving.answers)
+
+      later-is : (s : State) (gone : IsGoneOn script.source script.line s) → ended (Some s) ≡ later s gone
+      later-is s gone = ap (λ (n : ℕ). later_state frac_value number_limit n world s (numbers_of solving.answers)) gone.begins
+
+  -- The bytes are a save of it.
+  pub saves-state : IfSome script.saved (IsGoneOn script.source script.line) → (bytes : List ℕ) → bytes ≡ save_text job solving → FitsThere (course_of job solving).state → All IsSolverName solving.before.names →
+      IsSaveOf bytes job.source job.program (course_of job solving).state (named_by (course_of job solving).state)
+  saves-state origin bytes text fit named = record {
+    is_program = subst (λ (source : List ℕ). IsProgram number_limit source frac_value job.program) (sym (ap (λ (j : Job). j.source) is_job)) accepted.is_program;
+    is_saved = subst (λ (s : State). IsSavedBy job.program s (named_by s)) (sym ended-is) (saved-by script.saved accepted.no_error origin (subst FitsThere ended-is fit) named);
+    text = text;
+  }
+
+-- what is to be saved, where the text is made and the numbers were looked at
+pub keeps_state : {E : Type 0} (r : Result (Vec ℕ Global) E) (file : Option (List ℕ)) (solvers : List (List ℕ)) (source : List ℕ) (program : Program Frac) (last : State) → IfOk r (λ bytes. bytes.items ≡ saved_text source program.names last (solver_name solvers last)) →
+    ((name : ℕ) → name < length program.names → (t : List ℕ) → fits_at number_limit (symbol_of last name).content t ≡ true) → (0 < length solvers → last.settings.solver < length solvers) → IfOk r (λ bytes. IfSome file (λ _. KeepsState solvers source program last bytes.items))
+keeps_state (Err e) file solvers source program last text fit chosen = tt
+keeps_state (Ok bytes) None solvers source program last text fit chosen = tt
+keeps_state (Ok bytes) (Some file) solvers source program last text fit chosen = record { text = text; fit = fit; chosen = chosen }
