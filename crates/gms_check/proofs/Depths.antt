@@ -14,5 +14,5 @@ indices-less_deep at name suffix indices = grind (the_lemmas, arith, common_step
 
 -- ---- the measures of functions that call one another
 
-pub indices-fall : (whole node deepest found t : ℕ) → deepest < node → whole ≡ node → found ≡ deepest → 3 * whole + 0 ≡ t → 3 * found + 1 < t
+pub indices-fall : (whole node deepest found t : ℕ) → deepest < node → whole ≡ node → found ≡ deepest → 3 * whole + 0 ≡ t → 3 * found + 2 < t
 indices-fall whole node deepest found t less is e d = omega arith

@@ -1,28 +1,34 @@
 -- A fold: its own errors, then its control, and its body under the sets, which are controlled no more behind it.
-use Rattle.std.proofs.Common.{◌≡◌, ℕ, Bool, List, [], ◌∷◌, ◌++◌, map, take, length, refl, sym, ap, ◌∙◌}
+use Rattle.std.proofs.Common.{◌≡◌, ℕ, Bool, List, [], ◌∷◌, ◌++◌, map, take, length, Option, refl, sym, ap, ◌∙◌}
 use Rattle.std.proofs.Math.Seq.{take-append_seam}
 use Rattle.gq_number.specs.Number.{Number}
 use Rattle.gms_labels.specs.declared.place.Place.{Place}
 use Rattle.gms_check.specs.declared.error.ErrorKind.{ErrorKind}
-use Rattle.gms_check.specs.Checking.{Checking, faulted, first_fault, known_of, noted, with_controlled}
-use Rattle.gms_check.specs.CompileErrors.{checked_kinds, has_error}
+use Rattle.gms_check.specs.declared.error.CompileError.{CompileError}
+use Rattle.gms_check.specs.Checking.{Checking, faulted, first_fault, known_of, noted, with_controlled, with_sets}
+use Rattle.gms_check.specs.CompileErrors.{checked_kinds, errors_at, errors_of, has_error}
+use Rattle.gms_check.specs.Errors.{first_of, sooner}
 use Rattle.gms_check.specs.Uses.{Use, Uses}
-use Rattle.gms_check.proofs.Noting.{noted-around, noted-then}
-
--- a check with so many of its sets controlled
-abbrev pub controlled_first : ℕ → Checking → Checking
-controlled_first outer c = record c { controlled = take outer c.controlled }
+use Rattle.gms_check.proofs.Noting.{errors-append, noted-around, noted-then, with_first}
+use Rattle.gms_check.proofs.Sooner.{first_of-append, sooner-left}
 
 module _ {F : Type 0} (value : F → Number) where
-  -- parts, then more sets, other parts under them, and the sets no more
-  pub noted-under : (c s t u : Checking) (xs ys : Uses F) (sets : List ℕ) (outer : ℕ) → outer ≡ length c.controlled → s ≡ with_controlled (noted value c xs) sets → t ≡ noted value s ys → u ≡ controlled_first outer t → u ≡ noted value c (xs ++ ys)
-  noted-under c s t u xs ys sets outer count e f g =
-      g ∙ ap (controlled_first outer) (f ∙ ap (λ (s : Checking). noted value s ys) e) ∙ ap (λ (controlled : List ℕ). record (noted value (noted value c xs) ys) { controlled = controlled }) (ap (λ n. take n (c.controlled ++ sets)) count ∙ take-append_seam c.controlled sets) ∙ noted-then value c (noted value c xs) (noted value (noted value c xs) ys) xs ys refl refl
+  -- a part between others, before them
+  noted-before : (c : Checking) (x : Place × Use F) (xs ys : Uses F) → noted value c (xs ++ x ∷ ys) ≡ noted value c (x ∷ (xs ++ ys))
+  noted-before c x xs ys =
+      let known = known_of value c in
+      let own = first_of (errors_at known x) in
+      ap (λ (first : Option CompileError). with_first c (sooner c.first first)) (ap first_of (errors-append known xs (x ∷ ys)) ∙ first_of-append (errors_of known xs) (errors_of known (x ∷ ys)) ∙ ap (sooner (first_of (errors_of known xs))) (first_of-append (errors_at known x) (errors_of known ys)) ∙ sooner-left (first_of (errors_of known xs)) own (first_of (errors_of known ys)) ∙ ap (sooner own) (sym (first_of-append (errors_of known xs) (errors_of known ys)) ∙ ap first_of (sym (errors-append known xs ys))) ∙ sym (first_of-append (errors_at known x) (errors_of known (xs ++ ys))))
 
-  -- the whole of a fold
-  pub noted-fold : (c r s t u v : Checking) (at : Place) (used : Use F) (faults late : List (Bool × ErrorKind)) (xs ys : Uses F) (sets : List ℕ) (outer : ℕ) → first_fault at (faults ++ late) ≡ first_fault at (map (λ kind. (has_error (known_of value c) used kind, kind)) checked_kinds) → outer ≡ length c.controlled → r ≡ faulted c at faults → s ≡ with_controlled (noted value r xs) sets → t ≡ noted value s ys → u ≡ controlled_first outer t → v ≡ faulted u at late → v ≡ noted value c ((at, used) ∷ (xs ++ ys))
-  noted-fold c r s t u v at used faults late xs ys sets outer same count e f g h i =
-      noted-around value c r u v at used faults late (xs ++ ys) same e (noted-under r s t u xs ys sets outer (count ∙ ap (λ (c : Checking). length c.controlled) (sym e)) f g h) i
+  -- a fold but for its control: its own errors, its body, and behind it fewer sets
+  pub noted-body : (c r t u v : Checking) (at : Place) (used : Use F) (faults late : List (Bool × ErrorKind)) (ys : Uses F) (outer : ℕ) → first_fault at (faults ++ late) ≡ first_fault at (map (λ kind. (has_error (known_of value c) used kind, kind)) checked_kinds) → r ≡ faulted c at faults → t ≡ noted value r ys → u ≡ with_sets t (take outer t.controlled) → v ≡ faulted u at late → v ≡ with_sets (noted value c ((at, used) ∷ ys)) (take outer c.controlled)
+  noted-body c r t u v at used faults late ys outer same e f g h =
+      h ∙ ap (λ (u : Checking). faulted u at late) g ∙ ap (λ (x : Checking). with_sets x (take outer t.controlled)) (noted-around value c r t (faulted t at late) at used faults late ys same e f refl) ∙ ap (λ (sets : List ℕ). with_sets (noted value c ((at, used) ∷ ys)) (take outer sets)) (ap (λ (x : Checking). x.controlled) f ∙ ap (λ (x : Checking). x.controlled) e)
+
+  -- the whole of a fold: its control, then the rest under the sets, which are controlled no more behind it
+  pub noted-fold : (c s : Checking) (fold : Place × Use F) (xs ys : Uses F) (sets : List ℕ) (outer : ℕ) → outer ≡ length c.controlled → s ≡ with_controlled (noted value c xs) sets → with_sets (noted value s (fold ∷ ys)) (take outer s.controlled) ≡ noted value c (fold ∷ (xs ++ ys))
+  noted-fold c s fold xs ys sets outer count e =
+      ap (λ (s : Checking). with_sets (noted value s (fold ∷ ys)) (take outer s.controlled)) e ∙ ap (λ (controlled : List ℕ). with_sets (noted value (noted value c xs) (fold ∷ ys)) controlled) (ap (λ n. take n (c.controlled ++ sets)) count ∙ take-append_seam c.controlled sets) ∙ noted-then value c (noted value c xs) (noted value (noted value c xs) (fold ∷ ys)) xs (fold ∷ ys) refl refl ∙ noted-before c fold xs ys
 
 -- how many sets are controlled
 pub controlled-counted : (outer : ℕ) (names : List ℕ) (c : Checking) → outer ≡ length names → names ≡ c.controlled → outer ≡ length c.controlled

@@ -1,5 +1,5 @@
 //! The check of sets: those that folds and loops control, and those of `ord` and `card`.
-ghost use Rattle.std.specs.Prelude.{◌≡◌, ◌++◌, [], ◌∷◌, not, IfOk, OnOk};
+ghost use Rattle.std.specs.Prelude.{◌≡◌, ◌++◌, [], ◌∷◌, false, not, IfOk, OnOk};
 ghost use Rattle.gms_known.specs.Names.{is_unknown};
 ghost use Rattle.gms_check.specs.Checking.{faulted, noted, seen, with_controlled};
 ghost use Rattle.gms_check.specs.Controls.{is_controlled_twice};
@@ -51,23 +51,27 @@ impl<'s, F: ExactField> Checker<'s, F> {
         Ok(twice)
     }
 
-    /// Checks `ord` of a set.
-    pub fn ordinal(&mut self, standing: Standing, at: Place, set: u32)
-        ensures { seen self.new ≡ noted F.value (seen self.old) ((at, ordinal standing (seen self.old).controlled set) ∷ []) }
+    /// Checks `ord` of a set. The answer is whether it has variables: it has none.
+    pub fn ordinal(&mut self, standing: Standing, at: Place, set: u32) -> bool
+        ensures noted { seen self.new ≡ noted F.value (seen self.old) ((at, ordinal standing (seen self.old).controlled set) ∷ []) }
+        ensures variable { result ≡ false }
     {
         let controlled = self.controlled.has(set);
         let ordered = self.known.is_ordered(set);
-        self.cardinal(standing, at, set);
+        let variable = self.cardinal(standing, at, set);
         self.require(controlled, ErrorKind::Uncontrolled, at);
         self.require(ordered, ErrorKind::NotOrdered, at);
+        variable
     }
 
-    /// Checks `card` of a set.
-    pub fn cardinal(&mut self, standing: Standing, at: Place, set: u32)
-        ensures { seen self.new ≡ noted F.value (seen self.old) ((at, cardinal standing set) ∷ []) }
+    /// Checks `card` of a set. The answer is whether it has variables: it has none.
+    pub fn cardinal(&mut self, standing: Standing, at: Place, set: u32) -> bool
+        ensures noted { seen self.new ≡ noted F.value (seen self.old) ((at, cardinal standing set) ∷ []) }
+        ensures variable { result ≡ false }
     {
         let stands = standing.numbers && self.known.is_set(set);
         self.require_known(set, at);
         self.require(stands, ErrorKind::WrongKind, at);
+        false
     }
 }

@@ -1,19 +1,19 @@
 //! The check of expressions: what stands in them, and which steps are not linear.
-ghost use Rattle.std.specs.Prelude.{◌≡◌, ◌++◌, ◌∷◌, [], ◌&&◌, not, IfOk, OnOk};
+ghost use Rattle.std.specs.Prelude.{◌≡◌, ◌++◌, ◌∷◌, [], ◌&&◌, false, not, take, IfOk, OnOk};
 ghost use Rattle.gms_ast.specs.TreeView.{control_tree, tree_of};
-ghost use Rattle.gms_check.specs.Checking.{faulted, known_of, noted, seen, with_controlled};
+ghost use Rattle.gms_check.specs.Checking.{faulted, known_of, noted, seen, with_controlled, with_sets};
 ghost use Rattle.gms_check.specs.Kinds.{takes};
-ghost use Rattle.gms_check.specs.Linearity.{has_variable, have_variable, is_sum};
+ghost use Rattle.gms_check.specs.Linearity.{has_variable, have_variable, is_sum, is_variable_by};
 ghost use Rattle.gms_check.specs.PartLists.{chosen_list, in_no_place, placed_list, plain_list, related_list, signed_list, step_curved, step_faults, step_wrong};
 ghost use Rattle.gms_check.specs.Standing.{as_condition, as_inner, as_number, as_part};
 ghost use Rattle.gms_check.specs.StatementUses.{index_list};
-ghost use Rattle.gms_check.specs.declared.error.ErrorKind.TheVariants.{Nonlinear};
-ghost use Rattle.gms_check.specs.Uses.{amount_uses, calling, control_uses, part_uses, sets_of, steps, uses};
+ghost use Rattle.gms_check.specs.declared.error.ErrorKind.TheVariants.{Nonlinear, WrongKind};
+ghost use Rattle.gms_check.specs.Uses.{amount_uses, calling, control_uses, folding, logic, part_uses, reading, sets_of, steps, uses};
 
 use crate::checker::Checker;
 use crate::error::ErrorKind;
 use crate::standing::Standing;
-use gms_ast::{Control, Expr, FoldOp, Function, Index, Named, RelOp};
+use gms_ast::{Control, Expr, FoldOp, Function, Index, Named, RelOp, Suffix};
 use gms_labels::Place;
 use gq_field::ExactField;
 use std::alloc::AllocError;
@@ -42,60 +42,28 @@ impl<'s, F: ExactField> Checker<'s, F> {
         ensures variable { IfOk result (λ variable. variable ≡ has_variable (known_of F.value (seen self.old)) (tree_of e.now)) }
     {
         match e {
-            Expr::Number(_) | Expr::PlusInf | Expr::Na => {
-                self.require(standing.numbers, ErrorKind::WrongKind, around);
-                Ok(false)
-            }
-            Expr::Yes | Expr::No => {
-                self.require(standing.membership, ErrorKind::WrongKind, around);
-                Ok(false)
-            }
+            Expr::Number(_) | Expr::PlusInf | Expr::Na => Ok(self.leaf(standing.numbers, around)),
+            Expr::Yes | Expr::No => Ok(self.leaf(standing.membership, around)),
             Expr::Ref {
                 at,
                 name,
                 suffix,
                 indices,
-            } => {
-                let named = Named {
-                    at: *at,
-                    name: *name,
-                };
-                let variable = self.reference(standing, named, *suffix, indices)?;
-                self.amounts(indices)?;
-                Ok(variable)
-            }
-            Expr::Ord { at, set } => {
-                self.ordinal(standing, *at, *set);
-                Ok(false)
-            }
-            Expr::Card { at, set } => {
-                self.cardinal(standing, *at, *set);
-                Ok(false)
-            }
+            } => self.referred(standing, *at, *name, *suffix, indices),
+            Expr::Ord { at, set } => Ok(self.ordinal(standing, *at, *set)),
+            Expr::Card { at, set } => Ok(self.cardinal(standing, *at, *set)),
             Expr::Call { at, function, args } => self.call(standing, *at, *function, args),
             Expr::Neg(operand) => self.expression(operand, standing.part(), around),
             Expr::Plus(parts) => self.sum(parts, standing),
             Expr::Times(parts) => self.product(parts, standing),
             Expr::Power(parts) => self.power(parts, standing),
-            Expr::Relate(parts) => {
-                self.require(standing.numbers, ErrorKind::WrongKind, around);
-                self.relations(parts, around)?;
-                Ok(false)
-            }
+            Expr::Relate(parts) => self.relations(parts, standing, around),
             Expr::Not(operand) => {
                 let _operand = self.expression(operand, standing.denied(), around)?;
                 Ok(false)
             }
-            Expr::And(parts) => {
-                self.require(standing.numbers, ErrorKind::WrongKind, around);
-                let _parts = self.expressions(parts, Standing::CONDITION, around)?;
-                Ok(false)
-            }
-            Expr::Or(parts) => {
-                self.require(standing.numbers, ErrorKind::WrongKind, around);
-                self.choice(parts, around)?;
-                Ok(false)
-            }
+            Expr::And(parts) => self.all_of(parts, standing, around),
+            Expr::Or(parts) => self.choice(parts, standing, around),
             Expr::Guard { operand, guards } => {
                 let variable = self.expression(operand, standing.guarded(), around)?;
                 let _guards = self.expressions(guards, Standing::CONDITION, around)?;
@@ -107,15 +75,62 @@ impl<'s, F: ExactField> Checker<'s, F> {
                 control,
                 body,
             } => {
-                self.require(standing.numbers, ErrorKind::WrongKind, *at);
                 let outer = self.controlled.len();
                 self.control(control, *at)?;
-                let variable = self.expression(body, standing.inner(), *at)?;
-                self.controlled.truncate(outer);
-                self.fold_step(standing, *op, variable, *at);
-                Ok(variable)
+                self.folded(standing, *at, *op, body, outer)
             }
         }
+    }
+
+    /// Checks a leaf by whether it may stand there. The answer is whether it has variables: it has none.
+    fn leaf(&mut self, stands: bool, at: Place) -> bool
+        ensures noted { seen self.new ≡ faulted (seen self.old) at ((not stands, WrongKind) ∷ []) }
+        ensures variable { result ≡ false }
+    {
+        self.require(stands, ErrorKind::WrongKind, at);
+        false
+    }
+
+    /// Checks a reference and the amounts of its lags. The answer is whether it is a variable without suffix.
+    #[cycle(expression)]
+    fn referred(
+        &mut self,
+        standing: Standing,
+        at: Place,
+        name: u32,
+        suffix: Suffix,
+        indices: &[Index<F>],
+    ) -> Result<bool, AllocError>
+        ensures noted { OnOk result (seen self.new
+            ≡ noted F.value (seen self.old) ((at, reading standing (seen self.old).controlled name suffix (index_list indices.now)) ∷ amount_uses (seen self.old).controlled (index_list indices.now))) }
+        ensures variable { IfOk result (λ variable. variable ≡ is_variable_by (known_of F.value (seen self.old)) name suffix) }
+    {
+        let named = Named { at, name };
+        let variable = self.reference(standing, named, suffix, indices)?;
+        self.amounts(indices)?;
+        Ok(variable)
+    }
+
+    /// Checks a fold behind its control, whose sets are controlled in its body: behind it only the first `outer` sets still
+    /// are. The answer is whether the body has variables.
+    #[cycle(expression)]
+    fn folded(
+        &mut self,
+        standing: Standing,
+        at: Place,
+        op: FoldOp,
+        body: &Expr<F>,
+        outer: usize,
+    ) -> Result<bool, AllocError>
+        ensures noted { OnOk result (seen self.new
+            ≡ with_sets (noted F.value (seen self.old) ((at, folding standing op (tree_of body.now)) ∷ uses (as_inner standing) at (seen self.old).controlled (tree_of body.now))) (take outer (seen self.old).controlled)) }
+        ensures variable { IfOk result (λ variable. variable ≡ has_variable (known_of F.value (seen self.old)) (tree_of body.now)) }
+    {
+        self.require(standing.numbers, ErrorKind::WrongKind, at);
+        let variable = self.expression(body, standing.inner(), at)?;
+        self.controlled.truncate(outer);
+        self.fold_step(standing, op, variable, at);
+        Ok(variable)
     }
 
     /// Checks expressions that stand alike. The answer is whether one has variables.
@@ -246,26 +261,59 @@ impl<'s, F: ExactField> Checker<'s, F> {
         Ok(earlier)
     }
 
-    /// Checks the parts of relations.
+    /// Checks relations. The answer is whether they have variables that count: they have none.
     #[cycle(expression)]
-    fn relations(&mut self, parts: &[(RelOp, Expr<F>)], around: Place) -> Result<(), AllocError>
-        ensures { OnOk result (seen self.new ≡ noted F.value (seen self.old) (part_uses as_number around (seen self.old).controlled (related_list parts.now))) }
+    fn relations(
+        &mut self,
+        parts: &[(RelOp, Expr<F>)],
+        standing: Standing,
+        around: Place,
+    ) -> Result<bool, AllocError>
+        ensures noted { OnOk result (seen self.new
+            ≡ noted F.value (seen self.old) ((around, logic standing) ∷ part_uses as_number around (seen self.old).controlled (related_list parts.now))) }
+        ensures variable { IfOk result (λ variable. variable ≡ false) }
     {
+        self.require(standing.numbers, ErrorKind::WrongKind, around);
         for (_, part) in parts {
             let _variable = self.expression(part, Standing::NUMBER, around)?;
         }
-        Ok(())
+        Ok(false)
     }
 
-    /// Checks the parts of a choice.
+    /// Checks the operands of `and`. The answer is whether they have variables that count: they have none.
     #[cycle(expression)]
-    fn choice(&mut self, parts: &[(bool, Expr<F>)], around: Place) -> Result<(), AllocError>
-        ensures { OnOk result (seen self.new ≡ noted F.value (seen self.old) (part_uses as_condition around (seen self.old).controlled (chosen_list parts.now))) }
+    fn all_of(
+        &mut self,
+        parts: &[Expr<F>],
+        standing: Standing,
+        around: Place,
+    ) -> Result<bool, AllocError>
+        ensures noted { OnOk result (seen self.new
+            ≡ noted F.value (seen self.old) ((around, logic standing) ∷ part_uses as_condition around (seen self.old).controlled (plain_list parts.now))) }
+        ensures variable { IfOk result (λ variable. variable ≡ false) }
     {
+        self.require(standing.numbers, ErrorKind::WrongKind, around);
+        let _parts = self.expressions(parts, Standing::CONDITION, around)?;
+        Ok(false)
+    }
+
+    /// Checks the operands of a choice. The answer is whether they have variables that count: they have none.
+    #[cycle(expression)]
+    fn choice(
+        &mut self,
+        parts: &[(bool, Expr<F>)],
+        standing: Standing,
+        around: Place,
+    ) -> Result<bool, AllocError>
+        ensures noted { OnOk result (seen self.new
+            ≡ noted F.value (seen self.old) ((around, logic standing) ∷ part_uses as_condition around (seen self.old).controlled (chosen_list parts.now))) }
+        ensures variable { IfOk result (λ variable. variable ≡ false) }
+    {
+        self.require(standing.numbers, ErrorKind::WrongKind, around);
         for (_, part) in parts {
             let _variable = self.expression(part, Standing::CONDITION, around)?;
         }
-        Ok(())
+        Ok(false)
     }
 
     /// Checks the step of a fold, whose body has variables or not.

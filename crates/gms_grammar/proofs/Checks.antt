@@ -1,8 +1,9 @@
--- The check that one token decides a grammar, computed over a list of all kinds.
-use Rattle.std.proofs.Common.{◌≡◌, ℕ, zero, suc, ◌<◌, Bool, true, false, not, ◌||◌, ◌&&◌, List, [], ◌∷◌, length, get_or, refl, sym, ap, ◌∙◌, arith}
+-- The check that one token decides a grammar, computed over lists of the kinds that come first and that follow.
+use Rattle.std.proofs.Common.{◌≡◌, ℕ, zero, suc, ◌<◌, if◌then◌else◌, Bool, true, false, not, ◌||◌, ◌&&◌, List, [], ◌∷◌, ◌++◌, length, get_or, refl, sym, ap, ◌∙◌, arith}
 use Rattle.std.specs.List.{list_any}
 use Rattle.gms_grammar.specs.Grammar.{Part, one, the, ◌·◌, ◌∣◌, opt, many}
-use Rattle.gms_grammar.specs.LookAhead.{LookAhead, may_be_empty, may_begin, may_go_on, Apart, IsDecided, DecidesEach, ends_below, ranks_below}
+use Rattle.gms_grammar.specs.LookAhead.{LookAhead, may_be_empty, may_begin, may_go_on, IsDecided, DecidesEach, ends_below, ranks_below}
+use Rattle.gms_grammar.proofs.Basics.{and_both}
 
 -- each element passes the test
 abbrev pub every : {C : Type 0} → List C → (C → Bool) → Bool
@@ -44,70 +45,149 @@ any_at (x ∷ xs) test h = go (any_at xs test) (test x) refl
     go later true e = (x, e)
     go later false e = later (ap (λ b. b || list_any test xs) (sym e) ∙ h)
 
-module _ {C N : Type 0} (kinds : List C) (production : N → Part C N) (ahead : LookAhead C N) where
-  abbrev pub apart : (C → Bool) → (C → Bool) → Bool
-  apart f g = every kinds (λ c. not (f c && g c))
+-- what holds of each element of a list holds of what passes the test
+abbrev pub Covers : {C : Type 0} → (C → Bool) → List C → Type 0
+Covers {C = C} test xs = (other : C → Bool) → every xs other ≡ true → (c : C) → test c ≡ true → other c ≡ true
 
-  abbrev pub is_decided : Part C N → (C → Bool) → Bool
+-- those of the elements that pass the test
+abbrev pub passing : {C : Type 0} → (C → Bool) → List C → List C
+passing test [] = []
+passing test (x ∷ xs) = if test x then x ∷ passing test xs else passing test xs
+
+-- the elements, or none
+abbrev pub where_so : {C : Type 0} → Bool → List C → List C
+where_so true xs = xs
+where_so false xs = []
+
+implied : (a b : Bool) → (not a || b) ≡ true → a ≡ true → b ≡ true
+implied true b h k = h
+implied false b h k = cc
+
+never : (a : Bool) → not a ≡ true → a ≡ true → ⊥
+never true h k = cc
+never false h k = cc
+
+unlike : false ≡ true → ⊥
+unlike h = cc
+
+either_way : (a b : Bool) → (a ≡ true → b ≡ true) → (b ≡ true → a ≡ true) → a ≡ b
+either_way true b f g = sym (f refl)
+either_way false true f g = g refl
+either_way false false f g = refl
+
+module _ {C : Type 0} where
+  front_every : (xs ys : List C) (test : C → Bool) → every (xs ++ ys) test ≡ true → every xs test ≡ true
+  front_every [] ys test h = refl
+  front_every (x ∷ xs) ys test h = and_both _ _ (left_and _ _ h) (front_every xs ys test (right_and (test x) _ h))
+
+  rest_every : (xs ys : List C) (test : C → Bool) → every (xs ++ ys) test ≡ true → every ys test ≡ true
+  rest_every [] ys test h = h
+  rest_every (x ∷ xs) ys test h = rest_every xs ys test (right_and (test x) _ h)
+
+  pub covers_either : (f g : C → Bool) (xs ys : List C) → Covers f xs → Covers g ys → Covers (λ c. f c || g c) (xs ++ ys)
+  covers_either f g xs ys of_f of_g test h c k = split (f c) (g c) (of_f test (front_every xs ys test h) c) (of_g test (rest_every xs ys test h) c) k
+    where
+      split : (a b : Bool) → (a ≡ true → test c ≡ true) → (b ≡ true → test c ≡ true) → (a || b) ≡ true → test c ≡ true
+      split true b p q k = p refl
+      split false b p q k = q k
+
+  covers_where : (b : Bool) (g : C → Bool) (ys : List C) → Covers g ys → Covers (λ c. b && g c) (where_so b ys)
+  covers_where true g ys of_g = of_g
+  covers_where false g ys of_g = λ test h c k. absurd (unlike k)
+
+  passing_every : (test other : C → Bool) (xs : List C) → every (passing test xs) other ≡ true → every xs (λ c. not (test c) || other c) ≡ true
+  passing_every test other [] h = refl
+  passing_every test other (x ∷ xs) h = go (test x) (passing_every test other xs) h
+    where
+      go : (b : Bool) → (every (passing test xs) other ≡ true → every xs (λ c. not (test c) || other c) ≡ true) → every (if b then x ∷ passing test xs else passing test xs) other ≡ true → ((not b || other x) && every xs (λ c. not (test c) || other c)) ≡ true
+      go true later h = and_both _ _ (left_and _ _ h) (later (right_and (other x) _ h))
+      go false later h = later h
+
+-- Below, `firsts` and `follows` are lists of the kinds that are claimed to come first in a nonterminal, and to follow it.
+module _ {C N : Type 0} (kinds : List C) (production : N → Part C N) (ahead : LookAhead C N) (firsts follows : N → List C) where
+  -- the kinds of tokens that may come first in a part
+  abbrev pub firsts_of : Part C N → List C
+  firsts_of (one test) = passing test kinds
+  firsts_of (the n) = firsts n
+  firsts_of (p · q) = firsts_of p ++ where_so (may_be_empty ahead p) (firsts_of q)
+  firsts_of (p ∣ q) = firsts_of p ++ firsts_of q
+  firsts_of (opt p) = firsts_of p
+  firsts_of (many p) = firsts_of p
+
+  -- one token decides a part, which those kinds follow
+  abbrev pub is_decided : Part C N → List C → Bool
   is_decided (one test) after = list_any test kinds
-  is_decided (the n) after = every kinds (λ c. not (after c) || ahead.follow n c)
-  is_decided (p · q) after = is_decided p (may_go_on ahead q after) && is_decided q after
+  is_decided (the n) after = every after (ahead.follow n)
+  is_decided (p · q) after = is_decided p (firsts_of q ++ where_so (may_be_empty ahead q) after) && is_decided q after
   is_decided (p ∣ q) after =
-      not (may_be_empty ahead p) && (not (may_be_empty ahead q) && (apart (may_begin ahead p) (may_begin ahead q) && (is_decided p after && is_decided q after)))
-  is_decided (opt p) after = not (may_be_empty ahead p) && (apart (may_begin ahead p) after && is_decided p after)
+      not (may_be_empty ahead p) && (not (may_be_empty ahead q) && (every (firsts_of p) (λ c. not (may_begin ahead q c)) && (is_decided p after && is_decided q after)))
+  is_decided (opt p) after = not (may_be_empty ahead p) && (every after (λ c. not (may_begin ahead p c)) && is_decided p after)
   is_decided (many p) after =
-      not (may_be_empty ahead p) && (apart (may_begin ahead p) after && is_decided p (λ c. may_begin ahead p c || after c))
+      not (may_be_empty ahead p) && (every after (λ c. not (may_begin ahead p c)) && is_decided p (firsts_of p ++ after))
+
+  -- the kinds that are claimed to come first are those that do
+  abbrev pub begins_right : N → Bool
+  begins_right n = every (firsts_of (production n)) (ahead.first n) && every (firsts n) (may_begin ahead (production n))
 
   -- what is claimed of a nonterminal is so, and one token decides its production
   abbrev pub is_right : N → Bool
   is_right n =
-      every kinds (λ c. alike (may_begin ahead (production n) c) (ahead.first n c)) && (alike (may_be_empty ahead (production n)) (ahead.empty n) && (is_decided (production n) (ahead.follow n) && (ends_below ahead (ahead.depth n) (production n) && ranks_below ahead (ahead.rank n) (production n))))
+      begins_right n && (alike (may_be_empty ahead (production n)) (ahead.empty n) && (is_decided (production n) (follows n) && (ends_below ahead (ahead.depth n) (production n) && ranks_below ahead (ahead.rank n) (production n))))
 
-  module _ (all : (test : C → Bool) → every kinds test ≡ true → (c : C) → test c ≡ true) where
-    are_apart : (f g : C → Bool) → apart f g ≡ true → Apart ahead f g
-    are_apart f g h c k l = split (f c) (g c) (all (λ c. not (f c && g c)) h c) k l
-      where
-        split : (a b : Bool) → not (a && b) ≡ true → a ≡ true → b ≡ true → ⊥
-        split true true h k l = cc
-        split true false h k l = cc
-        split false b h k l = cc
+  module _ (all : (test : C → Bool) → every kinds test ≡ true → (c : C) → test c ≡ true) (of_firsts : (n : N) → Covers (ahead.first n) (firsts n)) (of_follows : (n : N) → Covers (ahead.follow n) (follows n)) where
+    covers_first : (p : Part C N) → Covers (may_begin ahead p) (firsts_of p)
+    covers_first (one test) other h c k = implied (test c) _ (all (λ c. not (test c) || other c) (passing_every test other kinds h) c) k
+    covers_first (the n) other h c k = of_firsts n other h c k
+    covers_first (p · q) other h c k =
+        covers_either (may_begin ahead p) (λ c. may_be_empty ahead p && may_begin ahead q c) (firsts_of p) _ (covers_first p) (covers_where (may_be_empty ahead p) (may_begin ahead q) (firsts_of q) (covers_first q)) other h c k
+    covers_first (p ∣ q) other h c k =
+        covers_either (may_begin ahead p) (may_begin ahead q) (firsts_of p) (firsts_of q) (covers_first p) (covers_first q) other h c k
+    covers_first (opt p) other h c k = covers_first p other h c k
+    covers_first (many p) other h c k = covers_first p other h c k
 
-    implied : (a b : Bool) → (not a || b) ≡ true → a ≡ true → b ≡ true
-    implied true b h k = h
-    implied false b h k = cc
+    covers_on : (q : Part C N) (f : C → Bool) (after : List C) → Covers f after → Covers (may_go_on ahead q f) (firsts_of q ++ where_so (may_be_empty ahead q) after)
+    covers_on q f after of_f =
+        covers_either (may_begin ahead q) (λ c. may_be_empty ahead q && f c) (firsts_of q) _ (covers_first q) (covers_where (may_be_empty ahead q) f after of_f)
 
-    decided_by : (p : Part C N) (after : C → Bool) → is_decided p after ≡ true → IsDecided ahead p after
-    decided_by (one test) after h = any_at kinds test h
-    decided_by (the n) after h = λ c k. implied (after c) _ (all (λ c. not (after c) || ahead.follow n c) h c) k
-    decided_by (p · q) after h = (decided_by p _ (left_and _ _ h), decided_by q after (right_and (is_decided p (may_go_on ahead q after)) _ h))
-    decided_by (p ∣ q) after h =
+    decided_by : (p : Part C N) (f : C → Bool) (after : List C) → Covers f after → is_decided p after ≡ true → IsDecided ahead p f
+    decided_by (one test) f after of_f h = any_at kinds test h
+    decided_by (the n) f after of_f h = λ c k. of_f (ahead.follow n) h c k
+    decided_by (p · q) f after of_f h =
+        (decided_by p (may_go_on ahead q f) _ (covers_on q f after of_f) (left_and _ _ h), decided_by q f after of_f (right_and (is_decided p (firsts_of q ++ where_so (may_be_empty ahead q) after)) _ h))
+    decided_by (p ∣ q) f after of_f h =
         let h1 = right_and (not (may_be_empty ahead p)) _ h in
         let h2 = right_and (not (may_be_empty ahead q)) _ h1 in
-        let h3 = right_and (apart (may_begin ahead p) (may_begin ahead q)) _ h2 in
-        (is_false _ (left_and _ _ h), is_false _ (left_and _ _ h1), are_apart _ _ (left_and _ _ h2), decided_by p after (left_and _ _ h3), decided_by q after (right_and (is_decided p after) _ h3))
-    decided_by (opt p) after h =
+        let h3 = right_and (every (firsts_of p) (λ c. not (may_begin ahead q c))) _ h2 in
+        (is_false _ (left_and _ _ h), is_false _ (left_and _ _ h1), λ c k l. never (may_begin ahead q c) (covers_first p (λ c. not (may_begin ahead q c)) (left_and _ _ h2) c k) l, decided_by p f after of_f (left_and _ _ h3), decided_by q f after of_f (right_and (is_decided p after) _ h3))
+    decided_by (opt p) f after of_f h =
         let h1 = right_and (not (may_be_empty ahead p)) _ h in
-        (is_false _ (left_and _ _ h), are_apart _ _ (left_and _ _ h1), decided_by p after (right_and (apart (may_begin ahead p) after) _ h1))
-    decided_by (many p) after h =
+        (is_false _ (left_and _ _ h), λ c k l. never (may_begin ahead p c) (of_f (λ c. not (may_begin ahead p c)) (left_and _ _ h1) c l) k, decided_by p f after of_f (right_and (every after (λ c. not (may_begin ahead p c))) _ h1))
+    decided_by (many p) f after of_f h =
         let h1 = right_and (not (may_be_empty ahead p)) _ h in
-        (is_false _ (left_and _ _ h), are_apart _ _ (left_and _ _ h1), decided_by p _ (right_and (apart (may_begin ahead p) after) _ h1))
+        (is_false _ (left_and _ _ h), λ c k l. never (may_begin ahead p c) (of_f (λ c. not (may_begin ahead p c)) (left_and _ _ h1) c l) k, decided_by p (λ c. may_begin ahead p c || f c) _ (covers_either (may_begin ahead p) f (firsts_of p) after (covers_first p) of_f) (right_and (every after (λ c. not (may_begin ahead p c))) _ h1))
+
+    begins_as : (n : N) → begins_right n ≡ true → (c : C) → may_begin ahead (production n) c ≡ ahead.first n c
+    begins_as n h c =
+        either_way _ _
+        (covers_first (production n) (ahead.first n) (left_and _ _ h) c)
+        (of_firsts n (may_begin ahead (production n)) (right_and (every (firsts_of (production n)) (ahead.first n)) _ h) c)
 
     -- where the check holds of each nonterminal, one token decides
     pub decides_each : ((n : N) → is_right n ≡ true) → DecidesEach ahead production
     decides_each check =
         record {
-          first_is = λ n c. is_alike _ _ (all (λ c. alike (may_begin ahead (production n) c) (ahead.first n c)) (left_and _ _ (check n)) c);
+          first_is = λ n. begins_as n (left_and _ _ (check n));
           empty_is = λ n. is_alike _ _ (left_and _ _ (second n));
-          decided = λ n. decided_by (production n) (ahead.follow n) (left_and _ _ (third n));
+          decided = λ n. decided_by (production n) (ahead.follow n) (follows n) (of_follows n) (left_and _ _ (third n));
           ends = λ n. left_and _ _ (fourth n);
           descends = λ n. right_and (ends_below ahead (ahead.depth n) (production n)) _ (fourth n);
         }
       where
-        second : (n : N) → (alike (may_be_empty ahead (production n)) (ahead.empty n) && (is_decided (production n) (ahead.follow n) && (ends_below ahead (ahead.depth n) (production n) && ranks_below ahead (ahead.rank n) (production n)))) ≡ true
-        second n = right_and (every kinds (λ c. alike (may_begin ahead (production n) c) (ahead.first n c))) _ (check n)
+        second : (n : N) → (alike (may_be_empty ahead (production n)) (ahead.empty n) && (is_decided (production n) (follows n) && (ends_below ahead (ahead.depth n) (production n) && ranks_below ahead (ahead.rank n) (production n)))) ≡ true
+        second n = right_and (begins_right n) _ (check n)
 
-        third : (n : N) → (is_decided (production n) (ahead.follow n) && (ends_below ahead (ahead.depth n) (production n) && ranks_below ahead (ahead.rank n) (production n))) ≡ true
+        third : (n : N) → (is_decided (production n) (follows n) && (ends_below ahead (ahead.depth n) (production n) && ranks_below ahead (ahead.rank n) (production n))) ≡ true
         third n = right_and (alike (may_be_empty ahead (production n)) (ahead.empty n)) _ (second n)
 
         fourth : (n : N) → (ends_below ahead (ahead.depth n) (production n) && ranks_below ahead (ahead.rank n) (production n)) ≡ true
-        fourth n = right_and (is_decided (production n) (ahead.follow n)) _ (third n)
+        fourth n = right_and (is_decided (production n) (follows n)) _ (third n)

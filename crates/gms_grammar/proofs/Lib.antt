@@ -17,3 +17,5 @@ pub mod Deriving
 pub mod Plain
 pub mod PlainProgram
 pub mod PlainNamed
+pub mod Tables
+pub mod Tags

@@ -129,6 +129,6 @@ impl Terminal {
     pub fn is_among(self, kinds: &[Terminal]) -> bool
         ensures { result ≡ is_among kinds.now self }
     {
-        kinds.iter().any(|other| self.is(*other))
+        kinds.contains(&self)
     }
 }

@@ -15,19 +15,8 @@ pub fn dynamic_sets<F: ExactField>(alloc: Global, program: &Program<F>) -> Resul
     ensures { IfOk result (λ marks. marks ≡ with_marks (replicate (length program.now.names) false) (dynamic_sets program.now)) }
 {
     let store = Store::new(alloc, program)?;
-    marks_by(alloc, program, &store)
-}
-
-/// A mark for each set that some statement of a program assigns, an alias as its set in a state.
-fn marks_by<F: ExactField>(
-    alloc: Global,
-    program: &Program<F>,
-    store: &Store<F>,
-) -> Result<Marks, AllocError>
-    ensures { IfOk result (λ marks. marks ≡ with_marks (replicate (length program.now.names) false) (map (base_of store.now) (flat_map assigned program.now.statements.items))) }
-{
     let mut marks = Marks::new(alloc, program.names.len())?;
-    mark_assigned(&program.statements, store, &mut marks);
+    mark_assigned(&program.statements, &store, &mut marks);
     Ok(marks)
 }
 

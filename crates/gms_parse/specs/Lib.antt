@@ -7,5 +7,6 @@ pub mod Tables
 pub mod Walks
 pub mod Outcomes
 pub mod Readings
+pub mod Room
 pub mod Meanings
 pub mod TableReadings

@@ -80,7 +80,7 @@ fn item_of<F: ExactField>(element: Element, value: Option<Ext<F>>) -> Item<F>
 
 impl<'s> Reader<'s> {
     /// The text of a label of a list.
-    fn label_text(&self, token: Token) -> Result<&'s str, SourceFaultOrMemory>
+    pub(crate) fn label_text(&self, token: Token) -> Result<&'s str, SourceFaultOrMemory>
         requires { IsLabelToken self.now.source.now token }
         ensures { MatchResult result (λ text. text.now ≡ unquoted (token_text self.now.source.now token)) (λ e. ⊥) }
     {

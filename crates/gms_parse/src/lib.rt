@@ -10,6 +10,7 @@ mod formula;
 mod laws;
 mod model;
 mod reader;
+mod room;
 mod source;
 mod spelling;
 mod statement;

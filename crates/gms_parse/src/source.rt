@@ -4,6 +4,7 @@ ghost use Rattle.gms_parse.specs.Outcomes.{IsProgram, IsRefusal};
 
 use crate::fault::{SourceError, SourceFaultOrMemory};
 use crate::reader::{Reader, Tables};
+use crate::room::has_room_for_elements;
 use gms_ast::Program;
 use gms_labels::{Labels, Place};
 use gms_lex::{MOST_BYTES, lex};
@@ -21,7 +22,8 @@ const START: Place = Place { line: 1, column: 1 };
 /// statement or a value that the language leaves out), the end of the source where more has to come (`Expected`), a parenthesis that
 /// is opened where 100 are open (`Depth`), a number out of range (`Number`), the 65,537th name or label (`TooManyLabels`; of a range,
 /// at its upper label), a fault of a table at its word (`NoColumn`, `TwoColumns`, `RepeatedEntry`, `BadRow`), a table without
-/// headings, found where it ends and told at its name (`NoHeading`). `Memory` comes where memory was wanting.
+/// headings, found where it ends and told at its name (`NoHeading`). `Memory` comes where memory was wanting: also, before any is taken, where
+/// the ranges of the source write out more than 2,097,152 labels, or its lists give more elements than that in all.
 pub fn parse<F: ExactField>(alloc: Global, source: &[u8]) -> Result<Program<F>, SourceFaultOrMemory>
     ensures { MatchResult result (λ program. IsProgram F.limit source.now F.value program) (λ e. IsRefusal F.limit source.now e) }
 {
@@ -40,7 +42,13 @@ pub fn parse<F: ExactField>(alloc: Global, source: &[u8]) -> Result<Program<F>, 
         end: tokens[tokens.len() - 1].at,
         unclosed: 0,
     };
+    if !reader.has_room_for_ranges() {
+        return Err(SourceFaultOrMemory::Memory);
+    }
     let statements = reader.program(&mut tables)?;
+    if !has_room_for_elements(&statements) {
+        return Err(SourceFaultOrMemory::Memory);
+    }
     Ok(Program {
         names: tables.names,
         labels: tables.labels,

@@ -35,6 +35,11 @@ pub told_as : {A : Type 0} (r : Result A Failed) (Done P Q : A → Type 0) (X : 
 told_as (Ok x) Done P Q X f d p = f x d p
 told_as (Err e) Done P Q X f d p = tt
 
+-- what holds anyhow holds where work is done
+pub holds_done : {A E : Type 0} (r : Result A E) (P : Type 0) → P → IfOk r (λ x. P)
+holds_done (Ok x) P p = p
+holds_done (Err e) P p = tt
+
 -- two things that hold where work is done
 pub both_of : {A : Type 0} (r : Result A Failed) (P Q : A → Type 0) → IfOk r P → IfOk r Q → IfOk r (λ x. P x × Q x)
 both_of (Ok x) P Q p q = (p, q)

@@ -1,10 +1,12 @@
 -- The listing of a source, put together from its parts, as it goes out.
 use Rattle.std.proofs.Common.{◌≡◌, ◌≢◌, Option, Some, None, ℕ, zero, suc, ◌+◌, ◌<◌, ◌≤◌, ◌==◌, true, false, List, [], ◌∷◌, ◌++◌, length, take, map, get_or, Vec, refl, sym, ap, ap₂, ◌∙◌, subst, append_assoc, add-one, ◌⊎◌, inl, inr, arith, length-append, cond, Result, Ok, Err}
 use Rattle.std.specs.Prelude.{String, string_bytes, vec_len, slice_get, option_map, unwrap_or, IfSome, IfOk, Bool}
+use Rattle.std.specs.List.{All}
 use Rattle.std.specs.declared.alloc.Global.{Global}
 use Rattle.std.proofs.Math.Seq.{take-suc}
 use Rattle.std.proofs.lemmas.Bool.{eqb-true}
 use Rattle.std.proofs.lemmas.List.{length-map, map-append, take_all}
+use Rattle.std.proofs.lemmas.List.Elements.{All-append, All-cons, All-nil}
 use Rattle.std.proofs.lemmas.List.FromFn.{length-range_with_len}
 use Rattle.std.proofs.lemmas.Option.{slice_get-map}
 use Rattle.gq_number.specs.Number.{Number}
@@ -25,6 +27,7 @@ use Rattle.lp_core.specs.declared.answer.Answer.{Answer}
 use Rattle.lp_core.specs.declared.answer.Rule.{Rule}
 use Rattle.lp_core.specs.declared.program.Lp.{Lp}
 use Rattle.lp_core.specs.Numbers.{lp_numbers}
+use Rattle.lp_slot.specs.SolverNames.{IsSolverName}
 use Rattle.gms_ranges.specs.Answered.{AreAnswered, IsAnswered}
 use Rattle.gms_ranges.specs.RangeTexts.{SaysRanges}
 use Rattle.gms_list.specs.ListingText.{echo_text, end_text}
@@ -212,9 +215,9 @@ remarked status solving request matter text job last solved is_job ends (ranges,
     tells (generated size) WriteFault h told = absurd h
 
 -- The save of the last state of a job that came to its end.
-pub saves_job : (status : Status) (solving : Solving) (request : Asked) (matter : Matter) (bytes : List ℕ) (job : Job) (last : State) (programs : List (Lp Frac)) (solvers : List (List ℕ)) → solvers ≡ solving.before.names → (is_job : IsJob solving.before.names matter job) → IfSome is_job.script.saved (IsGoneOn is_job.script.source is_job.script.line) → Ends status job solving last programs →
+pub saves_job : (status : Status) (solving : Solving) (request : Asked) (matter : Matter) (bytes : List ℕ) (job : Job) (last : State) (programs : List (Lp Frac)) (solvers : List (List ℕ)) → solvers ≡ solving.before.names → All IsSolverName solving.before.names → (is_job : IsJob solving.before.names matter job) → IfSome is_job.script.saved (IsGoneOn is_job.script.source is_job.script.line) → Ends status job solving last programs →
     IsSave status request solvers job.source job.program last bytes → SavesSo status solving request matter bytes
-saves_job status solving request matter bytes job last programs solvers names is_job origin ends = by (save_file status request)
+saves_job status solving request matter bytes job last programs solvers names named is_job origin ends = by (save_file status request)
   where
     by : (file : Option (List ℕ)) → IfSome file (λ f. KeepsState solvers job.source job.program last bytes) → IfSome file (λ f. SavesLast solving matter bytes)
     by None is = tt
@@ -224,10 +227,10 @@ saves_job status solving request matter bytes job last programs solvers names is
           job = job;
           is_job = is_job;
           text = text;
-          is_save = λ named.
+          is_save =
               saves-state solving is_job.script job is_job.accepted is_job.is_job origin bytes text
               (subst (λ (s : State). (name : ℕ) → name < length job.program.names → (t : List ℕ) → fits_at number_limit (symbol_of s name).content t ≡ true) (sym ends.comes) is.fit) named;
-          placed = λ named.
+          placed =
               placed-again solving.before.names (course_of job solving).state named
               (subst (λ (s : State). 0 < length solving.before.names → s.settings.solver < length solving.before.names) (sym ends.comes)
               (subst (λ (ns : List (List ℕ)). 0 < length ns → last.settings.solver < length ns) names is.chosen));
@@ -235,9 +238,9 @@ saves_job status solving request matter bytes job last programs solvers names is
 
 -- What is to be done behind the listing of a job that came to its end.
 pub follows_job : (status : Status) (solving : Solving) (request : Asked) (matter : Matter) (text bytes : List ℕ) (job : Job) (last : State) (programs : List (Lp Frac)) (solvers : List (List ℕ)) → (is_job : IsJob solving.before.names matter job) → IfSome is_job.script.saved (IsGoneOn is_job.script.source is_job.script.line) → Ends status job solving last programs →
-    IsRemarked request job.program last programs solving.answers text → IsSave status request solvers job.source job.program last bytes → solvers ≡ solving.before.names → Follows status solving request matter text bytes
-follows_job status solving request matter text bytes job last programs solvers is_job origin ends told saved names =
-    record { remarks = remarked status solving request matter text job last programs is_job ends told; saves = saves_job status solving request matter bytes job last programs solvers names is_job origin ends saved }
+    IsRemarked request job.program last programs solving.answers text → IsSave status request solvers job.source job.program last bytes → solvers ≡ solving.before.names → All IsSolverName solving.before.names → Follows status solving request matter text bytes
+follows_job status solving request matter text bytes job last programs solvers is_job origin ends told saved names named =
+    record { remarks = remarked status solving request matter text job last programs is_job ends told; saves = saves_job status solving request matter bytes job last programs solvers names named is_job origin ends saved }
 
 -- On what is refused there are no remarks, and nothing is saved.
 pub nothing_follows : (status : Status) (solving : Solving) (request : Asked) (matter : Matter) (text bytes : List ℕ) → status ≡ Compile → text ≡ [] → Follows status solving request matter text bytes
@@ -390,3 +393,8 @@ pub named_more : {X : Type 0} (f : X → List ℕ) (xs : List X) (i : ℕ) (x : 
 named_more f xs i x names after text within is so put same =
     ap (map string_bytes) put ∙ map-append string_bytes names (text ∷ []) ∙ ap₂ (λ a b. a ++ b ∷ []) so (same ∙ ap f is)
     ∙ sym (ap (λ k. map f (take k xs)) (add-one i) ∙ ap (map f) (take-suc xs i x within) ∙ map-append f (take i xs) (get_or xs i x ∷ []))
+
+-- what holds of each name holds of those of one solver more
+pub named_all : (P : List ℕ → Type 0) (names after : List (String Global)) (text : String Global) → All P (map string_bytes names) → after ≡ names ++ text ∷ [] → P (string_bytes text) → All P (map string_bytes after)
+named_all P names after text all put is =
+    subst (All P) (sym (ap (map string_bytes) put ∙ map-append string_bytes names (text ∷ []))) (All-append P (map string_bytes names) (string_bytes text ∷ []) all (All-cons P (string_bytes text) [] is (All-nil P)))

@@ -24,6 +24,7 @@ use Rattle.gms_saved.specs.SavedState.{saved_text}
 use Rattle.lp_core.specs.declared.answer.Answer.{Answer}
 use Rattle.lp_core.specs.declared.program.Lp.{Lp}
 use Rattle.lp_core.specs.Numbers.{lp_numbers}
+use Rattle.lp_slot.specs.SolverNames.{IsSolverName}
 use Rattle.gms_ranges.specs.RangeTexts.{SaysRanges}
 use Rattle.gms_words.specs.CommandLine.{Asked, Origin, in_file, restarted, generated, read_fault_line}
 use Rattle.gms_run.specs.declared.status.Status.{Status}
@@ -83,10 +84,11 @@ abbrev pub IsSoundMatter : ℕ → Matter → Type 0
 IsSoundMatter solvers (scripted script) = IsSound solvers script.source script.line script.saved
 IsSoundMatter solvers (unrestored fault) = Unit {0}
 
--- A run begins its program in this state: the script is accepted, and the state is the first one of it; a saved state that it goes on from is one of
--- the saved source's program.
+-- A run begins its program in this state: the script is accepted, the solvers have names that a source can write, and the state is the first one of
+-- it; a saved state that it goes on from is one of the saved source's program.
 pub record Begins (solvers : List (List ℕ)) (script : Script) (program : Program Frac) (state : State) : Type 0 where
   pub accepted : IsAccepted solvers script program
+  pub named : All IsSolverName solvers
   pub origin : IfSome script.saved (IsGoneOn script.source script.line)
   pub first : state ≡ first_state script.saved program
 

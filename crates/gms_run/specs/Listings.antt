@@ -1,6 +1,6 @@
 -- What there is to run is to solvers of some names: refused, or a job; its listing, and its save.
 use Rattle.std.specs.Prelude.{◌≡◌, ◌≢◌, ℕ, pos, ◌⊎◌, Bool, true, false, ◌++◌, length, List, [], map, sum, codes, option_map, unwrap_or, Option, None, IfSome, if◌then◌else◌}
-use Rattle.std.specs.List.{All, range_with_len}
+use Rattle.std.specs.List.{range_with_len}
 use Rattle.gq_number.specs.Number.{Number, whole}
 use Rattle.gq_frac.specs.declared.frac.Frac.{Frac}
 use Rattle.gq_frac.specs.Frac.{frac_value}
@@ -16,7 +16,6 @@ use Rattle.gms_event.specs.Events.{Solved}
 use Rattle.lp_core.specs.declared.answer.Answer.{Answer}
 use Rattle.gq_text.specs.Shown.{IsRoundedText}
 use Rattle.gms_list.specs.ListingText.{compile_errors_text, echo_text, end_text, save_error_text, source_error_text}
-use Rattle.lp_slot.specs.SolverNames.{IsSolverName}
 use Rattle.gms_save.specs.Saves.{IsSaveOf, place_of_solver}
 use Rattle.gms_save.specs.declared.fault.SaveFault.{SaveFault}
 use Rattle.gms_save.specs.Faults.{fault_code, fault_name}
@@ -116,16 +115,14 @@ IsFront solving matter text written =
 
 -- ---- saves
 
--- The bytes are the save of the last state of the run. Where the solvers have names that a source can write, as each solver of the trait has, they
--- are a save of this state by the definition of saves, and its solver is found among the same solvers again, so that `restore` gives this state back.
+-- The bytes are the save of the last state of the run. They are a save of this state by the definition of saves, and its solver is found among the
+-- same solvers again, so that `restore` gives this state back.
 pub record SavesLast (solving : Solving) (matter : Matter) (bytes : List ℕ) : Type 0 where
   pub job : Job
   pub is_job : IsJob solving.before.names matter job
   pub text : bytes ≡ save_text job solving
-  pub is_save : All IsSolverName solving.before.names →
-      IsSaveOf bytes job.source job.program (course_of job solving).state (solver_name solving.before.names (course_of job solving).state)
-  pub placed : All IsSolverName solving.before.names →
-      place_of_solver solving.before.names (solver_name solving.before.names (course_of job solving).state) ≢ None
+  pub is_save : IsSaveOf bytes job.source job.program (course_of job solving).state (solver_name solving.before.names (course_of job solving).state)
+  pub placed : place_of_solver solving.before.names (solver_name solving.before.names (course_of job solving).state) ≢ None
 
 -- the file for the last state of a run that ends so, where it is to be saved: every statement was executed, and the words name a file for it
 abbrev pub save_file : Status → Asked → Option (List ℕ)

@@ -1,10 +1,12 @@
 //! The listing of what there is to run, as it goes out.
 ghost use Rattle.std.specs.Prelude.{◌≡◌, ◌<◌, ◌^◌, ◌++◌, [], true, length, map, IfOk, OnOk, string_bytes};
+ghost use Rattle.std.specs.List.{All};
 ghost use Rattle.gq_frac.specs.Frac.{frac_value};
 ghost use Rattle.gms_host.specs.Rules.{CountsWriting};
 ghost use Rattle.gms_store.specs.State.{State};
 ghost use Rattle.gms_parse.specs.Outcomes.{IsProgram};
 ghost use Rattle.gms_words.specs.CommandLine.{asked_by};
+ghost use Rattle.lp_slot.specs.SolverNames.{IsSolverName};
 ghost use Rattle.gms_run.specs.InnerReports.{Follows, IsSound, IsSoundMatter, Lists, ListsErrors, Prepares, matter_in, script_in};
 ghost use Rattle.gms_run.specs.InnerSteps.{ComesTo};
 ghost use Rattle.gms_run.specs.Listings.{has_echo, refusal_text, unrestored_text};
@@ -32,7 +34,8 @@ use std::alloc::{AllocError, Global};
 
 /// The name of a solver.
 fn name_of(alloc: Global, solver: &Box<dyn LpSolver>) -> Result<String, AllocError>
-    ensures { IfOk result (λ text. string_bytes text ≡ name solver.now) }
+    ensures text { IfOk result (λ text. string_bytes text ≡ name solver.now) }
+    ensures named { IfOk result (λ text. IsSolverName (string_bytes text)) }
 {
     String::from_str(alloc, solver.name())
 }
@@ -42,7 +45,8 @@ pub(crate) fn names_of(
     alloc: Global,
     solvers: &[Box<dyn LpSolver>],
 ) -> Result<Vec<String>, AllocError>
-    ensures { IfOk result (λ names. map string_bytes names.items ≡ map name solvers.now) }
+    ensures texts { IfOk result (λ names. map string_bytes names.items ≡ map name solvers.now) }
+    ensures named { IfOk result (λ names. All IsSolverName (map string_bytes names.items)) }
 {
     let mut names = Vec::new(alloc);
     for solver in solvers {
@@ -102,20 +106,22 @@ fn list_errors(
     Ok(true)
 }
 
-/// The errors of a program for these solvers.
+/// The errors of a program for these solvers, each of which has a name that a source can write.
 fn errors_for(
     alloc: Global,
     script: Script,
     program: &Program<Frac>,
     solvers: &[Box<dyn LpSolver>],
 ) -> Result<Vec<CompileError>, AllocError>
-    ensures { IfOk result (λ errors. (state : State) → errors.items ≡ errors_of (script_in script.entry state).saved script.entry.line program.now (map name solvers.now)) }
+    ensures errors { IfOk result (λ errors. (state : State) → errors.items ≡ errors_of (script_in script.entry state).saved script.entry.line program.now (map name solvers.now)) }
+    ensures named { IfOk result (λ errors. All IsSolverName (map name solvers.now)) }
 {
     let names = names_of(alloc, solvers)?;
     errors_of(alloc, script, program, &names)
 }
 
-/// Finds the errors of a script's program, and lists them behind the echo. Answers whether there are any; where there are none nothing is listed.
+/// Finds the errors of a script's program for these solvers, each of which has a name that a source can write, and lists them behind the echo.
+/// Answers whether there are any; where there are none nothing is listed.
 fn has_errors(
     alloc: Global,
     script: Script,
@@ -123,7 +129,8 @@ fn has_errors(
     solvers: &[Box<dyn LpSolver>],
     listing: &mut Listing,
 ) -> Result<bool, AllocError>
-    ensures { IfOk result (λ some. (state : State) → ListsErrors some (errors_of (script_in script.entry state).saved script.entry.line program.now (map name solvers.now)) (script_in script.entry state) listing.old listing.new) }
+    ensures listed { IfOk result (λ some. (state : State) → ListsErrors some (errors_of (script_in script.entry state).saved script.entry.line program.now (map name solvers.now)) (script_in script.entry state) listing.old listing.new) }
+    ensures named { IfOk result (λ some. All IsSolverName (map name solvers.now)) }
 {
     let errors = errors_for(alloc, script, program, solvers)?;
     list_errors(alloc, script, errors.as_slice(), listing)

@@ -372,7 +372,8 @@ fn run_words<H: Host>(
 /// `--restart` goes with FILE alone. The source is read whole, or generated, before the output is
 /// opened; its listing is written there, statement by statement, and behind the closed output the closing lines are said
 /// (docs/LISTING.md), first, with `--ranges`, how far each right side and each cost of each optimum may move. `AllocError` comes where memory was
-/// wanting, here or in the host; the output may then hold the front of a listing.
+/// wanting, here or in the host, or where the ranges or the lists of the source ask for more room than a program has (docs/LANGUAGE.md, "Limits"); the
+/// output may then hold the front of a listing.
 ///
 /// With `--restart` that file is read before FILE, and FILE goes on from the state that was saved in it: the source is the saved source with FILE
 /// behind it, of which FILE is echoed and its statements are executed. With `--save`, where every statement was executed, the last state is

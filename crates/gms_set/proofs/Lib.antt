@@ -1,3 +1,4 @@
+mod Behind
 mod Digits
 mod Numbers
 mod Products

@@ -60,19 +60,9 @@ module _ {F : Type 0} where
       sym (append_assoc (tuples_of given) (take i tuples) (get_or tuples i [] ∷ drop (i + 1) tuples) ∙ ap (λ ts. tuples_of given ++ ts) (ap (λ ts. take i tuples ++ ts) (sym (drop_more tuples i [] l)) ∙ take-append-drop i tuples)) in
       ap has_repeat whole ∙ has_repeat-again front (get_or tuples i []) (drop (i + 1) tuples) (sym (ap (λ ts. has ts (get_or tuples i [])) (tuples_of-with given value (take i tuples))) ∙ there)
 
-  -- one tuple more, in what is given and in what is seen
+  -- one tuple more among what is given
   pub tuples_of-push : (given : Given F) (t : List ℕ) (value : Option (Ext F)) → tuples_of (given ++ (t, value) ∷ []) ≡ tuples_of given ++ t ∷ []
   tuples_of-push given t value = tuples_of-with given value (t ∷ [])
-
-  pub seen-more : (seen after : List (List ℕ)) (given : Given F) (t : List ℕ) (value : Option (Ext F)) → ((other : List ℕ) → has seen other ≡ has (tuples_of given) other) → ((other : List ℕ) → has after other ≡ (same_tuple t other || has seen other)) → (other : List ℕ) → has after other ≡ has (tuples_of (given ++ (t, value) ∷ [])) other
-  seen-more seen after given t value same more other =
-      more other ∙ ap (λ b. same_tuple t other || b) (same other) ∙ sym (ap (λ ts. has ts other) (tuples_of-push given t value) ∙ has-append (tuples_of given) (t ∷ []) other ∙ by (has (tuples_of given) other) (same_tuple t other))
-    where
-      by : (a b : Bool) → (a || (b || false)) ≡ (b || a)
-      by true true = refl
-      by true false = refl
-      by false true = refl
-      by false false = refl
 
   pub distinct-more : (given : Given F) (t : List ℕ) (value : Option (Ext F)) → has_repeat (tuples_of given) ≡ false → has (tuples_of given) t ≡ false → has_repeat (tuples_of (given ++ (t, value) ∷ [])) ≡ false
   distinct-more given t value distinct new = ap has_repeat (tuples_of-push given t value) ∙ has_repeat-new (tuples_of given) t distinct new

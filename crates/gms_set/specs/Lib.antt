@@ -1,3 +1,5 @@
+pub mod Counts
 pub mod Expansion
 pub mod Faults
 pub mod Ranges
+pub mod Seen

@@ -7,6 +7,7 @@ ghost use Rattle.gms_set.specs.Expansion.{error_of, has_repeat, tuples_of, with_
 use crate::fault::SetError;
 use crate::outside::has_outside;
 use crate::product::{count, tuple_at};
+use crate::seen::see;
 use gms_ast::{Item, Sequence};
 use gms_store::Store;
 use gms_tuple::{Tuple, TupleSet};
@@ -16,26 +17,27 @@ use std::alloc::{AllocError, Global};
 use std::marker::Model;
 
 /// How many tuples the data of a symbol may have.
-const MOST_TUPLES: usize = 1_048_576;
+pub(crate) const MOST_TUPLES: usize = 1_048_576;
 
 /// The tuples that are given so far, each with its value. No tuple stands twice.
+///
+/// As long as each comes behind the one before it, nothing more is kept; from the first that does not on, their set is.
 #[derive(Drop)]
 pub struct Expansion<F> {
     given: Vec<(Tuple, Option<Ext<F>>)>,
-    seen: TupleSet,
+    seen: Option<TupleSet>,
 }
 
 impl<F> Model for Expansion<F> {
-    ghost use Rattle.std.specs.Prelude.{◌≡◌, ℕ, List, false};
-    ghost use Rattle.gms_tuple.specs.TupleSet.{has};
+    ghost use Rattle.std.specs.Prelude.{◌≡◌, false};
     ghost use Rattle.gms_set.specs.Expansion.{Given, has_repeat, tuples_of};
+    ghost use Rattle.gms_set.specs.Seen.{AreSeen};
 
     ghost Value = { Given F };
 
     ghost view = { λ e. e.given.items };
 
-    ghost invariant = { λ e. ((tuple : List ℕ) → has e.seen tuple ≡ has (tuples_of e.given.items) tuple)
-        × (has_repeat (tuples_of e.given.items) ≡ false) };
+    ghost invariant = { λ e. AreSeen e.seen (tuples_of e.given.items) × (has_repeat (tuples_of e.given.items) ≡ false) };
 }
 
 impl<F: ExactField> Expansion<F> {
@@ -45,7 +47,7 @@ impl<F: ExactField> Expansion<F> {
     {
         Expansion {
             given: Vec::new(alloc),
-            seen: TupleSet::new(alloc),
+            seen: None,
         }
     }
 
@@ -103,6 +105,7 @@ impl<F: ExactField> Expansion<F> {
         ensures new { IfOk result (λ new. new ≡ not (has_repeat (tuples_of self.old ++ product parts.now))) }
         ensures given { IfOk result (λ new. IsTrue new → self.new ≡ self.old ++ with_value value (product parts.now)) }
     {
+        self.given.reserve(count)?;
         for place in 0..count {
             let tuple = tuple_at(alloc, parts, count, place)?;
             if !self.add_tuple(alloc, tuple, value)? {
@@ -124,8 +127,7 @@ impl<F: ExactField> Expansion<F> {
         ensures distinct { has_repeat (tuples_of self.new) ≡ false }
     {
         self.given.reserve(1)?;
-        let member = tuple.copy(alloc)?;
-        if !self.seen.insert(alloc, member)? {
+        if !see(alloc, &mut self.seen, &self.given, &tuple)? {
             return Ok(false);
         }
         self.given.push((tuple, value))?;

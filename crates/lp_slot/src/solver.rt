@@ -25,9 +25,10 @@ pub trait LpSolver: Drop {
     /// The pivots of each answer that the solver has given, in order.
     ghost paths: { Self → List (List Pivot) };
 
-    /// The name by which a source chooses the solver.
+    /// The name by which a source chooses the solver. It is of the form that a source can write.
     fn name(&self) -> &str
-        ensures { result.now ≡ name self.now };
+        ensures name { result.now ≡ name self.now }
+        ensures named { IsSolverName result.now };
 
     /// Which pivots the solver takes.
     fn rule(&self) -> Rule

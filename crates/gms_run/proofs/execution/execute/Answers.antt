@@ -49,7 +49,7 @@ returns-clause-follows g c state begins =
     let is_job = job_of_script (map (λ b. (goal.LpSolver-dyn g (b.vtable, b.value)).name b.value) c.args.solvers.now.items) (script_in c.args.script state) c.args.program.now begins.accepted in
     told_as c.to_end.result _ _ _ _
     (λ status ends both. follows_job status (solving (λ b. (goal.LpSolver-dyn g (b.vtable, b.value)).name b.value) (λ b. (goal.LpSolver-dyn g (b.vtable, b.value)).rule b.value) (λ b. (goal.LpSolver-dyn g (b.vtable, b.value)).paths b.value) c.args.solvers.now.items c.to_end.new.solvers.items c.to_end.new.answers.items) (asked_by c.args.request) (scripted (script_in c.args.script state)) (string_bytes c.to_end.new.self.remarks) c.to_end.new.self.save.items job c.to_end.new.self.store c.to_end.new.self.solved.items (map (λ b. (goal.LpSolver-dyn g (b.vtable, b.value)).name b.value) c.to_end.new.solvers.items) is_job begins.origin
-    (ends_echoed job (g.H.Host.meaning c.args.host.now).outside (g.H.Host.meaning c.pass_echo.new.host).outside c.pass_echo.new.outlet.spool c.pass_echo.new.outlet.listing c.in_ok-pass_echo.ensures.outside c.in_ok-pass_echo.ensures.none status (solving (λ b. (goal.LpSolver-dyn g (b.vtable, b.value)).name b.value) (λ b. (goal.LpSolver-dyn g (b.vtable, b.value)).rule b.value) (λ b. (goal.LpSolver-dyn g (b.vtable, b.value)).paths b.value) c.args.solvers.now.items c.to_end.new.solvers.items c.to_end.new.answers.items) c.args.run.now.store c.to_end.new.self.store c.to_end.new.self.solved.items (g.H.Host.meaning c.to_end.new.host).outside _ begins.first ends).ends both.0 both.1 ends.ends.solved.grown.names) (c.to_end.ensures.outside state) (both_of c.to_end.result _ _ c.to_end.ensures.told c.to_end.ensures.saved)
+    (ends_echoed job (g.H.Host.meaning c.args.host.now).outside (g.H.Host.meaning c.pass_echo.new.host).outside c.pass_echo.new.outlet.spool c.pass_echo.new.outlet.listing c.in_ok-pass_echo.ensures.outside c.in_ok-pass_echo.ensures.none status (solving (λ b. (goal.LpSolver-dyn g (b.vtable, b.value)).name b.value) (λ b. (goal.LpSolver-dyn g (b.vtable, b.value)).rule b.value) (λ b. (goal.LpSolver-dyn g (b.vtable, b.value)).paths b.value) c.args.solvers.now.items c.to_end.new.solvers.items c.to_end.new.answers.items) c.args.run.now.store c.to_end.new.self.store c.to_end.new.self.solved.items (g.H.Host.meaning c.to_end.new.host).outside _ begins.first ends).ends both.0 both.1 ends.ends.solved.grown.names begins.named) (c.to_end.ensures.outside state) (both_of c.to_end.result _ _ c.to_end.ensures.told c.to_end.ensures.saved)
 
 pub returns-clause-counts : goal.returns-clause-counts
 returns-clause-counts g c = writing_more _ c.in_ok-pass_echo.ensures.counts c.to_end.ensures.counts

@@ -1,5 +1,5 @@
-use Rattle.std.proofs.Common.{◌≡◌, ◌∙◌, ◌+◌, ◌*◌, ◌<◌, max, ◌||◌, ◌++◌, ◌∷◌, [], ◌&&◌, not, ap, sym, refl, Bool, List, ℕ, Some, length, map, take, if◌then◌else◌, rules, arith}
-use Rattle.std.specs.Prelude.{flat_map}
+use Rattle.std.proofs.Common.{◌≡◌, ◌∙◌, ◌+◌, ◌*◌, ◌<◌, max, ◌||◌, ◌++◌, ◌∷◌, [], ◌&&◌, not, ap, sym, refl, Bool, List, ℕ, Some, length, map, take, if◌then◌else◌, subst, rules, arith}
+use Rattle.std.specs.Prelude.{flat_map, IfOk, OnOk}
 use Rattle.std.specs.List.{list_any}
 use Rattle.std.proofs.lemmas.List.{take_all}
 use denote.Param.Weighed.{most}
@@ -7,13 +7,13 @@ use Rattle.gms_labels.specs.declared.place.Place.{Place}
 use Rattle.gms_ast.specs.declared.expression.Expr.{Expr, Ref, size-Expr}
 use Rattle.gms_ast.specs.declared.expression.Control.{out-Control}
 use Rattle.gms_ast.specs.declared.expression.RelOp.{RelOp}
-use Rattle.gms_ast.specs.Trees.{Control, fold_over, plain, placed, signed, related, chosen}
+use Rattle.gms_ast.specs.Trees.{Control, fold_over, reference, plain, placed, signed, related, chosen}
 use Rattle.gms_ast.specs.declared.expression.Index.{Index, Set, size-Index}
 use Rattle.gms_ast.specs.Trees.{Tree}
 use Rattle.gms_ast.specs.TreeView.{tree_of, control_tree}
 use Rattle.gms_check.specs.StatementUses.{index_list}
 use Rattle.gms_ast.proofs.TreeEquations.{tree_of-Ref, tree_of-Call, tree_of-Fold, tree_of-Guard, tree_of-And, tree_of-Plus, tree_of-Times, tree_of-Power, tree_of-Relate, tree_of-Or}
-use Rattle.gms_check.specs.Checking.{Checking, faulted, known_of, noted, seen, with_controlled}
+use Rattle.gms_check.specs.Checking.{Checking, faulted, known_of, noted, seen, with_controlled, with_sets}
 use Rattle.gms_check.specs.Linearity.{has_variable, have_variable, is_sum}
 use Rattle.gms_check.specs.PartLists.{chosen_list, in_no_place, placed_list, plain_list, related_list, signed_list}
 use Rattle.gms_check.specs.declared.standing.Standing.{Standing}
@@ -26,7 +26,7 @@ use Rattle.gms_check.specs.Standing.{as_condition, as_guarded, as_inner, as_numb
 use Rattle.gms_check.specs.Uses.{Uses, amount_uses, calling, control_uses, controlling, folding, logic, part_uses, reading, sets_of, steps, uses}
 use Rattle.gms_check.proofs.ControlTrees.{tree-where}
 use Rattle.gms_check.proofs.Depths.{indices-fall, indices-less_deep}
-use Rattle.gms_check.proofs.FoldSteps.{controlled-counted, noted-fold}
+use Rattle.gms_check.proofs.FoldSteps.{noted-body, noted-fold}
 use Rattle.gms_check.proofs.LagAmounts.{amounts-alone, amounts-label, amounts-lagged}
 use Rattle.gms_check.proofs.Noting.{and-false, and-true, chain-2, noted-around, noted-by, noted-more, noted-none, noted-then, not-not, turned}
 use Rattle.gms_check.proofs.PartUses.{any-more, any-parts, all-anywhere, count-parts, uses-anywhere, uses-parts}
@@ -62,20 +62,28 @@ sum-loop-at-preserved g t c =
       variable = ap (λ b. b || c.in_ok-variable.field-0) invariant.variable ∙ ap (λ b. list_any (λ (part : Place × Bool × Expr _). has_variable (known_of value s) (tree_of part.2)) (take c.loop-at.at-index c.args.parts.now) || b) (c.in_ok-variable.ensures.variable ∙ ap (λ (k : Known _). has_variable k (tree_of part.2)) known) ∙ sym (any-more (λ (part : Place × Bool × Expr _). has_variable (known_of value s) (tree_of part.2)) c.args.parts.now c.loop-at.at-index part c.loop-at-test.true c.loop-at-item.is);
     }
 
+pub relations-loop-part-init : goal.relations-loop-part-init
+relations-loop-part-init g t c =
+    c.require.ensures ∙ noted-none g.F.ExactField.value (faulted (seen c.args.self.now) c.args.around ((not c.args.standing.numbers, WrongKind) ∷ []))
+
 pub relations-loop-part-preserved : goal.relations-loop-part-preserved
 relations-loop-part-preserved g t c =
     let value = g.F.ExactField.value in
-    let s = seen c.args.self.now in
+    let s = faulted (seen c.args.self.now) c.args.around ((not c.args.standing.numbers, WrongKind) ∷ []) in
     let now = seen c.loop-part.self in
     let part = c.loop-part-item.result in
     let invariant = c.loop-part.invariant in
     let controlled : now.controlled ≡ s.controlled = ap (λ (u : Checking). u.controlled) invariant in
     noted-more value (λ (part : RelOp × Expr _). uses as_number c.args.around s.controlled (tree_of part.1)) c.args.parts.now c.loop-part.part-index part s now _ c.loop-part-test.true c.loop-part-item.is invariant (c.in_ok-_variable.ensures.noted ∙ ap (λ (sets : List ℕ). noted value now (uses as_number c.args.around sets (tree_of part.1))) controlled)
 
+pub choice-loop-part-init : goal.choice-loop-part-init
+choice-loop-part-init g t c =
+    c.require.ensures ∙ noted-none g.F.ExactField.value (faulted (seen c.args.self.now) c.args.around ((not c.args.standing.numbers, WrongKind) ∷ []))
+
 pub choice-loop-part-preserved : goal.choice-loop-part-preserved
 choice-loop-part-preserved g t c =
     let value = g.F.ExactField.value in
-    let s = seen c.args.self.now in
+    let s = faulted (seen c.args.self.now) c.args.around ((not c.args.standing.numbers, WrongKind) ∷ []) in
     let now = seen c.loop-part.self in
     let part = c.loop-part-item.result in
     let invariant = c.loop-part.invariant in
@@ -106,17 +114,25 @@ sum-returns-clause-variable g t c =
     let s = seen c.args.self.now in
     c.loop-at.invariant.variable ∙ ap (list_any (λ (part : Place × Bool × Expr _). has_variable (known_of value s) (tree_of part.2))) (take_all c.loop-at.at-index c.args.parts.now c.loop-at-test.false) ∙ sym (any-parts (λ (part : Place × Bool × Expr _). signed part.0 part.1) (λ (part : Place × Bool × Expr _). tree_of part.2) (known_of value s) c.args.parts.now)
 
-pub relations-returns : goal.relations-returns
-relations-returns g t c =
+pub relations-returns-clause-noted : goal.relations-returns-clause-noted
+relations-returns-clause-noted g t c =
     let value = g.F.ExactField.value in
     let s = seen c.args.self.now in
-    c.loop-part.invariant ∙ ap (λ (parts : List (RelOp × Expr _)). noted value s (flat_map (λ (part : RelOp × Expr _). uses as_number c.args.around s.controlled (tree_of part.1)) parts)) (take_all c.loop-part.part-index c.args.parts.now c.loop-part-test.false) ∙ ap (noted value s) (sym (uses-parts (λ (part : RelOp × Expr _). related part.0) (λ (part : RelOp × Expr _). tree_of part.1) as_number c.args.around s.controlled c.args.parts.now))
+    let around = c.args.around in
+    let standing = c.args.standing in
+    let begun = faulted s around ((not standing.numbers, WrongKind) ∷ []) in
+    noted-then value s begun _ ((around, logic standing) ∷ []) (part_uses as_number around s.controlled (related_list c.args.parts.now)) (noted-by value s begun around (logic standing) ((not standing.numbers, WrongKind) ∷ []) refl refl)
+    (c.loop-part.invariant ∙ ap (λ (parts : List (RelOp × Expr _)). noted value begun (flat_map (λ (part : RelOp × Expr _). uses as_number around s.controlled (tree_of part.1)) parts)) (take_all c.loop-part.part-index c.args.parts.now c.loop-part-test.false) ∙ ap (noted value begun) (sym (uses-parts (λ (part : RelOp × Expr _). related part.0) (λ (part : RelOp × Expr _). tree_of part.1) as_number around s.controlled c.args.parts.now)))
 
-pub choice-returns : goal.choice-returns
-choice-returns g t c =
+pub choice-returns-clause-noted : goal.choice-returns-clause-noted
+choice-returns-clause-noted g t c =
     let value = g.F.ExactField.value in
     let s = seen c.args.self.now in
-    c.loop-part.invariant ∙ ap (λ (parts : List (Bool × Expr _)). noted value s (flat_map (λ (part : Bool × Expr _). uses as_condition c.args.around s.controlled (tree_of part.1)) parts)) (take_all c.loop-part.part-index c.args.parts.now c.loop-part-test.false) ∙ ap (noted value s) (sym (uses-parts (λ (part : Bool × Expr _). chosen part.0) (λ (part : Bool × Expr _). tree_of part.1) as_condition c.args.around s.controlled c.args.parts.now))
+    let around = c.args.around in
+    let standing = c.args.standing in
+    let begun = faulted s around ((not standing.numbers, WrongKind) ∷ []) in
+    noted-then value s begun _ ((around, logic standing) ∷ []) (part_uses as_condition around s.controlled (chosen_list c.args.parts.now)) (noted-by value s begun around (logic standing) ((not standing.numbers, WrongKind) ∷ []) refl refl)
+    (c.loop-part.invariant ∙ ap (λ (parts : List (Bool × Expr _)). noted value begun (flat_map (λ (part : Bool × Expr _). uses as_condition around s.controlled (tree_of part.1)) parts)) (take_all c.loop-part.part-index c.args.parts.now c.loop-part-test.false) ∙ ap (noted value begun) (sym (uses-parts (λ (part : Bool × Expr _). chosen part.0) (λ (part : Bool × Expr _). tree_of part.1) as_condition around s.controlled c.args.parts.now)))
 
 pub product-returns-clause-noted : goal.product-returns-clause-noted
 product-returns-clause-noted g t c =
@@ -174,44 +190,26 @@ pub expression-returns-in-Call-clause-variable : goal.expression-returns-in-Call
 expression-returns-in-Call-clause-variable g t c =
     rw (c.in-Call.is, tree_of-Call c.in-Call.at c.in-Call.function c.in-Call.args, ← c.deref-in-Call.ensures.value) c.call.ensures.variable
 
-pub expression-returns-in_ok-relations-in-Relate-clause-noted : goal.expression-returns-in_ok-relations-in-Relate-clause-noted
-expression-returns-in_ok-relations-in-Relate-clause-noted g t c =
-    let value = g.F.ExactField.value in
-    let s = seen c.args.self.now in
-    let around = c.args.around in
-    let standing = c.args.standing in
-    let after = seen c.require.new.self in
-    let first : seen c.require.new.self ≡ noted value s ((around, logic standing) ∷ []) = noted-by value s after around (logic standing) ((not standing.numbers, WrongKind) ∷ []) refl c.require.ensures in
-    let controlled : after.controlled ≡ s.controlled = ap (λ (u : Checking). u.controlled) first in
-    noted-then value s after _ ((around, logic standing) ∷ []) (part_uses as_number around s.controlled (related_list c.in-Relate.parts.items)) first
-    (c.in_ok-relations-in-Relate.ensures ∙ ap (λ (sets : List ℕ). noted value after (part_uses as_number around sets (related_list c.deref-in-Relate.result.now))) controlled ∙ ap (λ (parts : List (RelOp × Expr _)). noted value after (part_uses as_number around s.controlled (related_list parts))) c.deref-in-Relate.ensures.value)
-    ∙ ap (λ (tree : Tree _). noted value s (uses standing around s.controlled tree)) (sym (ap tree_of c.in-Relate.is ∙ tree_of-Relate c.in-Relate.parts))
+pub expression-returns-in-Relate-clause-noted : goal.expression-returns-in-Relate-clause-noted
+expression-returns-in-Relate-clause-noted g t c =
+    rw (c.in-Relate.is, tree_of-Relate c.in-Relate.parts, ← c.deref-in-Relate.ensures.value) c.relations.ensures.noted
 
-pub expression-returns-in_ok-_parts-in-And-clause-noted : goal.expression-returns-in_ok-_parts-in-And-clause-noted
-expression-returns-in_ok-_parts-in-And-clause-noted g t c =
-    let value = g.F.ExactField.value in
-    let s = seen c.args.self.now in
-    let around = c.args.around in
-    let standing = c.args.standing in
-    let after = seen c.require-in-And.new.self in
-    let first : seen c.require-in-And.new.self ≡ noted value s ((around, logic standing) ∷ []) = noted-by value s after around (logic standing) ((not standing.numbers, WrongKind) ∷ []) refl c.require-in-And.ensures in
-    let controlled : after.controlled ≡ s.controlled = ap (λ (u : Checking). u.controlled) first in
-    noted-then value s after _ ((around, logic standing) ∷ []) (part_uses as_condition around s.controlled (plain_list c.in-And.parts.items)) first
-    (c.in_ok-_parts-in-And.ensures.noted ∙ ap (λ (sets : List ℕ). noted value after (part_uses as_condition around sets (plain_list c.deref-in-And.result.now))) controlled ∙ ap (λ (parts : List (Expr _)). noted value after (part_uses as_condition around s.controlled (plain_list parts))) c.deref-in-And.ensures.value)
-    ∙ ap (λ (tree : Tree _). noted value s (uses standing around s.controlled tree)) (sym (ap tree_of c.in-And.is ∙ tree_of-And c.in-And.parts))
+pub expression-returns-in-Relate-clause-variable : goal.expression-returns-in-Relate-clause-variable
+expression-returns-in-Relate-clause-variable g t c = rw (c.in-Relate.is, tree_of-Relate c.in-Relate.parts) c.relations.ensures.variable
 
-pub expression-returns-in_ok-choice-in-Or-clause-noted : goal.expression-returns-in_ok-choice-in-Or-clause-noted
-expression-returns-in_ok-choice-in-Or-clause-noted g t c =
-    let value = g.F.ExactField.value in
-    let s = seen c.args.self.now in
-    let around = c.args.around in
-    let standing = c.args.standing in
-    let after = seen c.require-in-Or.new.self in
-    let first : seen c.require-in-Or.new.self ≡ noted value s ((around, logic standing) ∷ []) = noted-by value s after around (logic standing) ((not standing.numbers, WrongKind) ∷ []) refl c.require-in-Or.ensures in
-    let controlled : after.controlled ≡ s.controlled = ap (λ (u : Checking). u.controlled) first in
-    noted-then value s after _ ((around, logic standing) ∷ []) (part_uses as_condition around s.controlled (chosen_list c.in-Or.parts.items)) first
-    (c.in_ok-choice-in-Or.ensures ∙ ap (λ (sets : List ℕ). noted value after (part_uses as_condition around sets (chosen_list c.deref-in-Or.result.now))) controlled ∙ ap (λ (parts : List (Bool × Expr _)). noted value after (part_uses as_condition around s.controlled (chosen_list parts))) c.deref-in-Or.ensures.value)
-    ∙ ap (λ (tree : Tree _). noted value s (uses standing around s.controlled tree)) (sym (ap tree_of c.in-Or.is ∙ tree_of-Or c.in-Or.parts))
+pub expression-returns-in-And-clause-noted : goal.expression-returns-in-And-clause-noted
+expression-returns-in-And-clause-noted g t c =
+    rw (c.in-And.is, tree_of-And c.in-And.parts, ← c.deref-in-And.ensures.value) c.all_of.ensures.noted
+
+pub expression-returns-in-And-clause-variable : goal.expression-returns-in-And-clause-variable
+expression-returns-in-And-clause-variable g t c = rw (c.in-And.is, tree_of-And c.in-And.parts) c.all_of.ensures.variable
+
+pub expression-returns-in-Or-clause-noted : goal.expression-returns-in-Or-clause-noted
+expression-returns-in-Or-clause-noted g t c =
+    rw (c.in-Or.is, tree_of-Or c.in-Or.parts, ← c.deref-in-Or.ensures.value) c.choice.ensures.noted
+
+pub expression-returns-in-Or-clause-variable : goal.expression-returns-in-Or-clause-variable
+expression-returns-in-Or-clause-variable g t c = rw (c.in-Or.is, tree_of-Or c.in-Or.parts) c.choice.ensures.variable
 
 pub expression-returns-in_ok-_guards-in-Guard-clause-noted : goal.expression-returns-in_ok-_guards-in-Guard-clause-noted
 expression-returns-in_ok-_guards-in-Guard-clause-noted g t c =
@@ -227,19 +225,43 @@ expression-returns-in_ok-_guards-in-Guard-clause-noted g t c =
     (c.in_ok-_guards-in-Guard.ensures.noted ∙ ap (λ (sets : List ℕ). noted value after (part_uses as_condition around sets (plain_list c.deref-in-Guard-2.result.now))) controlled ∙ ap (λ (parts : List (Expr _)). noted value after (part_uses as_condition around s.controlled (plain_list parts))) c.deref-in-Guard-2.ensures.value)
     ∙ ap (λ (tree : Tree _). noted value s (uses standing around s.controlled tree)) (sym (ap tree_of c.in-Guard.is ∙ tree_of-Guard c.in-Guard.operand c.in-Guard.guards))
 
-pub expression-returns-in_ok-amounts-in-Ref-clause-noted : goal.expression-returns-in_ok-amounts-in-Ref-clause-noted
-expression-returns-in_ok-amounts-in-Ref-clause-noted g t c =
+pub expression-returns-in-Ref-clause-noted : goal.expression-returns-in-Ref-clause-noted
+expression-returns-in-Ref-clause-noted g t c =
     let value = g.F.ExactField.value in
     let s = seen c.args.self.now in
     let standing = c.args.standing in
+    let around = c.args.around in
     let r = c.in-Ref in
+    let xs = index_list c.deref.result.now in
+    let whole : noted value s ((r.at, reading standing s.controlled r.name r.suffix xs) ∷ amount_uses s.controlled xs) ≡ noted value s (uses standing around s.controlled (tree_of c.args.e.now)) =
+    ap (λ (indices : List (Index _)). noted value s (uses standing around s.controlled (reference r.at r.name r.suffix (index_list indices)))) c.deref.ensures.value
+    ∙ ap (λ (tree : Tree _). noted value s (uses standing around s.controlled tree)) (sym (ap tree_of r.is ∙ tree_of-Ref r.at r.name r.suffix r.indices)) in
+    subst (λ (after : Checking). OnOk c.referred.result (seen c.referred.new.self ≡ after)) whole c.referred.ensures.noted
+
+pub expression-returns-in-Ref-clause-variable : goal.expression-returns-in-Ref-clause-variable
+expression-returns-in-Ref-clause-variable g t c =
+    rw (c.in-Ref.is, tree_of-Ref c.in-Ref.at c.in-Ref.name c.in-Ref.suffix c.in-Ref.indices) c.referred.ensures.variable
+
+pub referred-returns-clause-noted : goal.referred-returns-clause-noted
+referred-returns-clause-noted g t c =
+    let value = g.F.ExactField.value in
+    let s = seen c.args.self.now in
     let after = seen c.reference.new.self in
-    let xs = index_list r.indices.items in
-    let first : seen c.reference.new.self ≡ noted value s ((r.at, reading standing s.controlled r.name r.suffix xs) ∷ []) = c.in_ok-variable-in-Ref.ensures.noted ∙ ap (λ (indices : List (Index _)). noted value s ((r.at, reading standing s.controlled r.name r.suffix (index_list indices)) ∷ [])) c.deref.ensures.value in
+    let xs = index_list c.args.indices.now in
+    let read = (c.args.at, reading c.args.standing s.controlled c.args.name c.args.suffix xs) ∷ [] in
+    let controlled : after.controlled ≡ s.controlled = ap (λ (u : Checking). u.controlled) c.in_ok-variable.ensures.noted in
+    noted-then value s after _ read (amount_uses s.controlled xs) c.in_ok-variable.ensures.noted (c.in_ok-amounts.ensures ∙ ap (λ (sets : List ℕ). noted value after (amount_uses sets xs)) controlled)
+
+pub all_of-returns-clause-noted : goal.all_of-returns-clause-noted
+all_of-returns-clause-noted g t c =
+    let value = g.F.ExactField.value in
+    let s = seen c.args.self.now in
+    let around = c.args.around in
+    let standing = c.args.standing in
+    let after = seen c.require.new.self in
+    let first : seen c.require.new.self ≡ noted value s ((around, logic standing) ∷ []) = noted-by value s after around (logic standing) ((not standing.numbers, WrongKind) ∷ []) refl c.require.ensures in
     let controlled : after.controlled ≡ s.controlled = ap (λ (u : Checking). u.controlled) first in
-    noted-then value s after _ ((r.at, reading standing s.controlled r.name r.suffix xs) ∷ []) (amount_uses s.controlled xs) first
-    (c.in_ok-amounts-in-Ref.ensures ∙ ap (λ (sets : List ℕ). noted value after (amount_uses sets (index_list c.deref-in-Ref.result.now))) controlled ∙ ap (λ (indices : List (Index _)). noted value after (amount_uses s.controlled (index_list indices))) c.deref-in-Ref.ensures.value)
-    ∙ ap (λ (tree : Tree _). noted value s (uses standing c.args.around s.controlled tree)) (sym (ap tree_of c.in-Ref.is ∙ tree_of-Ref r.at r.name r.suffix r.indices))
+    noted-then value s after _ ((around, logic standing) ∷ []) (part_uses as_condition around s.controlled (plain_list c.args.parts.now)) first (c.in_ok-_parts.ensures.noted ∙ ap (λ (sets : List ℕ). noted value after (part_uses as_condition around sets (plain_list c.args.parts.now))) controlled)
 
 pub call-returns-clause-noted : goal.call-returns-clause-noted
 call-returns-clause-noted g t c =
@@ -303,9 +325,9 @@ amounts-loop-index-preserved g t c =
       ]
     ]
 
-pub expression-amounts-requires : goal.expression-amounts-requires
-expression-amounts-requires g t c κs within =
-    (indices-fall (size-Expr g.row.F.Denot c.args.e.now) (size-Expr g.row.F.Denot (Ref c.in-Ref.at c.in-Ref.name c.in-Ref.suffix c.in-Ref.indices)) (most (size-Index g.row.F.Denot) c.in-Ref.indices.items) (most (size-Index g.row.F.Denot) c.deref-in-Ref.result.now) t (indices-less_deep c.in-Ref.at c.in-Ref.name c.in-Ref.suffix c.in-Ref.indices) (ap (size-Expr g.row.F.Denot) c.in-Ref.is) (ap (most (size-Index g.row.F.Denot)) c.deref-in-Ref.ensures.value) c.decreases, within)
+pub expression-referred-requires : goal.expression-referred-requires
+expression-referred-requires g t c κs within =
+    (indices-fall (size-Expr g.row.F.Denot c.args.e.now) (size-Expr g.row.F.Denot (Ref c.in-Ref.at c.in-Ref.name c.in-Ref.suffix c.in-Ref.indices)) (most (size-Index g.row.F.Denot) c.in-Ref.indices.items) (most (size-Index g.row.F.Denot) c.deref.result.now) t (indices-less_deep c.in-Ref.at c.in-Ref.name c.in-Ref.suffix c.in-Ref.indices) (ap (size-Expr g.row.F.Denot) c.in-Ref.is) (ap (most (size-Index g.row.F.Denot)) c.deref.ensures.value) c.decreases, within)
 
 pub power-loop-i-preserved : goal.power-loop-i-preserved
 power-loop-i-preserved g t c =
@@ -370,50 +392,58 @@ product-loop-i-preserved g t c =
       variable = ap (λ b. b || c.in_ok-right.right) invariant.variable ∙ ap (λ b. list_any (λ (part : Place × Bool × Expr _). has_variable (known_of value s) (tree_of part.2)) (take i parts) || b) right ∙ sym (any-more (λ (part : Place × Bool × Expr _). has_variable (known_of value s) (tree_of part.2)) parts i part c.loop-i-test.true c.index-parts-i.is);
     }
 
-pub expression-returns-in_ok-variable-in-Fold-clause-noted : goal.expression-returns-in_ok-variable-in-Fold-clause-noted
-expression-returns-in_ok-variable-in-Fold-clause-noted g t c =
+pub folded-returns-clause-noted : goal.folded-returns-clause-noted
+folded-returns-clause-noted g t c =
     let value = g.F.ExactField.value in
     let s = seen c.args.self.now in
-    let at = c.in-Fold.at in
+    let at = c.args.at in
     let standing = c.args.standing in
-    let control = control_tree c.in-Fold.control in
-    let sets = sets_of control in
-    let body = tree_of c.deref-in-Fold.result.now in
-    let r = seen c.require-in-Fold.new.self in
-    let own : r.controlled ≡ s.controlled = ap (λ (u : Checking). u.controlled) c.require-in-Fold.ensures in
-    let under = seen c.control.new.self in
-    let ruled : seen c.control.new.self ≡ with_controlled (noted value r (control_uses at s.controlled control)) sets = c.in_ok-control-in-Fold.ensures ∙ ap (λ (controlled : List ℕ). with_controlled (noted value r (control_uses at controlled control)) sets) own in
-    let known : known_of value under ≡ known_of value s = ap (λ (u : Checking). known_of value u) ruled ∙ ap (λ (u : Checking). known_of value u) c.require-in-Fold.ensures in
-    let variable : c.in_ok-variable-in-Fold.variable ≡ has_variable (known_of value s) body = c.in_ok-variable-in-Fold.ensures.variable ∙ ap (λ (k : Known _). has_variable k body) known in
-    let all : under.controlled ≡ s.controlled ++ sets = ap (λ (u : Checking). u.controlled) ruled ∙ ap (λ (controlled : List ℕ). controlled ++ sets) own in
-    let inside = seen c.expression-in-Fold.new.self in
+    let body = tree_of c.args.body.now in
+    let r = seen c.require.new.self in
+    let inside = seen c.expression.new.self in
     let outside : Checking = record inside { controlled = c.truncate.new.self } in
-    let faults : List (Bool × ErrorKind) = (not standing.numbers, WrongKind) ∷ [] in
-    let curved = standing.variables && (not (is_sum c.in-Fold.op) && has_variable (known_of value s) body) in
-    let late : List (Bool × ErrorKind) = (curved, Nonlinear) ∷ [] in
-    let count : c.len-outer.result ≡ length s.controlled = controlled-counted c.len-outer.result c.require-in-Fold.new.self.controlled s c.len-outer.ensures own in
-    noted-fold value s r under inside outside (seen c.fold_step.new.self) at (folding standing c.in-Fold.op body) faults late (control_uses at s.controlled control) (uses (as_inner standing) at (s.controlled ++ sets) body) sets c.len-outer.result refl count c.require-in-Fold.ensures ruled
-    (c.in_ok-variable-in-Fold.ensures.noted ∙ ap (λ (st : Standing). noted value under (uses st at under.controlled body)) c.inner.ensures ∙ ap (λ (controlled : List ℕ). noted value under (uses (as_inner standing) at controlled body)) all)
+    let own : r.controlled ≡ s.controlled = ap (λ (u : Checking). u.controlled) c.require.ensures in
+    let variable : c.in_ok-variable.variable ≡ has_variable (known_of value s) body = c.in_ok-variable.ensures.variable ∙ ap (λ (u : Checking). has_variable (known_of value u) body) c.require.ensures in
+    let curved = standing.variables && (not (is_sum c.args.op) && has_variable (known_of value s) body) in
+    noted-body value s r inside outside (seen c.fold_step.new.self) at (folding standing c.args.op body) ((not standing.numbers, WrongKind) ∷ []) ((curved, Nonlinear) ∷ []) (uses (as_inner standing) at s.controlled body) c.args.outer refl c.require.ensures
+    (c.in_ok-variable.ensures.noted ∙ ap (λ (st : Standing). noted value r (uses st at r.controlled body)) c.inner.ensures ∙ ap (λ (controlled : List ℕ). noted value r (uses (as_inner standing) at controlled body)) own)
     (ap (λ (controlled : List ℕ). record inside { controlled = controlled }) c.truncate.ensures)
-    (c.fold_step.ensures ∙ ap (λ (b : Bool). faulted outside at ((standing.variables && (not (is_sum c.in-Fold.op) && b), Nonlinear) ∷ [])) variable)
-    ∙ ap (λ (e : Expr _). noted value s (uses standing c.args.around s.controlled (fold_over at c.in-Fold.op control (tree_of e)))) c.deref-in-Fold.ensures
-    ∙ ap (λ (tree : Tree _). noted value s (uses standing c.args.around s.controlled tree)) (sym (ap tree_of c.in-Fold.is ∙ tree_of-Fold at c.in-Fold.op c.in-Fold.control c.in-Fold.body))
+    (c.fold_step.ensures ∙ ap (λ (b : Bool). faulted outside at ((standing.variables && (not (is_sum c.args.op) && b), Nonlinear) ∷ [])) variable)
 
-pub expression-returns-in_ok-variable-in-Fold-clause-variable : goal.expression-returns-in_ok-variable-in-Fold-clause-variable
-expression-returns-in_ok-variable-in-Fold-clause-variable g t c =
+pub folded-returns-clause-variable : goal.folded-returns-clause-variable
+folded-returns-clause-variable g t c =
+    c.in_ok-variable.ensures.variable ∙ ap (λ (u : Checking). has_variable (known_of g.F.ExactField.value u) (tree_of c.args.body.now)) c.require.ensures
+
+pub expression-returns-in_ok-control-in-Fold-clause-noted : goal.expression-returns-in_ok-control-in-Fold-clause-noted
+expression-returns-in_ok-control-in-Fold-clause-noted g t c =
     let value = g.F.ExactField.value in
     let s = seen c.args.self.now in
     let at = c.in-Fold.at in
+    let op = c.in-Fold.op in
     let standing = c.args.standing in
     let control = control_tree c.in-Fold.control in
     let sets = sets_of control in
     let body = tree_of c.deref-in-Fold.result.now in
-    let r = seen c.require-in-Fold.new.self in
-    let own : r.controlled ≡ s.controlled = ap (λ (u : Checking). u.controlled) c.require-in-Fold.ensures in
     let under = seen c.control.new.self in
-    let ruled : seen c.control.new.self ≡ with_controlled (noted value r (control_uses at s.controlled control)) sets = c.in_ok-control-in-Fold.ensures ∙ ap (λ (controlled : List ℕ). with_controlled (noted value r (control_uses at controlled control)) sets) own in
-    let known : known_of value under ≡ known_of value s = ap (λ (u : Checking). known_of value u) ruled ∙ ap (λ (u : Checking). known_of value u) c.require-in-Fold.ensures in
-    let variable : c.in_ok-variable-in-Fold.variable ≡ has_variable (known_of value s) body = c.in_ok-variable-in-Fold.ensures.variable ∙ ap (λ (k : Known _). has_variable k body) known in
-    variable
-    ∙ ap (λ (e : Expr _). has_variable (known_of value s) (fold_over at c.in-Fold.op control (tree_of e))) c.deref-in-Fold.ensures
-    ∙ ap (λ (tree : Tree _). has_variable (known_of value s) tree) (sym (ap tree_of c.in-Fold.is ∙ tree_of-Fold at c.in-Fold.op c.in-Fold.control c.in-Fold.body))
+    let all : under.controlled ≡ s.controlled ++ sets = ap (λ (u : Checking). u.controlled) c.in_ok-control-in-Fold.ensures in
+    let count : c.len-outer.result ≡ length s.controlled = c.len-outer.ensures in
+    let whole : with_sets (noted value under ((at, folding standing op body) ∷ uses (as_inner standing) at under.controlled body)) (take c.len-outer.result under.controlled) ≡ noted value s (uses standing c.args.around s.controlled (tree_of c.args.e.now)) =
+    ap (λ (controlled : List ℕ). with_sets (noted value under ((at, folding standing op body) ∷ uses (as_inner standing) at controlled body)) (take c.len-outer.result under.controlled)) all
+    ∙ noted-fold value s under (at, folding standing op body) (control_uses at s.controlled control) (uses (as_inner standing) at (s.controlled ++ sets) body) sets c.len-outer.result count c.in_ok-control-in-Fold.ensures
+    ∙ ap (λ (e : Expr _). noted value s (uses standing c.args.around s.controlled (fold_over at op control (tree_of e)))) c.deref-in-Fold.ensures
+    ∙ ap (λ (tree : Tree _). noted value s (uses standing c.args.around s.controlled tree)) (sym (ap tree_of c.in-Fold.is ∙ tree_of-Fold at op c.in-Fold.control c.in-Fold.body)) in
+    subst (λ (after : Checking). OnOk c.folded.result (seen c.folded.new.self ≡ after)) whole c.folded.ensures.noted
+
+pub expression-returns-in_ok-control-in-Fold-clause-variable : goal.expression-returns-in_ok-control-in-Fold-clause-variable
+expression-returns-in_ok-control-in-Fold-clause-variable g t c =
+    let value = g.F.ExactField.value in
+    let s = seen c.args.self.now in
+    let at = c.in-Fold.at in
+    let op = c.in-Fold.op in
+    let control = control_tree c.in-Fold.control in
+    let body = tree_of c.deref-in-Fold.result.now in
+    let same : has_variable (known_of value (seen c.control.new.self)) body ≡ has_variable (known_of value s) (tree_of c.args.e.now) =
+    ap (λ (u : Checking). has_variable (known_of value u) body) c.in_ok-control-in-Fold.ensures
+    ∙ ap (λ (e : Expr _). has_variable (known_of value s) (fold_over at op control (tree_of e))) c.deref-in-Fold.ensures
+    ∙ ap (λ (tree : Tree _). has_variable (known_of value s) tree) (sym (ap tree_of c.in-Fold.is ∙ tree_of-Fold at op c.in-Fold.control c.in-Fold.body)) in
+    subst (λ (b : Bool). IfOk c.folded.result (λ variable. variable ≡ b)) same c.folded.ensures.variable

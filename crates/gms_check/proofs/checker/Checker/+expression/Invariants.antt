@@ -1,11 +1,12 @@
-use Rattle.std.proofs.Common.{◌≡◌, ◌++◌, Bool, take}
+use Rattle.std.proofs.Common.{◌≡◌, ◌++◌, [], ◌∷◌, not, Bool, take}
 use Rattle.std.specs.Prelude.{flat_map}
 use Rattle.std.specs.List.{list_any}
 use Rattle.gms_labels.specs.declared.place.Place.{Place}
 use Rattle.gms_ast.specs.declared.expression.Expr.{Expr}
 use Rattle.gms_ast.specs.declared.expression.RelOp.{RelOp}
 use Rattle.gms_ast.specs.TreeView.{tree_of}
-use Rattle.gms_check.specs.Checking.{known_of, noted, seen}
+use Rattle.gms_check.specs.Checking.{faulted, known_of, noted, seen}
+use Rattle.gms_check.specs.declared.error.ErrorKind.TheVariants.{WrongKind}
 use Rattle.gms_check.specs.Linearity.{has_variable}
 use Rattle.gms_check.specs.PartLists.{in_no_place, placed_list, signed_list}
 use Rattle.gms_check.specs.Standing.{as_condition, as_number, as_part}
@@ -43,8 +44,8 @@ invariant-power-loop-i g l = record {
 
 abbrev pub invariant-relations-loop-part : goal.invariant-relations-loop-part
 invariant-relations-loop-part g l =
-    seen l.self ≡ noted g.F.ExactField.value (seen l.fn.self) (flat_map (λ (part : RelOp × Expr _). uses as_number l.around (seen l.fn.self).controlled (tree_of part.1)) (take l.part-index l.parts))
+    seen l.self ≡ noted g.F.ExactField.value (faulted (seen l.fn.self) l.around ((not l.fn.standing.numbers, WrongKind) ∷ [])) (flat_map (λ (part : RelOp × Expr _). uses as_number l.around (seen l.fn.self).controlled (tree_of part.1)) (take l.part-index l.parts))
 
 abbrev pub invariant-choice-loop-part : goal.invariant-choice-loop-part
 invariant-choice-loop-part g l =
-    seen l.self ≡ noted g.F.ExactField.value (seen l.fn.self) (flat_map (λ (part : Bool × Expr _). uses as_condition l.around (seen l.fn.self).controlled (tree_of part.1)) (take l.part-index l.parts))
+    seen l.self ≡ noted g.F.ExactField.value (faulted (seen l.fn.self) l.around ((not l.fn.standing.numbers, WrongKind) ∷ [])) (flat_map (λ (part : Bool × Expr _). uses as_condition l.around (seen l.fn.self).controlled (tree_of part.1)) (take l.part-index l.parts))

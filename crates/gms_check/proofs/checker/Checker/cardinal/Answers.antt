@@ -7,8 +7,8 @@ use Rattle.gms_check.proofs.Noting.{alone, and-false, and-true, chain-2, not-and
 use Rattle.gms_check.proofs.checker.Checker.cardinal.Goals as goal
 use Rattle.gms_check.proofs.checker.Checker.cardinal.Goals.{then-standing, else-standing}
 
-pub returns : goal.returns
-returns g c =
+pub returns-clause-noted : goal.returns-clause-noted
+returns-clause-noted g c =
     let facts = c.args.self.now.known in
     let s = seen c.args.self.now in
     let set = is_set_name facts.state c.args.set in

@@ -8,8 +8,8 @@ use Rattle.gms_check.specs.Uses.{cardinal, ordinal}
 use Rattle.gms_check.proofs.Noting.{alone, faulted-by, faulted-then, noted-by}
 use Rattle.gms_check.proofs.checker.Checker.ordinal.Goals as goal
 
-pub returns : goal.returns
-returns g c =
+pub returns-clause-noted : goal.returns-clause-noted
+returns-clause-noted g c =
     let facts = c.args.self.now.known in
     let s = seen c.args.self.now in
     let at = c.args.at in
@@ -20,6 +20,6 @@ returns g c =
     noted-by g.F.ExactField.value s _ at (ordinal c.args.standing s.controlled c.args.set) ((unknown, UnknownName) ∷ (wrong, WrongKind) ∷ (free, Uncontrolled) ∷ (unordered, NotOrdered) ∷ []) (alone at unknown UnknownName ((wrong, WrongKind) ∷ (free, Uncontrolled) ∷ (unordered, NotOrdered) ∷ []))
     (faulted-then at s _ _ ((unknown, UnknownName) ∷ (wrong, WrongKind) ∷ (free, Uncontrolled) ∷ []) ((unordered, NotOrdered) ∷ [])
     (faulted-then at s _ _ ((unknown, UnknownName) ∷ (wrong, WrongKind) ∷ []) ((free, Uncontrolled) ∷ [])
-    (faulted-by g.F.ExactField.value s _ at (cardinal c.args.standing c.args.set) ((unknown, UnknownName) ∷ (wrong, WrongKind) ∷ []) (sym (alone at unknown UnknownName ((wrong, WrongKind) ∷ []))) c.cardinal.ensures)
-    (c.require.ensures ∙ ap (λ b. faulted (seen c.cardinal.new.self) at ((not b, Uncontrolled) ∷ [])) c.has-controlled.ensures))
+    (faulted-by g.F.ExactField.value s _ at (cardinal c.args.standing c.args.set) ((unknown, UnknownName) ∷ (wrong, WrongKind) ∷ []) (sym (alone at unknown UnknownName ((wrong, WrongKind) ∷ []))) c.cardinal-variable.ensures.noted)
+    (c.require.ensures ∙ ap (λ b. faulted (seen c.cardinal-variable.new.self) at ((not b, Uncontrolled) ∷ [])) c.has-controlled.ensures))
     (c.require-2.ensures ∙ ap (λ b. faulted (seen c.require.new.self) at ((not b, NotOrdered) ∷ [])) c.is_ordered-ordered.ensures))

@@ -1,0 +1,63 @@
+//! Which tuples are given already.
+ghost use Rattle.std.specs.Prelude.{◌≡◌, ◌++◌, ◌∷◌, [], ℕ, List, false, not, IfOk, IsTrue, OnErr};
+ghost use Rattle.gms_tuple.specs.TupleOrder.{IsOrdered};
+ghost use Rattle.gms_tuple.specs.TupleSet.{has};
+ghost use Rattle.gms_set.specs.Expansion.{tuples_of};
+ghost use Rattle.gms_set.specs.Seen.{AreSeen};
+
+use gms_tuple::{Tuple, TupleSet};
+use gq_extended::Ext;
+use std::alloc::{AllocError, Global};
+use std::cmp::Ordering;
+
+/// Whether a tuple is new among those that are given. It is seen from then on.
+///
+/// One that comes behind all others is new. From the first that does not on, the set of those that are seen is kept.
+pub fn see<F>(
+    alloc: Global,
+    seen: &mut Option<TupleSet>,
+    given: &[(Tuple, Option<Ext<F>>)],
+    tuple: &Tuple,
+) -> Result<bool, AllocError>
+    requires { AreSeen seen.old (tuples_of given.now) }
+    ensures new { IfOk result (λ new. new ≡ not (has (tuples_of given.now) tuple.now)) }
+    ensures more { IfOk result (λ new. IsTrue new → AreSeen seen.new (tuples_of given.now ++ tuple.now ∷ [])) }
+    ensures known { IfOk result (λ new. new ≡ false → AreSeen seen.new (tuples_of given.now)) }
+    ensures err { OnErr result (AreSeen seen.new (tuples_of given.now)) }
+{
+    if let Some(set) = seen {
+        let member = tuple.copy(alloc)?;
+        return set.insert(alloc, member);
+    }
+    if is_behind(given, tuple) {
+        return Ok(true);
+    }
+    let mut set = set_of(alloc, given)?;
+    let member = tuple.copy(alloc)?;
+    let new = set.insert(alloc, member)?;
+    *seen = Some(set);
+    Ok(new)
+}
+
+/// Whether a tuple comes behind the last of those that are given in order, and so behind all.
+fn is_behind<F>(given: &[(Tuple, Option<Ext<F>>)], tuple: &Tuple) -> bool
+    requires { IsOrdered (tuples_of given.now) }
+    ensures { IsTrue result → IsOrdered (tuples_of given.now ++ tuple.now ∷ []) }
+{
+    match given.last() {
+        Some((last, _)) => last.order(tuple) == Ordering::Less,
+        None => true,
+    }
+}
+
+/// The set of the tuples that are given.
+fn set_of<F>(alloc: Global, given: &[(Tuple, Option<Ext<F>>)]) -> Result<TupleSet, AllocError>
+    ensures { IfOk result (λ set. (tuple : List ℕ) → has set tuple ≡ has (tuples_of given.now) tuple) }
+{
+    let mut set = TupleSet::new(alloc);
+    for (tuple, _) in given {
+        let member = tuple.copy(alloc)?;
+        set.insert(alloc, member)?;
+    }
+    Ok(set)
+}
