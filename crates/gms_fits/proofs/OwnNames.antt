@@ -1,10 +1,15 @@
 -- What holds of the number of each text holds of the names that statements declare.
-use Rattle.std.proofs.Common.{ℕ, List, map}
+use Rattle.std.proofs.Common.{ℕ, Bool, List, [], Option, map}
 use Rattle.gq_number.specs.Number.{Number}
 use Rattle.gms_lex.specs.declared.token.Token.{Token}
 use Rattle.gms_ast.specs.declared.declaration.Decl.{Decl}
 use Rattle.gms_ast.specs.declared.declaration.ModelDecl.{ModelDecl}
-use Rattle.gms_ast.specs.StatementTrees.{Act, Target, Statements, no_statement, statement, followed_by}
+use Rattle.gms_ast.specs.declared.program.Setting.{Setting}
+use Rattle.gms_ast.specs.declared.program.Show.{Show}
+use Rattle.gms_ast.specs.declared.word.Named.{Named}
+use Rattle.gms_ast.specs.declared.word.Word.{Word}
+use Rattle.gms_ast.specs.StatementTrees.{Act, displays, sets_options, solves, aborts, Target, Statements, no_statement, statement, followed_by}
+use Rattle.gms_ast.specs.Trees as trees
 use Rattle.gms_grammar.specs.declared.terminal.Terminal.{Terminal}
 use Rattle.gms_grammar.specs.Grammar.{Tree, pair, left, right, none, some, more, node}
 use Rattle.gms_expressions.specs.ExpressionTrees.{first_in, second_in, inside, name_in}
@@ -19,6 +24,33 @@ Derivation = Tree (Terminal × Token)
 followed-hold : (P : ℕ → Type 0) (a b : Statements Number) → HoldsOfAll P a → HoldsOfAll P b → HoldsOfAll P (followed_by a b)
 followed-hold P no_statement b one other = other
 followed-hold P (statement at act rest) b one other = (one.0, followed-hold P rest b one.1 other)
+
+-- ---- acts that have no part of their own
+
+-- Something holds of what is shown, set, solved and aborted, whatever it is.
+pub record QuietHave (Q : Act Number → Type 0) : Type 0 where
+  pub shown : (list : List Show) → Q (displays list)
+  pub chosen : (settings : List (Word × Setting Number)) → Q (sets_options settings)
+  pub solved : (model : Named) (method : Word) (objective : Named) (most : Bool) → Q (solves model method objective most)
+  pub stopped : (condition : Option (trees.Tree Number)) (list : List Show) → Q (aborts condition list)
+
+module _ (source : List ℕ) (names labels : List (List ℕ)) (Q : Act Number → Type 0) (quiet : QuietHave Q) where
+  pub display-has : (tree : Derivation) → Q (display_act source names labels tree)
+  display-has (node (pair word list)) = quiet.shown _
+  display-has _ = quiet.shown []
+
+  pub option-has : (tree : Derivation) → Q (option_act source names labels tree)
+  option-has (node (pair word list)) = quiet.chosen _
+  option-has _ = quiet.shown []
+
+  pub solve-has : (tree : Derivation) → Q (solve_act source names labels tree)
+  solve-has (node (pair word (pair model (left (pair using (pair method objective)))))) = quiet.solved _ _ _ _
+  solve-has (node (pair word (pair model (right (pair direction (pair name method)))))) = quiet.solved _ _ _ _
+  solve-has _ = quiet.shown []
+
+  pub abort-has : (tree : Derivation) → Q (abort_act source names labels tree)
+  abort-has (node (pair word (pair condition list))) = quiet.stopped _ _
+  abort-has _ = quiet.shown []
 
 module _ (source : List ℕ) (names labels : List (List ℕ)) (P : ℕ → Type 0) (each : (tree : Derivation) → P (name_in source names labels tree)) where
   abbrev Own : Act Number → Type 0
@@ -94,22 +126,8 @@ module _ (source : List ℕ) (names labels : List (List ℕ)) (P : ℕ → Type 
   named-own (node (pair name (node (right (right tree))))) = head-own _ tree
   named-own _ = tt
 
-  display-own : (tree : Derivation) → Own (display_act source names labels tree)
-  display-own (node (pair word list)) = tt
-  display-own _ = tt
-
-  option-own : (tree : Derivation) → Own (option_act source names labels tree)
-  option-own (node (pair word list)) = tt
-  option-own _ = tt
-
-  solve-own : (tree : Derivation) → Own (solve_act source names labels tree)
-  solve-own (node (pair word (pair model (left (pair using (pair method objective)))))) = tt
-  solve-own (node (pair word (pair model (right (pair direction (pair name method)))))) = tt
-  solve-own _ = tt
-
-  abort-own : (tree : Derivation) → Own (abort_act source names labels tree)
-  abort-own (node (pair word (pair condition list))) = tt
-  abort-own _ = tt
+  quiet : QuietHave Own
+  quiet = record { shown = λ list. tt; chosen = λ settings. tt; solved = λ model method objective most. tt; stopped = λ condition list. tt }
 
   controlled-own : (tree : Derivation) → Own (controlled source names labels tree)
   controlled-own (pair sets (pair comma body)) = tt
@@ -120,10 +138,10 @@ module _ (source : List ℕ) (names labels : List (List ℕ)) (P : ℕ → Type 
   loop-own _ = tt
 
   other-own : (tree : Derivation) → Own (display_or_other source names labels tree)
-  other-own (left tree) = display-own tree
-  other-own (right (left tree)) = option-own tree
-  other-own (right (right (left tree))) = solve-own tree
-  other-own (right (right (right (left tree)))) = abort-own tree
+  other-own (left tree) = display-has source names labels Own quiet tree
+  other-own (right (left tree)) = option-has source names labels Own quiet tree
+  other-own (right (right (left tree))) = solve-has source names labels Own quiet tree
+  other-own (right (right (right (left tree)))) = abort-has source names labels Own quiet tree
   other-own (right (right (right (right tree)))) = loop-own tree
   other-own _ = tt
 

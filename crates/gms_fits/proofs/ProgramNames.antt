@@ -1,13 +1,13 @@
 -- What the statements of a program declare are names of its own table. Where that has no name, its derivation means the same by any table, also by one
 -- in which each part of the source stands behind another text. By that table no name has the number 0, and by its own each has: so it declares none.
-use Rattle.std.proofs.Common.{◌≡◌, ℕ, zero, suc, ◌-◌, ◌<◌, ◌≤◌, Bool, true, false, List, [], ◌∷◌, ◌++◌, length, map, take, drop, get_or, Option, Some, None, refl, sym, ap, ◌∙◌, subst, arith, ◌⊎◌, inl, inr}
-use Rattle.std.proofs.lemmas.List.{length-drop, length-map}
+use Rattle.std.proofs.Common.{◌≡◌, ℕ, zero, suc, ◌-◌, ◌<◌, ◌≤◌, Bool, true, false, List, [], ◌∷◌, ◌++◌, length, map, take, drop, get_or, Option, Some, None, refl, sym, ap, ◌∙◌, subst, arith, ◌⊎◌, inl, inr, length-append}
+use Rattle.std.specs.Prelude.{flat_map}
+use Rattle.std.proofs.lemmas.List.{length-map}
 use Rattle.std.proofs.lemmas.Slice.Eq.{bytes_eq-Decides}
 use Rattle.gq_number.specs.Number.{Number}
 use Rattle.gms_labels.specs.Labels.{folded, is_same, place_of}
 use Rattle.gms_labels.proofs.Places.{is_same_refl, place_of-reads, position_misses}
 use Rattle.gms_lex.specs.TokenTexts.{token_text}
-use Rattle.gms_lex.proofs.LineTextLemmas.{length-take_all}
 use Rattle.gms_ast.specs.StatementTrees.{Act, declares, aliases, declares_models, Statements, no_statement, statement}
 use Rattle.gms_grammar.specs.Grammar.{yield}
 use Rattle.gms_expressions.specs.ExpressionTrees.{name_in, or_0, token_of}
@@ -67,7 +67,7 @@ parts-have (b ∷ bytes) zero k = has-left (fronts (b ∷ bytes)) (parts bytes) 
 parts-have (b ∷ bytes) (suc i) k = has-right (fronts (b ∷ bytes)) (parts bytes) (take k (drop i bytes)) (parts-have bytes i k)
 
 -- where it stands among them
-pub has-at : (texts : List (List ℕ)) (text : List ℕ) → Has texts text → (k : ℕ) × (k < length texts) × (get_or texts k [] ≡ text)
+has-at : (texts : List (List ℕ)) (text : List ℕ) → Has texts text → (k : ℕ) × (k < length texts) × (get_or texts k [] ≡ text)
 has-at [] text h = absurd h
 has-at (first ∷ texts) text (inl e) = (0, omega arith, e)
 has-at (first ∷ texts) text (inr h) = let at = has-at texts text h in (suc at.0, omega (arith, at.1), at.2)
@@ -75,34 +75,50 @@ has-at (first ∷ texts) text (inr h) = let at = has-at texts text h in (suc at.
 -- ---- a table of them
 
 -- texts of one label are equally long
-pub same-long : (a b : List ℕ) → is_same a b ≡ true → length a ≡ length b
+same-long : (a b : List ℕ) → is_same a b ≡ true → length a ≡ length b
 same-long a b e =
     let long : length (folded a) ≡ length (folded b) = ap (λ (t : List ℕ). length t) ((bytes_eq-Decides (folded a) (folded b)).0 e) in
     sym (length-map a _) ∙ long ∙ length-map b _
 
+-- the texts behind one that is longer than each
+abbrev pub behind_longer : List (List ℕ) → List (List ℕ)
+behind_longer texts = (0 ∷ flat_map (λ (text : List ℕ). text) texts) ∷ texts
+
+not-longer : (texts : List (List ℕ)) (text : List ℕ) → Has texts text → length text ≤ length (flat_map (λ (text : List ℕ). text) texts)
+not-longer [] text there = absurd there
+not-longer (first ∷ texts) text (inl same) =
+    let long : length first ≡ length text = ap (λ (t : List ℕ). length t) same in
+    let all = length-append first (flat_map (λ (text : List ℕ). text) texts) in
+    omega (arith, long, all)
+not-longer (first ∷ texts) text (inr there) =
+    let few = not-longer texts text there in
+    let all = length-append first (flat_map (λ (text : List ℕ). text) texts) in
+    omega (arith, few, all)
+
+-- each of them has a place behind the first
+pub placed-behind : (texts : List (List ℕ)) (text : List ℕ) → Has texts text → (o : Option ℕ) → place_of (behind_longer texts) text ≡ o → 0 < or_0 o
+placed-behind texts text there None e =
+    let at = has-at texts text there in
+    let missed : is_same text (get_or (behind_longer texts) (suc at.0) []) ≡ false = position_misses (is_same text) (behind_longer texts) e (suc at.0) [] (omega (arith, at.1)) in
+    let found : is_same text (get_or texts at.0 []) ≡ true = subst (λ (t : List ℕ). is_same text t ≡ true) (sym at.2) (is_same_refl text) in
+    absurd (let z : ◌≡◌ {A = Bool} true false = sym found ∙ missed in cc)
+placed-behind texts text there (Some zero) e =
+    let long : length text ≡ length (0 ∷ flat_map (λ (text : List ℕ). text) texts) = same-long text (0 ∷ flat_map (λ (text : List ℕ). text) texts) (place_of-reads (behind_longer texts) text 0 e).1 in
+    let few = not-longer texts text there in
+    absurd (omega (arith, long, few))
+placed-behind texts text there (Some (suc n)) e = omega arith
+
 module _ (source : List ℕ) where
   -- the parts of a source behind a text that is none of them
   abbrev table : List (List ℕ)
-  table = (0 ∷ source) ∷ parts source
-
-  part-placed : (text : List ℕ) → Has (parts source) text → length text ≤ length source → (o : Option ℕ) → place_of table text ≡ o → 0 < or_0 o
-  part-placed text h few None e =
-      let at = has-at (parts source) text h in
-      let missed : is_same text (get_or table (suc at.0) []) ≡ false = position_misses (is_same text) table e (suc at.0) [] (omega (arith, at.1)) in
-      let found : is_same text (get_or (parts source) at.0 []) ≡ true = subst (λ (t : List ℕ). is_same text t ≡ true) (sym at.2) (is_same_refl text) in
-      absurd (let z : ◌≡◌ {A = Bool} true false = sym found ∙ missed in cc)
-  part-placed text h few (Some zero) e =
-      let long : length text ≡ length (0 ∷ source) = same-long text (0 ∷ source) (place_of-reads table text 0 e).1 in
-      absurd (omega (arith, long, few))
-  part-placed text h few (Some (suc n)) e = omega arith
+  table = behind_longer (parts source)
 
   -- each name that it gives has a number
   named : (labels : List (List ℕ)) (tree : Derivation) → 0 < name_in source table labels tree
   named labels tree =
       let token = token_of tree in
       let text : List ℕ = token_text source token in
-      let few : length text ≤ length source = omega (arith, length-take_all (token.end - token.start) (drop token.start source), length-drop token.start source) in
-      part-placed text (parts-have source token.start (token.end - token.start)) few (place_of table text) refl
+      placed-behind (parts source) text (parts-have source token.start (token.end - token.start)) (place_of table text) refl
 
 -- ---- programs
 

@@ -1,9 +1,10 @@
 -- The check that one token decides a grammar, computed over lists of the kinds that come first and that follow.
-use Rattle.std.proofs.Common.{◌≡◌, ℕ, zero, suc, ◌<◌, if◌then◌else◌, Bool, true, false, not, ◌||◌, ◌&&◌, List, [], ◌∷◌, ◌++◌, length, get_or, refl, sym, ap, ◌∙◌, arith}
+use Rattle.std.proofs.Common.{◌≡◌, ℕ, zero, suc, ◌<◌, if◌then◌else◌, Bool, true, false, not, ◌||◌, ◌&&◌, List, [], ◌∷◌, ◌++◌, length, get_or, refl, sym, ap, ◌∙◌, inl, inr, arith}
 use Rattle.std.specs.List.{list_any}
+use Rattle.std.proofs.lemmas.Bool.{cases_Bool, false≢true, not-true, or_cases}
 use Rattle.gms_grammar.specs.Grammar.{Part, one, the, ◌·◌, ◌∣◌, opt, many}
 use Rattle.gms_grammar.specs.LookAhead.{LookAhead, may_be_empty, may_begin, may_go_on, IsDecided, DecidesEach, ends_below, ranks_below}
-use Rattle.gms_grammar.proofs.Basics.{and_both}
+use Rattle.gms_grammar.proofs.Basics.{and_both, both_ways}
 
 -- each element passes the test
 abbrev pub every : {C : Type 0} → List C → (C → Bool) → Bool
@@ -20,10 +21,6 @@ is_alike true b h = sym h
 is_alike false true h = cc
 is_alike false false h = refl
 
-pub is_false : (a : Bool) → not a ≡ true → a ≡ false
-is_false true h = cc
-is_false false h = refl
-
 pub left_and : (a b : Bool) → (a && b) ≡ true → a ≡ true
 left_and true b h = refl
 left_and false b h = cc
@@ -39,11 +36,8 @@ every_at (x ∷ xs) test (suc k) d h l = every_at xs test k d (right_and (test x
 
 pub any_at : {C : Type 0} (xs : List C) (test : C → Bool) → list_any test xs ≡ true → (c : C) × (test c ≡ true)
 any_at [] test h = cc
-any_at (x ∷ xs) test h = go (any_at xs test) (test x) refl
-  where
-    go : (list_any test xs ≡ true → (c : _) × (test c ≡ true)) → (b : Bool) → test x ≡ b → (c : _) × (test c ≡ true)
-    go later true e = (x, e)
-    go later false e = later (ap (λ b. b || list_any test xs) (sym e) ∙ h)
+any_at (x ∷ xs) test h =
+    elim (cases_Bool (test x)) [ inl e ↦ (x, e) | inr e ↦ any_at xs test (ap (λ b. b || list_any test xs) (sym e) ∙ h) ]
 
 -- what holds of each element of a list holds of what passes the test
 abbrev pub Covers : {C : Type 0} → (C → Bool) → List C → Type 0
@@ -59,41 +53,28 @@ abbrev pub where_so : {C : Type 0} → Bool → List C → List C
 where_so true xs = xs
 where_so false xs = []
 
-implied : (a b : Bool) → (not a || b) ≡ true → a ≡ true → b ≡ true
+pub implied : (a b : Bool) → (not a || b) ≡ true → a ≡ true → b ≡ true
 implied true b h k = h
 implied false b h k = cc
 
-never : (a : Bool) → not a ≡ true → a ≡ true → ⊥
-never true h k = cc
-never false h k = cc
-
-unlike : false ≡ true → ⊥
-unlike h = cc
-
-either_way : (a b : Bool) → (a ≡ true → b ≡ true) → (b ≡ true → a ≡ true) → a ≡ b
+pub either_way : (a b : Bool) → (a ≡ true → b ≡ true) → (b ≡ true → a ≡ true) → a ≡ b
 either_way true b f g = sym (f refl)
 either_way false true f g = g refl
 either_way false false f g = refl
 
 module _ {C : Type 0} where
-  front_every : (xs ys : List C) (test : C → Bool) → every (xs ++ ys) test ≡ true → every xs test ≡ true
-  front_every [] ys test h = refl
-  front_every (x ∷ xs) ys test h = and_both _ _ (left_and _ _ h) (front_every xs ys test (right_and (test x) _ h))
-
-  rest_every : (xs ys : List C) (test : C → Bool) → every (xs ++ ys) test ≡ true → every ys test ≡ true
-  rest_every [] ys test h = h
-  rest_every (x ∷ xs) ys test h = rest_every xs ys test (right_and (test x) _ h)
+  every_parts : (xs ys : List C) (test : C → Bool) → every (xs ++ ys) test ≡ true → (every xs test ≡ true) × (every ys test ≡ true)
+  every_parts [] ys test h = (refl, h)
+  every_parts (x ∷ xs) ys test h = let k = every_parts xs ys test (right_and (test x) _ h) in (and_both _ _ (left_and _ _ h) k.0, k.1)
 
   pub covers_either : (f g : C → Bool) (xs ys : List C) → Covers f xs → Covers g ys → Covers (λ c. f c || g c) (xs ++ ys)
-  covers_either f g xs ys of_f of_g test h c k = split (f c) (g c) (of_f test (front_every xs ys test h) c) (of_g test (rest_every xs ys test h) c) k
-    where
-      split : (a b : Bool) → (a ≡ true → test c ≡ true) → (b ≡ true → test c ≡ true) → (a || b) ≡ true → test c ≡ true
-      split true b p q k = p refl
-      split false b p q k = q k
+  covers_either f g xs ys of_f of_g test h c k =
+      let parts = every_parts xs ys test h in
+      elim (or_cases (f c) (g c) k) [ inl a ↦ of_f test parts.0 c a | inr b ↦ of_g test parts.1 c b ]
 
   covers_where : (b : Bool) (g : C → Bool) (ys : List C) → Covers g ys → Covers (λ c. b && g c) (where_so b ys)
   covers_where true g ys of_g = of_g
-  covers_where false g ys of_g = λ test h c k. absurd (unlike k)
+  covers_where false g ys of_g = λ test h c k. absurd (false≢true k)
 
   passing_every : (test other : C → Bool) (xs : List C) → every (passing test xs) other ≡ true → every xs (λ c. not (test c) || other c) ≡ true
   passing_every test other [] h = refl
@@ -130,9 +111,9 @@ module _ {C N : Type 0} (kinds : List C) (production : N → Part C N) (ahead : 
   begins_right n = every (firsts_of (production n)) (ahead.first n) && every (firsts n) (may_begin ahead (production n))
 
   -- what is claimed of a nonterminal is so, and one token decides its production
-  abbrev pub is_right : N → Bool
-  is_right n =
-      begins_right n && (alike (may_be_empty ahead (production n)) (ahead.empty n) && (is_decided (production n) (follows n) && (ends_below ahead (ahead.depth n) (production n) && ranks_below ahead (ahead.rank n) (production n))))
+  abbrev pub IsRight : N → Type 0
+  IsRight n =
+      (begins_right n ≡ true) × (may_be_empty ahead (production n) ≡ ahead.empty n) × (is_decided (production n) (follows n) ≡ true) × (ends_below ahead (ahead.depth n) (production n) ≡ true) × (ranks_below ahead (ahead.rank n) (production n) ≡ true)
 
   module _ (all : (test : C → Bool) → every kinds test ≡ true → (c : C) → test c ≡ true) (of_firsts : (n : N) → Covers (ahead.first n) (firsts n)) (of_follows : (n : N) → Covers (ahead.follow n) (follows n)) where
     covers_first : (p : Part C N) → Covers (may_begin ahead p) (firsts_of p)
@@ -158,13 +139,13 @@ module _ {C N : Type 0} (kinds : List C) (production : N → Part C N) (ahead : 
         let h1 = right_and (not (may_be_empty ahead p)) _ h in
         let h2 = right_and (not (may_be_empty ahead q)) _ h1 in
         let h3 = right_and (every (firsts_of p) (λ c. not (may_begin ahead q c))) _ h2 in
-        (is_false _ (left_and _ _ h), is_false _ (left_and _ _ h1), λ c k l. never (may_begin ahead q c) (covers_first p (λ c. not (may_begin ahead q c)) (left_and _ _ h2) c k) l, decided_by p f after of_f (left_and _ _ h3), decided_by q f after of_f (right_and (is_decided p after) _ h3))
+        (not-true _ (left_and _ _ h), not-true _ (left_and _ _ h1), λ c k l. both_ways _ l (not-true _ (covers_first p (λ c. not (may_begin ahead q c)) (left_and _ _ h2) c k)), decided_by p f after of_f (left_and _ _ h3), decided_by q f after of_f (right_and (is_decided p after) _ h3))
     decided_by (opt p) f after of_f h =
         let h1 = right_and (not (may_be_empty ahead p)) _ h in
-        (is_false _ (left_and _ _ h), λ c k l. never (may_begin ahead p c) (of_f (λ c. not (may_begin ahead p c)) (left_and _ _ h1) c l) k, decided_by p f after of_f (right_and (every after (λ c. not (may_begin ahead p c))) _ h1))
+        (not-true _ (left_and _ _ h), λ c k l. both_ways _ k (not-true _ (of_f (λ c. not (may_begin ahead p c)) (left_and _ _ h1) c l)), decided_by p f after of_f (right_and (every after (λ c. not (may_begin ahead p c))) _ h1))
     decided_by (many p) f after of_f h =
         let h1 = right_and (not (may_be_empty ahead p)) _ h in
-        (is_false _ (left_and _ _ h), λ c k l. never (may_begin ahead p c) (of_f (λ c. not (may_begin ahead p c)) (left_and _ _ h1) c l) k, decided_by p (λ c. may_begin ahead p c || f c) _ (covers_either (may_begin ahead p) f (firsts_of p) after (covers_first p) of_f) (right_and (every after (λ c. not (may_begin ahead p c))) _ h1))
+        (not-true _ (left_and _ _ h), λ c k l. both_ways _ k (not-true _ (of_f (λ c. not (may_begin ahead p c)) (left_and _ _ h1) c l)), decided_by p (λ c. may_begin ahead p c || f c) _ (covers_either (may_begin ahead p) f (firsts_of p) after (covers_first p) of_f) (right_and (every after (λ c. not (may_begin ahead p c))) _ h1))
 
     begins_as : (n : N) → begins_right n ≡ true → (c : C) → may_begin ahead (production n) c ≡ ahead.first n c
     begins_as n h c =
@@ -173,21 +154,11 @@ module _ {C N : Type 0} (kinds : List C) (production : N → Part C N) (ahead : 
         (of_firsts n (may_begin ahead (production n)) (right_and (every (firsts_of (production n)) (ahead.first n)) _ h) c)
 
     -- where the check holds of each nonterminal, one token decides
-    pub decides_each : ((n : N) → is_right n ≡ true) → DecidesEach ahead production
-    decides_each check =
-        record {
-          first_is = λ n. begins_as n (left_and _ _ (check n));
-          empty_is = λ n. is_alike _ _ (left_and _ _ (second n));
-          decided = λ n. decided_by (production n) (ahead.follow n) (follows n) (of_follows n) (left_and _ _ (third n));
-          ends = λ n. left_and _ _ (fourth n);
-          descends = λ n. right_and (ends_below ahead (ahead.depth n) (production n)) _ (fourth n);
-        }
-      where
-        second : (n : N) → (alike (may_be_empty ahead (production n)) (ahead.empty n) && (is_decided (production n) (follows n) && (ends_below ahead (ahead.depth n) (production n) && ranks_below ahead (ahead.rank n) (production n)))) ≡ true
-        second n = right_and (begins_right n) _ (check n)
-
-        third : (n : N) → (is_decided (production n) (follows n) && (ends_below ahead (ahead.depth n) (production n) && ranks_below ahead (ahead.rank n) (production n))) ≡ true
-        third n = right_and (alike (may_be_empty ahead (production n)) (ahead.empty n)) _ (second n)
-
-        fourth : (n : N) → (ends_below ahead (ahead.depth n) (production n) && ranks_below ahead (ahead.rank n) (production n)) ≡ true
-        fourth n = right_and (is_decided (production n) (follows n)) _ (third n)
+    pub decides_each : ((n : N) → IsRight n) → DecidesEach ahead production
+    decides_each check = record {
+      first_is = λ n. begins_as n (check n).0;
+      empty_is = λ n. (check n).1;
+      decided = λ n. decided_by (production n) (ahead.follow n) (follows n) (of_follows n) (check n).2;
+      ends = λ n. (check n).3;
+      descends = λ n. (check n).4;
+    }

@@ -4,7 +4,7 @@ use Rattle.gms_grammar.specs.Grammar.{Part, one, the, ◌·◌, ◌∣◌, opt, 
 use Rattle.gms_grammar.specs.LookAhead.{LookAhead, may_begin, may_go_on, IsDecided, DecidesEach}
 use Rattle.gms_grammar.specs.Reading.{read, Reads, taken, entered, both, in_left, in_right, left_out, there, no_more, again}
 use Rattle.gms_grammar.proofs.Basics.{end_nil}
-use Rattle.gms_grammar.proofs.Starts.{Follows, starts, follows_part, follows_again, follows_more, led, not_led, not_led_behind}
+use Rattle.gms_grammar.proofs.Starts.{Follows, starts, follows_part, follows_more, led, not_led, not_led_behind}
 use Rattle.gms_grammar.proofs.Only.{only}
 
 module _ {C N D : Type 0} (production : N → Part C N) (ahead : LookAhead C N) (ok : DecidesEach ahead production) where
@@ -31,7 +31,7 @@ module _ {C N D : Type 0} (production : N → Part C N) (ahead : LookAhead C N) 
   complete (many p) (more a b) h after behind d f =
       subst (λ w. Reads production ahead (many p) w (read (more a b) behind)) (sym (append_assoc (yield a) (yield b) behind))
       (again (led production ahead ok p (yield a) (yield b ++ behind) (starts production ahead ok p a h.0) d.0)
-      (complete p a h.0 (λ c. may_begin ahead p c || after c) (yield b ++ behind) d.2 (follows_again production ahead ok p after (yield b) behind (starts production ahead ok (many p) b h.1) f))
+      (complete p a h.0 (λ c. may_begin ahead p c || after c) (yield b ++ behind) d.2 (follows_part production ahead ok (many p) after (yield b) behind (starts production ahead ok (many p) b h.1) f))
       (complete (many p) b h.1 after behind d f))
   complete _ _ h after behind d f = absurd h
 

@@ -11,15 +11,11 @@ use Rattle.gms_grammar.proofs.Language.{gams_stuck_stops, gams_stuck_none, gams_
 use Rattle.gms_grammar.proofs.Orders.{Order, at_once, earlier, later, order}
 use Rattle.gms_grammar.proofs.Rules.{ahead_append}
 
--- the kind of the first token, where others stand behind it
-pub ahead_more : {D : Type 0} (before : List (Terminal × D)) (token : Terminal × D) (behind : List (Terminal × D)) (ahead : Terminal) → kind_ahead (before ++ token ∷ behind) ahead ≡ kind_ahead before token.0
-ahead_more before token behind ahead = ahead_append before (token ∷ behind) ahead
-
 -- of sound tokens none is faulty
 pub sound_at : {D W E R : Type 0} (rule : Rule D W E R) (w : W) (before : List (Terminal × D)) (token : Terminal × D) (behind : List (Terminal × D)) (ahead : Terminal) (fault : E) → AreSound rule w (before ++ token ∷ behind) ahead → rule.Faulty (left_by rule.after w before token.0) token (kind_ahead behind ahead) fault → ⊥
 sound_at rule w [] token behind ahead fault sound faulty = sound.0 fault faulty
 sound_at rule w (x ∷ before) token behind ahead fault sound faulty =
-    let same : kind_ahead (before ++ token ∷ behind) ahead ≡ kind_ahead before token.0 = ahead_more before token behind ahead in
+    let same : kind_ahead (before ++ token ∷ behind) ahead ≡ kind_ahead before token.0 = ahead_append before (token ∷ behind) ahead in
     sound_at rule (rule.after w x (kind_ahead before token.0)) before token behind ahead fault
     (subst (λ (k : Terminal). AreSound rule (rule.after w x k) (before ++ token ∷ behind) ahead) same sound.1) faulty
 
@@ -35,7 +31,7 @@ module _ {K D W E R : Type 0} (rules : K → Rule D W E R) (key : K) where
     not_later w front ahead one other f g more e k =
         sound_at (rules key) w f.before f.token more g.token.0 one
         (subst (λ (us : List (Terminal × D)). AreSound (rules key) w us g.token.0) e g.are_sound)
-        (subst (λ (kind : Terminal). (rules key).Faulty (left_by (rules key).after w f.before f.token.0) f.token kind one) (ap (λ (us : List (Terminal × D)). kind_ahead us ahead) k ∙ ahead_more more g.token g.behind ahead) f.is_faulty)
+        (subst (λ (kind : Terminal). (rules key).Faulty (left_by (rules key).after w f.before f.token.0) f.token kind one) (ap (λ (us : List (Terminal × D)). kind_ahead us ahead) k ∙ ahead_append more (g.token ∷ g.behind) ahead) f.is_faulty)
 
     one_first_faulty : (w : W) (front : List (Terminal × D)) (ahead : Terminal) (one other : E) → IsFirstFaulty rules key w front ahead one → IsFirstFaulty rules key w front ahead other → one ≡ other
     one_first_faulty w front ahead one other f g = by (order f.before f.token f.behind g.before g.token g.behind (sym f.parts ∙ g.parts))

@@ -4,7 +4,7 @@ use Rattle.gms_grammar.specs.Grammar.{Part, one, the, ◌·◌, ◌∣◌, opt, 
 use Rattle.gms_grammar.specs.LookAhead.{LookAhead, may_be_empty, may_begin, may_go_on, Apart, IsDecided, DecidesEach}
 use Rattle.gms_grammar.specs.Reading.{Found, read, stuck, leads, Reads, taken, refused, entered, entered_stuck, both, first_stuck, second_stuck, in_left, in_left_stuck, in_right, in_right_stuck, in_neither, left_out, there, there_stuck, no_more, again, again_stuck, later_stuck}
 use Rattle.gms_grammar.proofs.Basics.{behind_same}
-use Rattle.gms_grammar.proofs.Starts.{Follows, Goes, goes_behind, starts, follows_part, follows_again, follows_more, begun, clash, unled, unfollowed}
+use Rattle.gms_grammar.proofs.Starts.{Follows, Goes, goes_behind, starts, follows_part, follows_more, begun, clash, unled, unfollowed}
 use Rattle.gms_grammar.proofs.Sound.{sound, took}
 
 module _ {C N D : Type 0} (production : N → Part C N) (ahead : LookAhead C N) (ok : DecidesEach ahead production) where
@@ -43,19 +43,28 @@ module _ {C N D : Type 0} (production : N → Part C N) (ahead : LookAhead C N) 
       h other behind further (record { is_tree = o.is_tree; follows = follows_more production ahead ok _ _ _ d o.follows; goes = o.goes; agrees = o.agrees })
   none_the n after front rest d h _ behind further o = o.is_tree
 
-  -- the first part of a sequence, where the tokens of the second go on
-  first_other : (p q : Part C N) (after : C → Bool) (a b c : Tree (C × D)) (between v rest behind further : List (C × D)) → between ≡ v ++ rest → IsTree production p b → IsTree production q c → Follows after behind → Goes rest further → (yield b ++ yield c) ++ behind ≡ (yield a ++ v) ++ further → Other p (may_go_on ahead q after) (yield a) between b (yield c ++ behind) (v ++ further)
-  first_other p q after a b c between v rest behind further e is_b is_c follows goes agrees =
+  -- the first of two parts, where the tokens of the second go on
+  first_other : (p : Part C N) (on : C → Bool) (a b c : Tree (C × D)) (between v rest behind further : List (C × D)) → between ≡ v ++ rest → IsTree production p b → Follows on (yield c ++ behind) → Goes rest further → (yield b ++ yield c) ++ behind ≡ (yield a ++ v) ++ further → Other p on (yield a) between b (yield c ++ behind) (v ++ further)
+  first_other p on a b c between v rest behind further e is_b follows goes agrees =
       record {
         is_tree = is_b;
-        follows = follows_part production ahead ok q after (yield c) behind (starts production ahead ok q c is_c) follows;
+        follows = follows;
         goes = subst (λ w. Goes w (v ++ further)) (sym e) (goes_behind v rest further goes);
         agrees = sym (append_assoc (yield b) (yield c) behind) ∙ agrees ∙ append_assoc (yield a) v further;
       }
 
+  -- the same where nothing else was read
+  first_alone : (p : Part C N) (on : C → Bool) (b c : Tree (C × D)) (front rest behind further : List (C × D)) → IsTree production p b → Follows on (yield c ++ behind) → Goes rest further → (yield b ++ yield c) ++ behind ≡ front ++ further → Other p on front rest b (yield c ++ behind) further
+  first_alone p on b c front rest behind further is_b follows goes agrees =
+      record { is_tree = is_b; follows = follows; goes = goes; agrees = sym (append_assoc (yield b) (yield c) behind) ∙ agrees }
+
+  -- a tree of the second part stands before tokens that may follow the first
+  on_second : (q : Part C N) (after : C → Bool) (c : Tree (C × D)) (behind : List (C × D)) → IsTree production q c → Follows after behind → Follows (may_go_on ahead q after) (yield c ++ behind)
+  on_second q after c behind is_c follows = follows_part production ahead ok q after (yield c) behind (starts production ahead ok q c is_c) follows
+
   only_both : (p q : Part C N) (after : C → Bool) (a b : Tree (C × D)) (between rest : List (C × D)) → between ≡ yield b ++ rest → Only p (may_go_on ahead q after) (read a between) → Only q after (read b rest) → Only (p · q) after (read (pair a b) rest)
   only_both p q after a b between rest e h k (pair c d) behind further o =
-      let same : c ≡ a = h c _ _ (first_other p q after a c d between (yield b) rest behind further e o.is_tree.0 o.is_tree.1 o.follows o.goes o.agrees) in
+      let same : c ≡ a = h c _ _ (first_other p _ a c d between (yield b) rest behind further e o.is_tree.0 (on_second q after d behind o.is_tree.1 o.follows) o.goes o.agrees) in
       ap₂ pair same
       (k d behind further
       (record { is_tree = o.is_tree.1; follows = o.follows; goes = o.goes; agrees = rest_agrees a c (yield d) (yield b) behind further same o.agrees }))
@@ -63,18 +72,12 @@ module _ {C N D : Type 0} (production : N → Part C N) (ahead : LookAhead C N) 
 
   none_first : (p q : Part C N) (after : C → Bool) (front rest : List (C × D)) → Only p (may_go_on ahead q after) (stuck front rest) → Only (p · q) after (stuck front rest)
   none_first p q after front rest h (pair c d) behind further o =
-      h c (yield d ++ behind) further
-      (record {
-        is_tree = o.is_tree.0;
-        follows = follows_part production ahead ok q after (yield d) behind (starts production ahead ok q d o.is_tree.1) o.follows;
-        goes = o.goes;
-        agrees = sym (append_assoc (yield c) (yield d) behind) ∙ o.agrees;
-      })
+      h c _ _ (first_alone p _ c d front rest behind further o.is_tree.0 (on_second q after d behind o.is_tree.1 o.follows) o.goes o.agrees)
   none_first p q after front rest h _ behind further o = o.is_tree
 
   none_second : (p q : Part C N) (after : C → Bool) (a : Tree (C × D)) (between front rest : List (C × D)) → between ≡ front ++ rest → Only p (may_go_on ahead q after) (read a between) → Only q after (stuck front rest) → Only (p · q) after (stuck (yield a ++ front) rest)
   none_second p q after a between front rest e h k (pair c d) behind further o =
-      let same : c ≡ a = h c _ _ (first_other p q after a c d between front rest behind further e o.is_tree.0 o.is_tree.1 o.follows o.goes o.agrees) in
+      let same : c ≡ a = h c _ _ (first_other p _ a c d between front rest behind further e o.is_tree.0 (on_second q after d behind o.is_tree.1 o.follows) o.goes o.agrees) in
       k d behind further
       (record { is_tree = o.is_tree.1; follows = o.follows; goes = o.goes; agrees = rest_agrees a c (yield d) front behind further same o.agrees })
   none_second p q after a between front rest e h k _ behind further o = o.is_tree
@@ -152,21 +155,11 @@ module _ {C N D : Type 0} (production : N → Part C N) (ahead : LookAhead C N) 
       (absent p tokens a (yield b ++ behind) further d.0 h o.is_tree.0 o.goes (sym (append_assoc (yield a) (yield b) behind) ∙ o.agrees))
   only_no_more p after tokens h d _ behind further o = absurd o.is_tree
 
-  -- the first of a repetition, where the tokens of the others go on
-  again_other : (p : Part C N) (after : C → Bool) (a b c : Tree (C × D)) (between v rest behind further : List (C × D)) → between ≡ v ++ rest → IsTree production p b → IsTree production (many p) c → Follows after behind → Goes rest further → (yield b ++ yield c) ++ behind ≡ (yield a ++ v) ++ further → Other p (λ k. may_begin ahead p k || after k) (yield a) between b (yield c ++ behind) (v ++ further)
-  again_other p after a b c between v rest behind further e is_b is_c follows goes agrees =
-      record {
-        is_tree = is_b;
-        follows = follows_again production ahead ok p after (yield c) behind (starts production ahead ok (many p) c is_c) follows;
-        goes = subst (λ w. Goes w (v ++ further)) (sym e) (goes_behind v rest further goes);
-        agrees = sym (append_assoc (yield b) (yield c) behind) ∙ agrees ∙ append_assoc (yield a) v further;
-      }
-
   only_again : (p : Part C N) (after : C → Bool) (tokens between rest : List (C × D)) (a b : Tree (C × D)) → tokens ≡ yield a ++ between → between ≡ yield b ++ rest → leads production ahead p tokens ≡ true → (yield a ≡ [] → leads production ahead p tokens ≡ false) → IsDecided ahead (many p) after → Only p (λ c. may_begin ahead p c || after c) (read a between) → Only (many p) after (read b rest) → Only (many p) after (read (more a b) rest)
   only_again p after tokens between rest a b e f h t d k l none behind further o =
       absurd (not_none p after tokens (yield a) between behind (yield b ++ further) e h t d.1 o.follows (o.agrees ∙ append_assoc (yield a) (yield b) further))
   only_again p after tokens between rest a b e f h t d k l (more c u) behind further o =
-      let same : c ≡ a = k c _ _ (again_other p after a c u between (yield b) rest behind further f o.is_tree.0 o.is_tree.1 o.follows o.goes o.agrees) in
+      let same : c ≡ a = k c _ _ (first_other p _ a c u between (yield b) rest behind further f o.is_tree.0 (on_second (many p) after u behind o.is_tree.1 o.follows) o.goes o.agrees) in
       ap₂ more same
       (l u behind further
       (record { is_tree = o.is_tree.1; follows = o.follows; goes = o.goes; agrees = rest_agrees a c (yield u) (yield b) behind further same o.agrees }))
@@ -175,20 +168,14 @@ module _ {C N D : Type 0} (production : N → Part C N) (ahead : LookAhead C N) 
   none_again : (p : Part C N) (after : C → Bool) (tokens front rest : List (C × D)) → tokens ≡ front ++ rest → leads production ahead p tokens ≡ true → (front ≡ [] → leads production ahead p tokens ≡ false) → IsDecided ahead (many p) after → Only p (λ c. may_begin ahead p c || after c) (stuck front rest) → Only (many p) after (stuck front rest)
   none_again p after tokens front rest e h t d k none behind further o = not_none p after tokens front rest behind further e h t d.1 o.follows o.agrees
   none_again p after tokens front rest e h t d k (more c u) behind further o =
-      k c (yield u ++ behind) further
-      (record {
-        is_tree = o.is_tree.0;
-        follows = follows_again production ahead ok p after (yield u) behind (starts production ahead ok (many p) u o.is_tree.1) o.follows;
-        goes = o.goes;
-        agrees = sym (append_assoc (yield c) (yield u) behind) ∙ o.agrees;
-      })
+      k c _ _ (first_alone p _ c u front rest behind further o.is_tree.0 (on_second (many p) after u behind o.is_tree.1 o.follows) o.goes o.agrees)
   none_again p after tokens front rest e h t d k _ behind further o = o.is_tree
 
   none_later : (p : Part C N) (after : C → Bool) (tokens between front rest : List (C × D)) (a : Tree (C × D)) → tokens ≡ yield a ++ between → between ≡ front ++ rest → leads production ahead p tokens ≡ true → (yield a ≡ [] → leads production ahead p tokens ≡ false) → IsDecided ahead (many p) after → Only p (λ c. may_begin ahead p c || after c) (read a between) → Only (many p) after (stuck front rest) → Only (many p) after (stuck (yield a ++ front) rest)
   none_later p after tokens between front rest a e f h t d k l none behind further o =
       not_none p after tokens (yield a) between behind (front ++ further) e h t d.1 o.follows (o.agrees ∙ append_assoc (yield a) front further)
   none_later p after tokens between front rest a e f h t d k l (more c u) behind further o =
-      let same : c ≡ a = k c _ _ (again_other p after a c u between front rest behind further f o.is_tree.0 o.is_tree.1 o.follows o.goes o.agrees) in
+      let same : c ≡ a = k c _ _ (first_other p _ a c u between front rest behind further f o.is_tree.0 (on_second (many p) after u behind o.is_tree.1 o.follows) o.goes o.agrees) in
       l u behind further
       (record { is_tree = o.is_tree.1; follows = o.follows; goes = o.goes; agrees = rest_agrees a c (yield u) front behind further same o.agrees })
   none_later p after tokens between front rest a e f h t d k l _ behind further o = o.is_tree

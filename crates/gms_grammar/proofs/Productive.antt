@@ -1,65 +1,16 @@
 -- Each part has a tree, and what a reader finds is as much as begins a list that the part derives.
-use Rattle.std.proofs.Common.{◌≡◌, ◌⊎◌, inl, inr, ℕ, zero, suc, ◌<◌, Bool, true, false, ◌||◌, ◌&&◌, List, [], ◌∷◌, ◌++◌, refl, sym, ap, ◌∙◌, append_assoc, arith, ltb-true}
+use Rattle.std.proofs.Common.{◌≡◌, inl, inr, ℕ, zero, suc, ◌<◌, Bool, true, ◌||◌, List, [], ◌∷◌, ◌++◌, refl, sym, ap, ◌∙◌, append_assoc, arith, ltb-true}
 use Rattle.std.specs.Prelude.{⊤}
+use Rattle.std.proofs.lemmas.Bool.{or_cases}
 use Rattle.gms_grammar.specs.Grammar.{Part, one, the, ◌·◌, ◌∣◌, opt, many, Tree, leaf, pair, left, right, none, some, more, node, yield, IsTree, Derives, IsUnexpected, Stops}
 use Rattle.gms_grammar.specs.LookAhead.{LookAhead, may_begin, may_go_on, IsDecided, DecidesEach, ends_below}
 use Rattle.gms_grammar.specs.Reading.{Found, read, stuck, Reads, taken, refused, entered, entered_stuck, both, first_stuck, second_stuck, in_left, in_left_stuck, in_right, in_right_stuck, in_neither, left_out, there, there_stuck, no_more, again, again_stuck, later_stuck, Takes, takes_one, takes_the, takes_first, takes_second, takes_left, takes_right, takes_opt, takes_many, takes_later}
 use Rattle.gms_grammar.proofs.Basics.{end_nil, not_longer, regrouped}
 use Rattle.gms_grammar.proofs.Sound.{sound}
+use Rattle.gms_grammar.proofs.Checks.{left_and, right_and}
 use Rattle.gms_grammar.proofs.Only.{only}
 
 module _ {C N D : Type 0} (production : N → Part C N) (ahead : LookAhead C N) (ok : DecidesEach ahead production) (known : D) where
-  -- A part has a tree.
-  pub record HasTree (part : Part C N) : Type 0 where
-    pub tree : Tree (C × D)
-    pub is_tree : IsTree production part tree
-
-  left_or_right : (a b : Bool) → (a || b) ≡ true → (a ≡ true) ⊎ (b ≡ true)
-  left_or_right true b h = inl refl
-  left_or_right false b h = inr h
-
-  both_true : (a b : Bool) → (a && b) ≡ true → (a ≡ true) × (b ≡ true)
-  both_true true b h = (refl, h)
-  both_true false b h = cc
-
-  -- a part has a tree where the nonterminals below a bound have one
-  tree_within : (bound : ℕ) → ((n : N) → ahead.depth n < bound → HasTree (the n)) → (part : Part C N) (after : C → Bool) → IsDecided ahead part after → ends_below ahead bound part ≡ true → HasTree part
-  tree_within bound below (one test) after d h = record { tree = leaf (d.0, known); is_tree = d.1 }
-  tree_within bound below (the n) after d h = below n (ltb-true (ahead.depth n) bound h)
-  tree_within bound below (p · q) after d h =
-      let k = both_true (ends_below ahead bound p) (ends_below ahead bound q) h in
-      let a = tree_within bound below p _ d.0 k.0 in
-      let b = tree_within bound below q after d.1 k.1 in
-      record { tree = pair a.tree b.tree; is_tree = (a.is_tree, b.is_tree) }
-  tree_within bound below (p ∣ q) after d h =
-      let of_left : HasTree p → HasTree (p ∣ q) = λ a. record { tree = left a.tree; is_tree = a.is_tree } in
-      let of_right : HasTree q → HasTree (p ∣ q) = λ b. record { tree = right b.tree; is_tree = b.is_tree } in
-      let first : ends_below ahead bound p ≡ true → HasTree p = tree_within bound below p after d.3 in
-      let second : ends_below ahead bound q ≡ true → HasTree q = tree_within bound below q after d.4 in
-      elim (left_or_right (ends_below ahead bound p) (ends_below ahead bound q) h) [ inl k ↦ of_left (first k) | inr k ↦ of_right (second k) ]
-  tree_within bound below (opt p) after d h = record { tree = none; is_tree = tt }
-  tree_within bound below (many p) after d h = record { tree = none; is_tree = tt }
-
-  tree_below : (bound : ℕ) (n : N) → ahead.depth n < bound → HasTree (the n)
-  tree_below zero n h = absurd (omega arith)
-  tree_below (suc bound) n h =
-      let inner : HasTree (production n) = tree_within (ahead.depth n) (λ m k. tree_below bound m (omega arith)) (production n) (ahead.follow n) (ok.decided n) (ok.ends n) in
-      record { tree = node inner.tree; is_tree = inner.is_tree }
-
-  -- each part has a tree
-  pub has_tree : (part : Part C N) (after : C → Bool) → IsDecided ahead part after → HasTree part
-  has_tree (one test) after d = record { tree = leaf (d.0, known); is_tree = d.1 }
-  has_tree (the n) after d = tree_below (suc (ahead.depth n)) n (omega arith)
-  has_tree (p · q) after d =
-      let a = has_tree p _ d.0 in
-      let b = has_tree q after d.1 in
-      record { tree = pair a.tree b.tree; is_tree = (a.is_tree, b.is_tree) }
-  has_tree (p ∣ q) after d =
-      let a = has_tree p after d.3 in
-      record { tree = left a.tree; is_tree = a.is_tree }
-  has_tree (opt p) after d = record { tree = none; is_tree = tt }
-  has_tree (many p) after d = record { tree = none; is_tree = tt }
-
   -- A tree of the part goes on from these tokens.
   pub record GoesOn (part : Part C N) (front : List (C × D)) : Type 0 where
     pub tree : Tree (C × D)
@@ -67,123 +18,112 @@ module _ {C N D : Type 0} (production : N → Part C N) (ahead : LookAhead C N) 
     pub further : List (C × D)
     pub yields : yield tree ≡ front ++ further
 
-  abbrev pub Promises : Part C N → Found (C × D) → Type 0
+  -- a tree goes on from no tokens
+  from : {part : Part C N} (tree : Tree (C × D)) → IsTree production part tree → GoesOn part []
+  from tree h = record { tree = tree; is_tree = h; further = yield tree; yields = refl }
+
+  -- what goes on within a part goes on within a larger one
+  on_node : {n : N} {front : List (C × D)} → GoesOn (production n) front → GoesOn (the n) front
+  on_node t = record { tree = node t.tree; is_tree = t.is_tree; further = t.further; yields = t.yields }
+
+  on_left : {p q : Part C N} {front : List (C × D)} → GoesOn p front → GoesOn (p ∣ q) front
+  on_left t = record { tree = left t.tree; is_tree = t.is_tree; further = t.further; yields = t.yields }
+
+  on_right : {p q : Part C N} {front : List (C × D)} → GoesOn q front → GoesOn (p ∣ q) front
+  on_right t = record { tree = right t.tree; is_tree = t.is_tree; further = t.further; yields = t.yields }
+
+  on_some : {p : Part C N} {front : List (C × D)} → GoesOn p front → GoesOn (opt p) front
+  on_some t = record { tree = some t.tree; is_tree = t.is_tree; further = t.further; yields = t.yields }
+
+  on_more : {p : Part C N} {front : List (C × D)} → GoesOn p front → GoesOn (many p) front
+  on_more t = record { tree = more t.tree none; is_tree = (t.is_tree, tt); further = t.further; yields = end_nil (yield t.tree) ∙ t.yields }
+
+  on_first : {p q : Part C N} {front : List (C × D)} → GoesOn p front → GoesOn q [] → GoesOn (p · q) front
+  on_first {front = front} t u = record {
+    tree = pair t.tree u.tree;
+    is_tree = (t.is_tree, u.is_tree);
+    further = t.further ++ yield u.tree;
+    yields = ap (λ w. w ++ yield u.tree) t.yields ∙ append_assoc front t.further (yield u.tree);
+  }
+
+  behind : (a : Tree (C × D)) (b front further : List (C × D)) → b ≡ front ++ further → yield a ++ b ≡ (yield a ++ front) ++ further
+  behind a b front further e = ap (λ w. yield a ++ w) e ∙ sym (append_assoc (yield a) front further)
+
+  on_second : {p q : Part C N} (a : Tree (C × D)) {front : List (C × D)} → IsTree production p a → GoesOn q front → GoesOn (p · q) (yield a ++ front)
+  on_second a h u = record { tree = pair a u.tree; is_tree = (h, u.is_tree); further = u.further; yields = behind a _ _ _ u.yields }
+
+  on_later : {p : Part C N} (a : Tree (C × D)) {front : List (C × D)} → IsTree production p a → GoesOn (many p) front → GoesOn (many p) (yield a ++ front)
+  on_later a h u = record { tree = more a u.tree; is_tree = (h, u.is_tree); further = u.further; yields = behind a _ _ _ u.yields }
+
+  -- a part has a tree where the nonterminals below a bound have one
+  tree_within : (bound : ℕ) → ((n : N) → ahead.depth n < bound → GoesOn (the n) []) → (part : Part C N) (after : C → Bool) → IsDecided ahead part after → ends_below ahead bound part ≡ true → GoesOn part []
+  tree_within bound below (one test) after d h = from (leaf (d.0, known)) d.1
+  tree_within bound below (the n) after d h = below n (ltb-true (ahead.depth n) bound h)
+  tree_within bound below (p · q) after d h =
+      on_first (tree_within bound below p _ d.0 (left_and _ _ h)) (tree_within bound below q after d.1 (right_and (ends_below ahead bound p) _ h))
+  tree_within bound below (p ∣ q) after d h =
+      let first : ends_below ahead bound p ≡ true → GoesOn p [] = tree_within bound below p after d.3 in
+      let second : ends_below ahead bound q ≡ true → GoesOn q [] = tree_within bound below q after d.4 in
+      elim (or_cases (ends_below ahead bound p) (ends_below ahead bound q) h) [ inl k ↦ on_left (first k) | inr k ↦ on_right (second k) ]
+  tree_within bound below (opt p) after d h = from none tt
+  tree_within bound below (many p) after d h = from none tt
+
+  tree_below : (bound : ℕ) (n : N) → ahead.depth n < bound → GoesOn (the n) []
+  tree_below zero n h = absurd (omega arith)
+  tree_below (suc bound) n h =
+      on_node (tree_within (ahead.depth n) (λ m k. tree_below bound m (omega arith)) (production n) (ahead.follow n) (ok.decided n) (ok.ends n))
+
+  -- each part has a tree
+  has_tree : (part : Part C N) (after : C → Bool) → IsDecided ahead part after → GoesOn part []
+  has_tree (one test) after d = from (leaf (d.0, known)) d.1
+  has_tree (the n) after d = tree_below (suc (ahead.depth n)) n (omega arith)
+  has_tree (p · q) after d = on_first (has_tree p _ d.0) (has_tree q after d.1)
+  has_tree (p ∣ q) after d = on_left (has_tree p after d.3)
+  has_tree (opt p) after d = from none tt
+  has_tree (many p) after d = from none tt
+
+  abbrev Promises : Part C N → Found (C × D) → Type 0
   Promises part (read tree rest) = ⊤
   Promises part (stuck front rest) = GoesOn part front
 
-  pub promises : {part : Part C N} {tokens : List (C × D)} {found : Found (C × D)} → Reads production ahead part tokens found → (after : C → Bool) → IsDecided ahead part after → Promises part found
+  promises : {part : Part C N} {tokens : List (C × D)} {found : Found (C × D)} → Reads production ahead part tokens found → (after : C → Bool) → IsDecided ahead part after → Promises part found
   promises (taken h) after d = tt
-  promises (refused {test = test} h) after d =
-      let t = has_tree (one test) after d in
-      record { tree = t.tree; is_tree = t.is_tree; further = yield t.tree; yields = refl }
+  promises (refused {test = test} h) after d = has_tree (one test) after d
   promises (entered r) after d = tt
-  promises (entered_stuck {n = n} r) after d =
-      let t = promises r (ahead.follow n) (ok.decided n) in
-      record { tree = node t.tree; is_tree = t.is_tree; further = t.further; yields = t.yields }
+  promises (entered_stuck {n = n} r) after d = on_node (promises r (ahead.follow n) (ok.decided n))
   promises (both r s) after d = tt
-  promises (first_stuck {p = p} {q = q} {front = front} r) after d =
-      let t = promises r (may_go_on ahead q after) d.0 in
-      let u = has_tree q after d.1 in
-      record {
-        tree = pair t.tree u.tree;
-        is_tree = (t.is_tree, u.is_tree);
-        further = t.further ++ yield u.tree;
-        yields = ap (λ w. w ++ yield u.tree) t.yields ∙ append_assoc front t.further (yield u.tree);
-      }
-  promises (second_stuck {p = p} {q = q} {front = front} {a = a} r s) after d =
-      let u = promises s after d.1 in
-      record {
-        tree = pair a u.tree;
-        is_tree = ((sound production ahead r).0, u.is_tree);
-        further = u.further;
-        yields = ap (λ w. yield a ++ w) u.yields ∙ sym (append_assoc (yield a) front u.further);
-      }
+  promises (first_stuck {q = q} r) after d = on_first (promises r (may_go_on ahead q after) d.0) (has_tree q after d.1)
+  promises (second_stuck {a = a} r s) after d = on_second a (sound production ahead r).0 (promises s after d.1)
   promises (in_left h r) after d = tt
-  promises (in_left_stuck h r) after d =
-      let t = promises r after d.3 in
-      record { tree = left t.tree; is_tree = t.is_tree; further = t.further; yields = t.yields }
+  promises (in_left_stuck h r) after d = on_left (promises r after d.3)
   promises (in_right h k r) after d = tt
-  promises (in_right_stuck h k r) after d =
-      let t = promises r after d.4 in
-      record { tree = right t.tree; is_tree = t.is_tree; further = t.further; yields = t.yields }
-  promises (in_neither {p = p} h k) after d =
-      let t = has_tree p after d.3 in
-      record { tree = left t.tree; is_tree = t.is_tree; further = yield t.tree; yields = refl }
+  promises (in_right_stuck h k r) after d = on_right (promises r after d.4)
+  promises (in_neither {p = p} h k) after d = on_left (has_tree p after d.3)
   promises (left_out h) after d = tt
   promises (there h r) after d = tt
-  promises (there_stuck h r) after d =
-      let t = promises r after d.2 in
-      record { tree = some t.tree; is_tree = t.is_tree; further = t.further; yields = t.yields }
+  promises (there_stuck h r) after d = on_some (promises r after d.2)
   promises (no_more h) after d = tt
   promises (again h r s) after d = tt
-  promises (again_stuck {p = p} {front = front} h r) after d =
-      let t = promises r (λ c. may_begin ahead p c || after c) d.2 in
-      record {
-        tree = more t.tree none;
-        is_tree = (t.is_tree, tt);
-        further = t.further;
-        yields = end_nil (yield t.tree) ∙ t.yields;
-      }
-  promises (later_stuck {p = p} {front = front} {a = a} h r s) after d =
-      let u = promises s after d in
-      record {
-        tree = more a u.tree;
-        is_tree = ((sound production ahead r).0, u.is_tree);
-        further = u.further;
-        yields = ap (λ w. yield a ++ w) u.yields ∙ sym (append_assoc (yield a) front u.further);
-      }
+  promises (again_stuck {p = p} h r) after d = on_more (promises r (λ c. may_begin ahead p c || after c) d.2)
+  promises (later_stuck {a = a} h r s) after d = on_later a (sound production ahead r).0 (promises s after d)
 
   -- what a reader goes over begins a list that the part derives
   pub takes_on : {part : Part C N} {tokens front rest : List (C × D)} → Takes production ahead part tokens front rest → (after : C → Bool) → IsDecided ahead part after → (tokens ≡ front ++ rest) × GoesOn part front
   takes_on (takes_one {token = token} h) after d = (refl, record { tree = leaf token; is_tree = h; further = []; yields = refl })
-  takes_on (takes_the {n = n} r) after d =
-      let t = takes_on r (ahead.follow n) (ok.decided n) in
-      (t.0, record { tree = node t.1.tree; is_tree = t.1.is_tree; further = t.1.further; yields = t.1.yields })
-  takes_on (takes_first {p = p} {q = q} {front = front} r) after d =
-      let t = takes_on r (may_go_on ahead q after) d.0 in
-      let u = has_tree q after d.1 in (
-        t.0,
-        record {
-          tree = pair t.1.tree u.tree;
-          is_tree = (t.1.is_tree, u.is_tree);
-          further = t.1.further ++ yield u.tree;
-          yields = ap (λ w. w ++ yield u.tree) t.1.yields ∙ append_assoc front t.1.further (yield u.tree);
-        },
-      )
-  takes_on (takes_second {p = p} {q = q} {front = front} {a = a} r s) after d =
+  takes_on (takes_the {n = n} r) after d = let t = takes_on r (ahead.follow n) (ok.decided n) in (t.0, on_node t.1)
+  takes_on (takes_first {q = q} r) after d = let t = takes_on r (may_go_on ahead q after) d.0 in (t.0, on_first t.1 (has_tree q after d.1))
+  takes_on (takes_second {a = a} r s) after d =
       let u = takes_on s after d.1 in
-      let v = sound production ahead r in (
-        regrouped _ _ _ _ _ v.1 u.0,
-        record {
-          tree = pair a u.1.tree;
-          is_tree = (v.0, u.1.is_tree);
-          further = u.1.further;
-          yields = ap (λ w. yield a ++ w) u.1.yields ∙ sym (append_assoc (yield a) front u.1.further);
-        },
-      )
-  takes_on (takes_left r) after d =
-      let t = takes_on r after d.3 in
-      (t.0, record { tree = left t.1.tree; is_tree = t.1.is_tree; further = t.1.further; yields = t.1.yields })
-  takes_on (takes_right r) after d =
-      let t = takes_on r after d.4 in
-      (t.0, record { tree = right t.1.tree; is_tree = t.1.is_tree; further = t.1.further; yields = t.1.yields })
-  takes_on (takes_opt r) after d =
-      let t = takes_on r after d.2 in
-      (t.0, record { tree = some t.1.tree; is_tree = t.1.is_tree; further = t.1.further; yields = t.1.yields })
-  takes_on (takes_many {p = p} r) after d =
-      let t = takes_on r (λ c. may_begin ahead p c || after c) d.2 in
-      (t.0, record { tree = more t.1.tree none; is_tree = (t.1.is_tree, tt); further = t.1.further; yields = end_nil (yield t.1.tree) ∙ t.1.yields })
-  takes_on (takes_later {p = p} {front = front} {a = a} r s) after d =
+      let v = sound production ahead r in
+      (regrouped _ _ _ _ _ v.1 u.0, on_second a v.0 u.1)
+  takes_on (takes_left r) after d = let t = takes_on r after d.3 in (t.0, on_left t.1)
+  takes_on (takes_right r) after d = let t = takes_on r after d.4 in (t.0, on_right t.1)
+  takes_on (takes_opt r) after d = let t = takes_on r after d.2 in (t.0, on_some t.1)
+  takes_on (takes_many {p = p} r) after d = let t = takes_on r (λ c. may_begin ahead p c || after c) d.2 in (t.0, on_more t.1)
+  takes_on (takes_later {a = a} r s) after d =
       let u = takes_on s after d in
-      let v = sound production ahead r in (
-        regrouped _ _ _ _ _ v.1 u.0,
-        record {
-          tree = more a u.1.tree;
-          is_tree = (v.0, u.1.is_tree);
-          further = u.1.further;
-          yields = ap (λ w. yield a ++ w) u.1.yields ∙ sym (append_assoc (yield a) front u.1.further);
-        },
-      )
+      let v = sound production ahead r in
+      (regrouped _ _ _ _ _ v.1 u.0, on_later a v.0 u.1)
 
   -- where a tree is read, its tokens are as many as begin a list that the part derives
   pub read_stops : (part : Part C N) (after : C → Bool) (tokens : List (C × D)) (tree : Tree (C × D)) (rest : List (C × D)) → IsDecided ahead part after → Reads production ahead part tokens (read tree rest) → Stops production part tokens (yield tree) rest

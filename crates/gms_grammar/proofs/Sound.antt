@@ -1,7 +1,7 @@
 -- What a reader finds is so: the tree is one of the part, and the tokens are those of the tree or of the front, and the rest.
 use Rattle.std.proofs.Common.{◌≡◌, Bool, false, List, [], ◌∷◌, ◌++◌, refl, sym, ap, ◌∙◌}
 use Rattle.gms_grammar.specs.Grammar.{Part, the, ◌·◌, ◌∣◌, opt, many, yield, IsTree}
-use Rattle.gms_grammar.specs.LookAhead.{LookAhead, may_be_empty, IsDecided, DecidesEach}
+use Rattle.gms_grammar.specs.LookAhead.{LookAhead, may_be_empty, may_begin, IsDecided, DecidesEach}
 use Rattle.gms_grammar.specs.Reading.{Found, read, stuck, leads, Reads, taken, refused, entered, entered_stuck, both, first_stuck, second_stuck, in_left, in_left_stuck, in_right, in_right_stuck, in_neither, left_out, there, there_stuck, no_more, again, again_stuck, later_stuck}
 use Rattle.gms_grammar.proofs.Basics.{or_both, and_first, and_second, both_ways, first_empty, second_empty, regrouped}
 
@@ -32,13 +32,10 @@ module _ {C N D : Type 0} (production : N → Part C N) (ahead : LookAhead C N) 
   sound (again_stuck h r) = sound r
   sound (later_stuck h r s) = regrouped _ _ _ _ _ (sound r).1 (sound s)
 
-  leads_opt : (p : Part C N) (tokens : List (C × D)) → leads production ahead p tokens ≡ false → leads production ahead (opt p) tokens ≡ false
-  leads_opt p [] h = refl
-  leads_opt p (x ∷ tokens) h = h
-
-  leads_many : (p : Part C N) (tokens : List (C × D)) → leads production ahead p tokens ≡ false → leads production ahead (many p) tokens ≡ false
-  leads_many p [] h = refl
-  leads_many p (x ∷ tokens) h = h
+  -- the tokens do not lead into a part that begins as another into which they do not lead
+  leads_as : (p q : Part C N) (tokens : List (C × D)) → ((c : C) → may_begin ahead q c ≡ may_begin ahead p c) → leads production ahead p tokens ≡ false → leads production ahead q tokens ≡ false
+  leads_as p q [] same h = refl
+  leads_as p q (x ∷ tokens) same h = same x.0 ∙ h
 
   leads_either : (p q : Part C N) (tokens : List (C × D)) → leads production ahead p tokens ≡ false → leads production ahead q tokens ≡ false → leads production ahead (p ∣ q) tokens ≡ false
   leads_either p q [] h k = refl
@@ -53,10 +50,6 @@ module _ {C N D : Type 0} (production : N → Part C N) (ahead : LookAhead C N) 
   leads_first p q (x ∷ tokens) h k = or_both _ _ h (and_first _ _ k)
 
 module _ {C N D : Type 0} (production : N → Part C N) (ahead : LookAhead C N) (ok : DecidesEach ahead production) where
-  leads_the : (n : N) (tokens : List (C × D)) → leads production ahead (production n) tokens ≡ false → leads production ahead (the n) tokens ≡ false
-  leads_the n [] h = refl
-  leads_the n (x ∷ tokens) h = sym (ok.first_is n x.0) ∙ h
-
   -- where nothing is taken, the first token does not lead into the part
   abbrev pub Took : Part C N → List (C × D) → Found (C × D) → Type 0
   Took part tokens (read tree rest) = yield tree ≡ [] → leads production ahead part tokens ≡ false
@@ -65,8 +58,8 @@ module _ {C N D : Type 0} (production : N → Part C N) (ahead : LookAhead C N) 
   pub took : {part : Part C N} {tokens : List (C × D)} {found : Found (C × D)} → Reads production ahead part tokens found → (after : C → Bool) → IsDecided ahead part after → Took part tokens found
   took (taken h) after d = λ e. cc
   took (refused h) after d = λ e. (h, refl)
-  took (entered {n = n} r) after d = λ e. leads_the n _ (took r (ahead.follow n) (ok.decided n) e)
-  took (entered_stuck {n = n} r) after d = λ e. let u = took r (ahead.follow n) (ok.decided n) e in (leads_the n _ u.0, sym (ok.empty_is n) ∙ u.1)
+  took (entered {n = n} r) after d = λ e. leads_as production ahead (production n) (the n) _ (λ c. sym (ok.first_is n c)) (took r (ahead.follow n) (ok.decided n) e)
+  took (entered_stuck {n = n} r) after d = λ e. let u = took r (ahead.follow n) (ok.decided n) e in (leads_as production ahead (production n) (the n) _ (λ c. sym (ok.first_is n c)) u.0, sym (ok.empty_is n) ∙ u.1)
   took (both {p = p} {q = q} {tokens = tokens} {between = between} {a = a} {b = b} r s) after d = λ e.
       let none_a : yield a ≡ [] = first_empty _ _ e in
       let same : tokens ≡ between = (sound production ahead r).1 ∙ ap (λ w. w ++ between) none_a in
@@ -82,10 +75,10 @@ module _ {C N D : Type 0} (production : N → Part C N) (ahead : LookAhead C N) 
   took (in_right h k r) after d = λ e. absurd (both_ways _ k (took r after d.4 e))
   took (in_right_stuck h k r) after d = λ e. absurd (both_ways _ k (took r after d.4 e).0)
   took (in_neither {p = p} {q = q} h k) after d = λ e. (leads_either production ahead p q _ h k, or_both _ _ d.0 d.1)
-  took (left_out {p = p} h) after d = λ e. leads_opt production ahead p _ h
+  took (left_out {p = p} h) after d = λ e. leads_as production ahead p (opt p) _ (λ c. refl) h
   took (there h r) after d = λ e. absurd (both_ways _ h (took r after d.2 e))
   took (there_stuck h r) after d = λ e. absurd (both_ways _ h (took r after d.2 e).0)
-  took (no_more {p = p} h) after d = λ e. leads_many production ahead p _ h
+  took (no_more {p = p} h) after d = λ e. leads_as production ahead p (many p) _ (λ c. refl) h
   took (again h r s) after d = λ e. absurd (both_ways _ h (took r _ d.2 (first_empty _ _ e)))
   took (again_stuck h r) after d = λ e. absurd (both_ways _ h (took r _ d.2 e).0)
   took (later_stuck h r s) after d = λ e. absurd (both_ways _ h (took r _ d.2 (first_empty _ _ e)))

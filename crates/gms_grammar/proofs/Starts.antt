@@ -1,5 +1,5 @@
 -- With which tokens the trees of a part may start, and what the first token tells.
-use Rattle.std.proofs.Common.{◌≡◌, Bool, true, false, ◌||◌, List, [], ◌∷◌, ◌++◌, refl, sym, ap, ◌∙◌}
+use Rattle.std.proofs.Common.{◌≡◌, Bool, true, false, List, [], ◌∷◌, ◌++◌, refl, sym, ap, ◌∙◌}
 use Rattle.std.specs.Prelude.{⊤}
 use Rattle.gms_grammar.specs.Grammar.{Part, one, the, ◌·◌, ◌∣◌, opt, many, Tree, leaf, pair, left, right, none, some, more, node, yield, IsTree}
 use Rattle.gms_grammar.specs.LookAhead.{LookAhead, may_be_empty, may_begin, may_go_on, Apart, DecidesEach}
@@ -27,26 +27,15 @@ module _ {C N D : Type 0} (production : N → Part C N) (ahead : LookAhead C N) 
   Starts p [] = may_be_empty ahead p ≡ true
   Starts p (token ∷ tokens) = may_begin ahead p token.0 ≡ true
 
-  starts_the : (n : N) (u : List (C × D)) → Starts (production n) u → Starts (the n) u
-  starts_the n [] h = sym (ok.empty_is n) ∙ h
-  starts_the n (x ∷ u) h = sym (ok.first_is n x.0) ∙ h
+  -- tokens start a part that may start with all with which another may
+  starts_as : (p q : Part C N) (u : List (C × D)) → (may_be_empty ahead p ≡ true → may_be_empty ahead q ≡ true) → ((c : C) → may_begin ahead p c ≡ true → may_begin ahead q c ≡ true) → Starts p u → Starts q u
+  starts_as p q [] f g h = f h
+  starts_as p q (x ∷ u) f g h = g x.0 h
 
   starts_both : (p q : Part C N) (u v : List (C × D)) → Starts p u → Starts q v → Starts (p · q) (u ++ v)
   starts_both p q [] [] h k = and_both _ _ h k
   starts_both p q [] (x ∷ v) h k = or_right (may_begin ahead p x.0) _ (and_both _ _ h k)
   starts_both p q (x ∷ u) v h k = or_left _ _ h
-
-  starts_left : (p q : Part C N) (u : List (C × D)) → Starts p u → Starts (p ∣ q) u
-  starts_left p q [] h = or_left _ _ h
-  starts_left p q (x ∷ u) h = or_left _ _ h
-
-  starts_right : (p q : Part C N) (u : List (C × D)) → Starts q u → Starts (p ∣ q) u
-  starts_right p q [] h = or_right (may_be_empty ahead p) _ h
-  starts_right p q (x ∷ u) h = or_right (may_begin ahead p x.0) _ h
-
-  starts_opt : (p : Part C N) (u : List (C × D)) → Starts p u → Starts (opt p) u
-  starts_opt p [] h = refl
-  starts_opt p (x ∷ u) h = h
 
   starts_many : (p : Part C N) (u v : List (C × D)) → Starts p u → Starts (many p) v → Starts (many p) (u ++ v)
   starts_many p [] v h k = k
@@ -55,12 +44,12 @@ module _ {C N D : Type 0} (production : N → Part C N) (ahead : LookAhead C N) 
   -- the tokens of a tree start as its part may
   pub starts : (p : Part C N) (tree : Tree (C × D)) → IsTree production p tree → Starts p (yield tree)
   starts (one test) (leaf token) h = h
-  starts (the n) (node tree) h = starts_the n _ (starts (production n) tree h)
+  starts (the n) (node tree) h = starts_as (production n) (the n) _ (λ k. sym (ok.empty_is n) ∙ k) (λ c k. sym (ok.first_is n c) ∙ k) (starts (production n) tree h)
   starts (p · q) (pair a b) h = starts_both p q _ _ (starts p a h.0) (starts q b h.1)
-  starts (p ∣ q) (left tree) h = starts_left p q _ (starts p tree h)
-  starts (p ∣ q) (right tree) h = starts_right p q _ (starts q tree h)
+  starts (p ∣ q) (left tree) h = starts_as p (p ∣ q) _ (λ k. or_left _ _ k) (λ c k. or_left _ _ k) (starts p tree h)
+  starts (p ∣ q) (right tree) h = starts_as q (p ∣ q) _ (λ k. or_right (may_be_empty ahead p) _ k) (λ c k. or_right (may_begin ahead p c) _ k) (starts q tree h)
   starts (opt p) none h = refl
-  starts (opt p) (some tree) h = starts_opt p _ (starts p tree h)
+  starts (opt p) (some tree) h = starts_as p (opt p) _ (λ k. refl) (λ c k. k) (starts p tree h)
   starts (many p) none h = refl
   starts (many p) (more a b) h = starts_many p _ _ (starts p a h.0) (starts (many p) b h.1)
   starts _ _ h = absurd h
@@ -70,12 +59,6 @@ module _ {C N D : Type 0} (production : N → Part C N) (ahead : LookAhead C N) 
   follows_part q after [] [] h k = tt
   follows_part q after [] (x ∷ behind) h k = or_right (may_begin ahead q x.0) _ (and_both _ _ h k)
   follows_part q after (x ∷ u) behind h k = or_left _ _ h
-
-  -- what follows a repetition
-  pub follows_again : (p : Part C N) (after : C → Bool) (u behind : List (C × D)) → Starts (many p) u → Follows after behind → Follows (λ c. may_begin ahead p c || after c) (u ++ behind)
-  follows_again p after [] [] h k = tt
-  follows_again p after [] (x ∷ behind) h k = or_right (may_begin ahead p x.0) _ k
-  follows_again p after (x ∷ u) behind h k = or_left _ _ h
 
   pub follows_more : (after also : C → Bool) (behind : List (C × D)) → ((c : C) → after c ≡ true → also c ≡ true) → Follows after behind → Follows also behind
   follows_more after also [] h k = tt
@@ -111,11 +94,9 @@ module _ {C N D : Type 0} (production : N → Part C N) (ahead : LookAhead C N) 
   pub clash : (p q : Part C N) (front u behind further : List (C × D)) → Begun p front → Starts q u → may_be_empty ahead q ≡ false → Apart ahead (may_begin ahead p) (may_begin ahead q) → u ++ behind ≡ front ++ further → ⊥
   clash p q front [] behind further b h k apart e = both_ways _ h k
   clash p q front (x ∷ u) behind further b h k apart e =
-      let same : x ≡ b.first = head_same x _ _ _ (e ∙ ap (λ w. w ++ further) b.is) in
+      let equal : x ∷ (u ++ behind) ≡ b.first ∷ (b.others ++ further) = e ∙ ap (λ w. w ++ further) b.is in
+      let same : x ≡ b.first = cc in
       apart x.0 (ap (λ (w : C × D). may_begin ahead p w.0) same ∙ b.may) h
-    where
-      head_same : (x y : C × D) (u v : List (C × D)) → x ∷ u ≡ y ∷ v → x ≡ y
-      head_same x y u v h = cc
 
   -- a part that is not empty does not stand where its first token does not lead into it
   pub unled : (p : Part C N) (tokens u behind further : List (C × D)) → Starts p u → may_be_empty ahead p ≡ false → leads {D = D} production ahead p tokens ≡ false → Goes tokens further → u ++ behind ≡ further → ⊥

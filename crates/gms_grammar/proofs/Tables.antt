@@ -1,5 +1,5 @@
 -- What is found by going over a table from its front.
-use Rattle.std.proofs.Common.{◌≡◌, ℕ, ◌+◌, ◌<◌, ◌≤◌, if◌then◌else◌, Bool, true, false, List, [], ◌∷◌, Option, Some, None, length, get_or, drop, ap, ◌∙◌}
+use Rattle.std.proofs.Common.{◌≡◌, ℕ, ◌+◌, ◌<◌, ◌≤◌, if◌then◌else◌, Bool, List, [], ◌∷◌, Option, Some, None, length, get_or, drop, ap, ◌∙◌}
 use Rattle.std.proofs.lemmas.List.{at_drop_more, at_drop_all}
 
 module _ {X Y : Type 0} (test : X → Bool) (tells : X → Y) where
@@ -8,12 +8,9 @@ module _ {X Y : Type 0} (test : X → Bool) (tells : X → Y) where
   first_told [] = None
   first_told (x ∷ xs) = if test x then Some (tells x) else first_told xs
 
-  -- where the next entry passes the test, and where it does not
-  pub told_here : (xs : List X) (i : ℕ) (x : X) → i < length xs → test (get_or xs i x) ≡ true → first_told (drop i xs) ≡ Some (tells (get_or xs i x))
-  told_here xs i x here h = at_drop_more first_told xs i x here ∙ ap (λ b. if b then Some (tells (get_or xs i x)) else first_told (drop (i + 1) xs)) h
-
-  pub told_later : (xs : List X) (i : ℕ) (x : X) → i < length xs → test (get_or xs i x) ≡ false → first_told (drop i xs) ≡ first_told (drop (i + 1) xs)
-  told_later xs i x here h = at_drop_more first_told xs i x here ∙ ap (λ b. if b then Some (tells (get_or xs i x)) else first_told (drop (i + 1) xs)) h
+  -- by whether the next entry passes the test
+  pub told : (xs : List X) (i : ℕ) (x : X) → i < length xs → (b : Bool) → test (get_or xs i x) ≡ b → first_told (drop i xs) ≡ (if b then Some (tells (get_or xs i x)) else first_told (drop (i + 1) xs))
+  told xs i x here b h = at_drop_more first_told xs i x here ∙ ap (λ b. if b then Some (tells (get_or xs i x)) else first_told (drop (i + 1) xs)) h
 
   pub told_by_none : (xs : List X) (i : ℕ) → length xs ≤ i → first_told (drop i xs) ≡ None
   told_by_none xs i l = at_drop_all first_told xs i l

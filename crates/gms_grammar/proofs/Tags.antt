@@ -1,5 +1,5 @@
 -- The numbers of the kinds of tokens are their tags.
-use Rattle.std.proofs.Common.{◌≡◌, ℕ, ◌==◌, Bool, true, false, ◌||◌, List, [], ◌∷◌, refl, sym, ap₂, ◌∙◌}
+use Rattle.std.proofs.Common.{◌≡◌, ℕ, ◌==◌, ◌||◌, List, [], ◌∷◌, refl, sym, ap₂, ◌∙◌}
 use Rattle.std.specs.List.{list_any}
 use Rattle.std.proofs.lemmas.Bool.{eqb-true, eq-eqb}
 use denote.Enum.Declared.{tag_of}
@@ -7,6 +7,7 @@ use Rattle.gms_grammar.specs.declared.terminal.Terminal.{Terminal}
 use Rattle.gms_grammar.specs.declared.terminal.Terminal.TheVariants.{Abort}
 use Rattle.gms_grammar.specs.contracts.terminal.Terminal.{the_type}
 use Rattle.gms_grammar.specs.Terminals.{number_of, is, is_among}
+use Rattle.gms_grammar.proofs.Checks.{either_way}
 
 tag-number_of : (kind : Terminal) → tag_of the_type kind ≡ number_of kind
 tag-number_of Abort = refl
@@ -16,13 +17,8 @@ tag-number_of _ = refl
 pub same_tag : (kind other : Terminal) → (tag_of the_type kind == tag_of the_type other) ≡ is kind other
 same_tag kind other = ap₂ (λ m n. m == n) (tag-number_of kind) (tag-number_of other)
 
-alike : (a b : Bool) → (a ≡ true → b ≡ true) → (b ≡ true → a ≡ true) → a ≡ b
-alike true b f g = sym (f refl)
-alike false true f g = g refl
-alike false false f g = refl
-
 swapped : (m n : ℕ) → (m == n) ≡ (n == m)
-swapped m n = alike (m == n) (n == m) (λ h. eq-eqb n m (sym (eqb-true m n h))) (λ h. eq-eqb m n (sym (eqb-true n m h)))
+swapped m n = either_way (m == n) (n == m) (λ h. eq-eqb n m (sym (eqb-true m n h))) (λ h. eq-eqb m n (sym (eqb-true n m h)))
 
 -- a kind is among some where one of these has its tag
 pub tag_among : (kind : Terminal) (kinds : List Terminal) → list_any (λ other. tag_of the_type other == tag_of the_type kind) kinds ≡ is_among kinds kind

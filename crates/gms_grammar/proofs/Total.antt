@@ -1,16 +1,13 @@
 -- A reader finds something in all tokens.
-use Rattle.std.proofs.Common.{◌≡◌, ◌⊎◌, inl, inr, ℕ, zero, suc, ◌<◌, ◌≤◌, max, Bool, true, false, not, ◌||◌, List, [], ◌∷◌, ◌++◌, length, refl, ap, subst, arith, ltb-true, lt-ltb, length-append}
-use Rattle.gms_grammar.specs.Grammar.{Part, one, the, ◌·◌, ◌∣◌, opt, many, Tree, leaf, pair, left, right, none, some, more, node, yield}
+use Rattle.std.proofs.Common.{◌≡◌, ◌⊎◌, inl, inr, ℕ, zero, suc, ◌<◌, ◌≤◌, max, Bool, true, not, List, [], ◌∷◌, ◌++◌, length, refl, ap, subst, arith, ltb-true, lt-ltb, length-append}
+use Rattle.std.proofs.lemmas.Bool.{cases_Bool}
+use Rattle.gms_grammar.specs.Grammar.{Part, one, the, ◌·◌, ◌∣◌, opt, many, Tree, yield}
 use Rattle.gms_grammar.specs.LookAhead.{LookAhead, may_be_empty, IsDecided, DecidesEach, ranks_below}
 use Rattle.gms_grammar.specs.Reading.{Found, read, stuck, leads, Reads, taken, refused, entered, entered_stuck, both, first_stuck, second_stuck, in_left, in_left_stuck, in_right, in_right_stuck, in_neither, left_out, there, there_stuck, no_more, again, again_stuck, later_stuck}
 use Rattle.gms_grammar.proofs.Basics.{both_ways, and_both, or_right}
 use Rattle.gms_grammar.proofs.Starts.{Starts, starts}
 use Rattle.gms_grammar.proofs.Sound.{sound}
-use Rattle.gms_grammar.proofs.Checks.{left_and, right_and}
-
-goes_to : (a b : Bool) → (not a || b) ≡ true → a ≡ true → b ≡ true
-goes_to true b h k = h
-goes_to false b h k = cc
+use Rattle.gms_grammar.proofs.Checks.{implied, left_and, right_and}
 
 module _ {C N : Type 0} (ahead : LookAhead C N) where
   -- a number above the ranks of the nonterminals of a part
@@ -41,65 +38,46 @@ module _ {C N : Type 0} (D : Type 0) (production : N → Part C N) (ahead : Look
   abbrev pub Shorter : ℕ → Type 0
   Shorter bound = (p : Part C N) (after : C → Bool) → IsDecided ahead p after → (tokens : List (C × D)) → length tokens < bound → Finds p tokens
 
-  finds_the : (n : N) (tokens : List (C × D)) → Finds (production n) tokens → Finds (the n) tokens
-  finds_the n tokens f = go f.found f.reads
+  by : {part : Part C N} {tokens : List (C × D)} {found : Found (C × D)} → Reads production ahead part tokens found → Finds part tokens
+  by {found = found} r = record { found = found; reads = r }
+
+  -- what follows from a tree that is found, and from where a reader is stuck
+  each : {X : Type 0} {p : Part C N} {tokens : List (C × D)} → Finds p tokens → ((tree : Tree (C × D)) (rest : List (C × D)) → Reads production ahead p tokens (read tree rest) → X) → ((front rest : List (C × D)) → Reads production ahead p tokens (stuck front rest) → X) → X
+  each {X = X} {p = p} {tokens = tokens} f at_tree at_stuck = go f.found f.reads
     where
-      go : (found : Found (C × D)) → Reads production ahead (production n) tokens found → Finds (the n) tokens
-      go (read tree rest) r = record { found = read (node tree) rest; reads = entered r }
-      go (stuck front rest) r = record { found = stuck front rest; reads = entered_stuck r }
+      go : (found : Found (C × D)) → Reads production ahead p tokens found → X
+      go (read tree rest) r = at_tree tree rest r
+      go (stuck front rest) r = at_stuck front rest r
+
+  finds_the : (n : N) (tokens : List (C × D)) → Finds (production n) tokens → Finds (the n) tokens
+  finds_the n tokens f = each f (λ tree rest r. by (entered r)) (λ front rest r. by (entered_stuck r))
 
   finds_pair : (p q : Part C N) (tokens : List (C × D)) → Finds p tokens → ((a : Tree (C × D)) (between : List (C × D)) → Reads production ahead p tokens (read a between) → Finds q between) → Finds (p · q) tokens
-  finds_pair p q tokens f then = go f.found f.reads
-    where
-      later : (a : Tree (C × D)) (between : List (C × D)) → Reads production ahead p tokens (read a between) → (found : Found (C × D)) → Reads production ahead q between found → Finds (p · q) tokens
-      later a between r (read b rest) s = record { found = read (pair a b) rest; reads = both r s }
-      later a between r (stuck front rest) s = record { found = stuck (yield a ++ front) rest; reads = second_stuck r s }
-
-      go : (found : Found (C × D)) → Reads production ahead p tokens found → Finds (p · q) tokens
-      go (read a between) r = let s = then a between r in later a between r s.found s.reads
-      go (stuck front rest) r = record { found = stuck front rest; reads = first_stuck r }
+  finds_pair p q tokens f then =
+      each f (λ a between r. each (then a between r) (λ b rest s. by (both r s)) (λ front rest s. by (second_stuck r s)))
+      (λ front rest r. by (first_stuck r))
 
   finds_either : (p q : Part C N) (tokens : List (C × D)) → Finds p tokens → Finds q tokens → Finds (p ∣ q) tokens
-  finds_either p q tokens f g = go (leads production ahead p tokens) refl (leads production ahead q tokens) refl
-    where
-      in_first : leads production ahead p tokens ≡ true → (found : Found (C × D)) → Reads production ahead p tokens found → Finds (p ∣ q) tokens
-      in_first h (read tree rest) r = record { found = read (left tree) rest; reads = in_left h r }
-      in_first h (stuck front rest) r = record { found = stuck front rest; reads = in_left_stuck h r }
-
-      in_second : leads production ahead p tokens ≡ false → leads production ahead q tokens ≡ true → (found : Found (C × D)) → Reads production ahead q tokens found → Finds (p ∣ q) tokens
-      in_second h k (read tree rest) r = record { found = read (right tree) rest; reads = in_right h k r }
-      in_second h k (stuck front rest) r = record { found = stuck front rest; reads = in_right_stuck h k r }
-
-      go : (b : Bool) → leads production ahead p tokens ≡ b → (c : Bool) → leads production ahead q tokens ≡ c → Finds (p ∣ q) tokens
-      go true h c k = in_first h f.found f.reads
-      go false h true k = in_second h k g.found g.reads
-      go false h false k = record { found = stuck [] tokens; reads = in_neither h k }
+  finds_either p q tokens f g =
+      elim (cases_Bool (leads production ahead p tokens)) [
+        | inl h ↦ each f (λ tree rest r. by (in_left h r)) (λ front rest r. by (in_left_stuck h r))
+        | inr h ↦ elim (cases_Bool (leads production ahead q tokens)) [
+          | inl k ↦ each g (λ tree rest r. by (in_right h k r)) (λ front rest r. by (in_right_stuck h k r))
+          | inr k ↦ by (in_neither h k)
+        ]
+      ]
 
   finds_opt : (p : Part C N) (tokens : List (C × D)) → Finds p tokens → Finds (opt p) tokens
-  finds_opt p tokens f = go (leads production ahead p tokens) refl
-    where
-      in_it : leads production ahead p tokens ≡ true → (found : Found (C × D)) → Reads production ahead p tokens found → Finds (opt p) tokens
-      in_it h (read tree rest) r = record { found = read (some tree) rest; reads = there h r }
-      in_it h (stuck front rest) r = record { found = stuck front rest; reads = there_stuck h r }
-
-      go : (b : Bool) → leads production ahead p tokens ≡ b → Finds (opt p) tokens
-      go true h = in_it h f.found f.reads
-      go false h = record { found = read none tokens; reads = left_out h }
+  finds_opt p tokens f =
+      elim (cases_Bool (leads production ahead p tokens)) [ inl h ↦ each f (λ tree rest r. by (there h r)) (λ front rest r. by (there_stuck h r)) | inr h ↦ by (left_out h) ]
 
   finds_many : (p : Part C N) (tokens : List (C × D)) → Finds p tokens → ((a : Tree (C × D)) (between : List (C × D)) → Reads production ahead p tokens (read a between) → Finds (many p) between) → Finds (many p) tokens
-  finds_many p tokens f then = go (leads production ahead p tokens) refl
-    where
-      later : leads production ahead p tokens ≡ true → (a : Tree (C × D)) (between : List (C × D)) → Reads production ahead p tokens (read a between) → (found : Found (C × D)) → Reads production ahead (many p) between found → Finds (many p) tokens
-      later h a between r (read b rest) s = record { found = read (more a b) rest; reads = again h r s }
-      later h a between r (stuck front rest) s = record { found = stuck (yield a ++ front) rest; reads = later_stuck h r s }
-
-      in_it : leads production ahead p tokens ≡ true → (found : Found (C × D)) → Reads production ahead p tokens found → Finds (many p) tokens
-      in_it h (read a between) r = let s = then a between r in later h a between r s.found s.reads
-      in_it h (stuck front rest) r = record { found = stuck front rest; reads = again_stuck h r }
-
-      go : (b : Bool) → leads production ahead p tokens ≡ b → Finds (many p) tokens
-      go true h = in_it h f.found f.reads
-      go false h = record { found = read none tokens; reads = no_more h }
+  finds_many p tokens f then =
+      elim (cases_Bool (leads production ahead p tokens)) [
+        | inl h ↦ each f (λ a between r. each (then a between r) (λ b rest s. by (again h r s)) (λ front rest s. by (later_stuck h r s)))
+            (λ front rest r. by (again_stuck h r))
+        | inr h ↦ by (no_more h)
+      ]
 
   -- behind a part, the tokens are the same, and the part may be empty, or they are fewer
   left_over : (p : Part C N) (tokens : List (C × D)) (a : Tree (C × D)) (between : List (C × D)) → Reads production ahead p tokens (read a between) → ((tokens ≡ between) × (may_be_empty ahead p ≡ true)) ⊎ (length between < length tokens)
@@ -113,23 +91,19 @@ module _ {C N : Type 0} (D : Type 0) (production : N → Part C N) (ahead : Look
 
   -- in tokens of a length at most, where the nonterminals that may stand first are of less rank
   finds_part : (bound : ℕ) (limit : ℕ) → Shorter bound → ((n : N) (tokens : List (C × D)) → ahead.rank n < limit → length tokens ≤ bound → Finds (the n) tokens) → (p : Part C N) (after : C → Bool) → IsDecided ahead p after → ranks_below ahead limit p ≡ true → (tokens : List (C × D)) → length tokens ≤ bound → Finds p tokens
-  finds_part bound limit shorter below (one test) after d h [] l = record { found = stuck [] []; reads = refused refl }
-  finds_part bound limit shorter below (one test) after d h (token ∷ rest) l = go (test token.0) refl
-    where
-      go : (b : Bool) → test token.0 ≡ b → Finds (one test) (token ∷ rest)
-      go true e = record { found = read (leaf token) rest; reads = taken e }
-      go false e = record { found = stuck [] (token ∷ rest); reads = refused e }
+  finds_part bound limit shorter below (one test) after d h [] l = by (refused refl)
+  finds_part bound limit shorter below (one test) after d h (token ∷ rest) l = elim (cases_Bool (test token.0)) [ inl e ↦ by (taken e) | inr e ↦ by (refused e) ]
   finds_part bound limit shorter below (the n) after d h tokens l = below n tokens (ltb-true (ahead.rank n) limit h) l
   finds_part bound limit shorter below (p · q) after d h tokens l =
       finds_pair p q tokens (finds_part bound limit shorter below p _ d.0 (left_and _ _ h) tokens l)
       (next (finds_part bound limit shorter below q after d.1))
     where
       next : (ranks_below ahead limit q ≡ true → (tokens : List (C × D)) → length tokens ≤ bound → Finds q tokens) → (a : Tree (C × D)) (between : List (C × D)) → Reads production ahead p tokens (read a between) → Finds q between
-      next same a between r = split (left_over p tokens a between r)
-        where
-          split : ((tokens ≡ between) × (may_be_empty ahead p ≡ true)) ⊎ (length between < length tokens) → Finds q between
-          split (inl k) = same (goes_to (may_be_empty ahead p) _ (right_and (ranks_below ahead limit p) _ h) k.1) between (subst (λ w. length w ≤ bound) k.0 l)
-          split (inr k) = shorter q after d.1 between (omega arith)
+      next same a between r =
+          elim (left_over p tokens a between r) [
+            | inl k ↦ same (implied (may_be_empty ahead p) _ (right_and (ranks_below ahead limit p) _ h) k.1) between (subst (λ w. length w ≤ bound) k.0 l)
+            | inr k ↦ shorter q after d.1 between (omega arith)
+          ]
   finds_part bound limit shorter below (p ∣ q) after d h tokens l =
       finds_either p q tokens (finds_part bound limit shorter below p after d.3 (left_and _ _ h) tokens l)
       (finds_part bound limit shorter below q after d.4 (right_and (ranks_below ahead limit p) _ h) tokens l)
@@ -138,11 +112,7 @@ module _ {C N : Type 0} (D : Type 0) (production : N → Part C N) (ahead : Look
       finds_many p tokens (finds_part bound limit shorter below p _ d.2 h tokens l) next
     where
       next : (a : Tree (C × D)) (between : List (C × D)) → Reads production ahead p tokens (read a between) → Finds (many p) between
-      next a between r = split (left_over p tokens a between r)
-        where
-          split : ((tokens ≡ between) × (may_be_empty ahead p ≡ true)) ⊎ (length between < length tokens) → Finds (many p) between
-          split (inl k) = absurd (both_ways _ k.1 d.0)
-          split (inr k) = shorter (many p) after d between (omega arith)
+      next a between r = elim (left_over p tokens a between r) [ inl k ↦ absurd (both_ways _ k.1 d.0) | inr k ↦ shorter (many p) after d between (omega arith) ]
 
   finds_ranked : (bound limit : ℕ) → Shorter bound → (n : N) (tokens : List (C × D)) → ahead.rank n < limit → length tokens ≤ bound → Finds (the n) tokens
   finds_ranked bound zero shorter n tokens h l = absurd (omega arith)

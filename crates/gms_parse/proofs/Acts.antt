@@ -23,7 +23,7 @@ use Rattle.gms_ast.specs.declared.declaration.ModelDecl.{ModelDecl}
 use Rattle.gms_ast.specs.StatementTrees.{Act, Statements, declares_models, aliases, solves, displays, sets_options, aborts}
 use Rattle.gms_ast.specs.StatementView.{setting_in, shown_tree, act_step, statement_step}
 use Rattle.gms_grammar.specs.declared.terminal.Terminal.{Terminal}
-use Rattle.gms_grammar.specs.declared.terminal.Terminal.TheVariants.{Abort, Alias, Display, Option, Solve, Table, Name, Suffix, Function, OrdCard, FoldOp, Infinity, NotAvailable, YesNo, Not, And, Or, RelationWord, All, Using, Direction, Reserved, Label, Number, Text, LongText, Equals, LeftParen, RightParen, Comma, Dot, TableLine}
+use Rattle.gms_grammar.specs.declared.terminal.Terminal.TheVariants.{Abort, Alias, Display, Option, Solve, Table, Name, Suffix, Function, OrdCard, FoldOp, Infinity, NotAvailable, YesNo, Not, And, Or, RelationWord, All, Using, Direction, Reserved, Number, Text, LongText, Equals, RightParen, Comma, Dot}
 use Rattle.gms_grammar.specs.Grammar.{one, the, ◌·◌, ◌∣◌, opt, pair, yield}
 use Rattle.gms_grammar.specs.LookAhead.{may_begin}
 use Rattle.gms_grammar.specs.Reading.{read, stuck, leads, Reads, Takes, taken, refused, both, first_stuck, second_stuck, in_right_stuck, in_neither, takes_first, takes_second, takes_right}
@@ -33,23 +33,22 @@ use Rattle.gms_grammar.specs.GamsLookAhead.{look_ahead}
 use Rattle.gms_grammar.proofs.Basics.{and_both, and_second, or_right}
 use Rattle.gms_grammar.proofs.Checks.{left_and}
 use Rattle.gms_expressions.specs.ExpressionTrees.{suffix_of, first_in, second_in}
-use Rattle.gms_expressions.specs.Outcomes.{open_after}
 use Rattle.gms_expressions.proofs.Valued.{number_in_is}
 use Rattle.gms_expressions.proofs.TokenKinds.{also, same_test}
 use Rattle.gms_parse.specs.declared.fault.SourceFault.{SourceFault}
 use Rattle.gms_parse.specs.declared.fault.SourceFaultOrMemory.{SourceFaultOrMemory}
 use Rattle.gms_parse.specs.declared.reader.Reader.{Reader}
 use Rattle.gms_parse.specs.declared.reader.Tables.{Tables}
-use Rattle.gms_parse.specs.DataLists.{listed_in, optional_in}
+use Rattle.gms_parse.specs.DataLists.{optional_in}
 use Rattle.gms_parse.specs.Statements.{alias_act, display_act, abort_act, option_act, solve_act, shown_in, shown_list, is_maximizing, setting_in as setting_of}
 use Rattle.gms_table.specs.WordLabels.{all_entered}
-use Rattle.gms_parse.specs.Walks.{Seen, Walk, is_name, new_labels, walk_after, IsFaulty, deep, out_of_range, many_names, many_labels, in_table, without_lines}
+use Rattle.gms_parse.specs.Walks.{Seen, Walk, is_name, new_labels, walk_after, IsFaulty}
 use Rattle.gms_parse.specs.Readings.{Derivation, GamsPart, Gives, Refuses, Sense, Holds, Has, Starts, Stays, StaysOpen, Ends, Nameless, IsNext, IsLacking, IsOpened, IsGot, IsValue, IsTooLarge, seen_from, kind_of}
 use Rattle.gms_parse.specs.Meanings.{IsNamed, IsWord, IsMethod, IsObjective, IsSuffix, IsShown, AreShown, IsCondition, IsSetting, IsAct, act_view}
 use Rattle.gms_parse.proofs.TokenKinds.{begins, leads_alike, led_first, unled_next}
-use Rattle.gms_parse.proofs.Walks.{keyword_after, room_for_none}
+use Rattle.gms_parse.proofs.Walks.{is_mute, is_free, mute_after, free_sound, room_for_none}
 use Rattle.gms_parse.proofs.Steps.{got_by, gives_one, gives_as, gives_both, gives_the, gives_left, gives_right, gives_none, gives_some, by_cause, stuck_as, wrong_as, refuses_first, refuses_second, refuses_the, refuses_left, refuses_right, refuses_some}
-use Rattle.gms_parse.proofs.Nexts.{past, exact_kind, led_next, refuses_lacking, gives_exact, plain_stays, stays_same, stays_then, earlier, begun_has, begun_starts, opened, open_starts, close_stays, gives_bracketed, got_inside, refuses_within, refuses_inside, refuses_unclosed}
+use Rattle.gms_parse.proofs.Nexts.{past, exact_kind, led_next, refuses_lacking, gives_exact, stays_by, plain_stays, stays_same, stays_then, earlier, begun_has, begun_starts, opened, open_starts, close_stays, gives_bracketed, got_inside, refuses_within, refuses_inside, refuses_unclosed}
 use Rattle.gms_parse.proofs.Entering.{number_gives, number_stays, number_refused}
 use Rattle.gms_grammar.proofs.Eithers.{led_given, refuses_other, refuses_or}
 use Rattle.gms_parse.proofs.Listing.{AreAll, all_meant, list_of}
@@ -62,20 +61,6 @@ abbrev pub is_worded : Terminal → Bool
 is_worded = is_among
     (Name ∷ Suffix ∷ Function ∷ OrdCard ∷ FoldOp ∷ Infinity ∷ NotAvailable ∷ YesNo ∷ Not ∷ And ∷ Or ∷ RelationWord ∷ All ∷ Using ∷ Direction ∷ Reserved ∷ [])
 
-worded_new : (source : List ℕ) (w : Walk) (kind : Terminal) (t : Token) (ahead : Terminal) → is_worded kind ≡ true → new_labels source w (kind, t) ahead ≡ []
-worded_new source w Text t ahead h = cc
-worded_new source w Label t ahead h = cc
-worded_new source w TableLine t ahead h = cc
-worded_new source w _ t ahead h = refl
-
-worded_open : (n : ℕ) (kind : Terminal) → is_worded kind ≡ true → open_after n kind ≡ n
-worded_open n LeftParen h = cc
-worded_open n RightParen h = cc
-worded_open n _ h = refl
-
-worded_begins : (kind : Terminal) → is_worded kind ≡ true → begins kind ≡ false
-worded_begins kind h = not-true (begins kind) (also is_worded (λ k. not (begins k)) refl kind h)
-
 -- where a name is none of the program
 unnamed : (w : Walk) (kind : Terminal) → Nameless w → is_name w kind ≡ false
 unnamed w kind u = and_second (is_among (Name ∷ Suffix ∷ []) kind) _ (ap not u)
@@ -83,31 +68,13 @@ unnamed w kind u = and_second (is_among (Name ∷ Suffix ∷ []) kind) _ (ap not
 module _ (reader : Reader) (w : Walk) (kind : Terminal) (t : Token) (behind : ℕ) (passes : is_worded kind ≡ true) (u : Nameless w) where
   pub worded_stays : {tables : Tables} → Has reader tables w → Stays reader tables w (past reader w kind t behind)
   worded_stays h =
-      let ahead = kind_of (seen_from reader behind) in
-      let opens : (past reader w kind t behind).open_count ≡ w.open_count = worded_open w.open_count kind passes in
-      let k = keyword_after reader.source.now w (kind, t) ahead (worded_begins kind passes) in
-      let lower = h.level in
-      let level = k.1 in
-      record {
-        has = record {
-          holds = record {
-            open_count = opens ∙ h.holds.open_count;
-            names = ap (λ c. cond c (entered w.names (token_text reader.source.now t)) w.names) (unnamed w kind u) ∙ h.holds.names;
-            labels = ap (all_entered w.labels) (worded_new reader.source.now w kind t ahead passes) ∙ h.holds.labels;
-          };
-          level = omega (arith, lower, opens, level);
-        };
-        keyword = k.0;
-        level = k.1;
-      }
+      let m = mute_after reader.source.now w kind t (kind_of (seen_from reader behind)) (also is_worded is_mute refl kind passes) in
+      stays_by reader w kind t behind (not-true (begins kind) (also is_worded (λ k. not (begins k)) refl kind passes)) h m.0 (ap (λ c. cond c (entered w.names (token_text reader.source.now t)) w.names) (unnamed w kind u) ∙ h.holds.names) (ap (all_entered w.labels) m.1 ∙ h.holds.labels)
 
   pub worded_sound : (limit : ℕ) (fault : SourceFault) → IsFaulty limit reader.source.now w (kind, t) (kind_of (seen_from reader behind)) fault → ⊥
-  worded_sound limit fault (deep e d) = let k : is_worded LeftParen ≡ true = ap is_worded (sym e) ∙ passes in cc
-  worded_sound limit fault (out_of_range e d) = let k : is_worded Number ≡ true = ap is_worded (sym e) ∙ passes in cc
-  worded_sound limit fault (many_names e d) = let k = unnamed w kind u in cc
-  worded_sound limit fault (many_labels e d) = room_for_none w.labels _ (worded_new reader.source.now w kind t (kind_of (seen_from reader behind)) passes) d
-  worded_sound limit fault (in_table e d f) = let k : is_worded TableLine ≡ true = ap is_worded (sym e) ∙ passes in cc
-  worded_sound limit fault (without_lines e d f) = let k : is_worded RightParen ≡ true = ap is_worded (sym e) ∙ passes in cc
+  worded_sound limit =
+      free_sound limit reader.source.now w kind t (kind_of (seen_from reader behind)) (also is_worded is_free refl kind passes) (λ e d. let k = unnamed w kind u in cc)
+      (room_for_none w.labels _ (mute_after reader.source.now w kind t (kind_of (seen_from reader behind)) (also is_worded is_mute refl kind passes)).1)
 
 -- a word that is no name of the program
 pub word_got : {limit : ℕ} {reader : Reader} {at behind : ℕ} {t : Token} {w : Walk} {tables : Tables} (n : IsNext is_worded reader at t behind) → Has reader tables w → Nameless w → (x : Word) → x ≡ record { at = t.at; text = token_text reader.source.now t } →
@@ -158,36 +125,15 @@ text_after source w _ t ahead h = cc
 
 module _ {reader : Reader} {at behind : ℕ} {t : Token} {w : Walk} (n : IsNext is_text reader at t behind) (k : Shows w) where
   text_sound : (limit : ℕ) (fault : SourceFault) → IsFaulty limit reader.source.now w (n.kind, t) (kind_of (seen_from reader behind)) fault → ⊥
-  text_sound limit fault (deep e d) = let k : is_text LeftParen ≡ true = ap is_text (sym e) ∙ n.passes in cc
-  text_sound limit fault (out_of_range e d) = let k : is_text Number ≡ true = ap is_text (sym e) ∙ n.passes in cc
-  text_sound limit fault (many_names e d) =
-      let passes = n.passes in
-      let other : not (is_text n.kind) ≡ true = also (is_among (Name ∷ Suffix ∷ [])) (λ kind. not (is_text kind)) refl n.kind (left_and _ _ e) in
-      cc
-  text_sound limit fault (many_labels e d) = room_for_none w.labels _ (text_new reader.source.now w n.kind t (kind_of (seen_from reader behind)) n.passes k) d
-  text_sound limit fault (in_table e d f) = let k : is_text TableLine ≡ true = ap is_text (sym e) ∙ n.passes in cc
-  text_sound limit fault (without_lines e d f) = let k : is_text RightParen ≡ true = ap is_text (sym e) ∙ n.passes in cc
+  text_sound limit =
+      free_sound limit reader.source.now w n.kind t (kind_of (seen_from reader behind)) (also is_text is_free refl n.kind n.passes)
+      (λ e d. let passes = n.passes in let other : not (is_text n.kind) ≡ true = also (is_among (Name ∷ Suffix ∷ [])) (λ kind. not (is_text kind)) refl n.kind (left_and _ _ e) in cc)
+      (room_for_none w.labels _ (text_new reader.source.now w n.kind t (kind_of (seen_from reader behind)) n.passes k))
 
   text_stays : {tables : Tables} → Has reader tables w → Stays reader tables w (past reader w n.kind t behind)
   text_stays h =
-      let ahead = kind_of (seen_from reader behind) in
-      let a = text_after reader.source.now w n.kind t ahead n.passes in
-      let opens = a.0 in
-      let b = keyword_after reader.source.now w (n.kind, t) ahead a.2 in
-      let lower = h.level in
-      let level = b.1 in
-      record {
-        has = record {
-          holds = record {
-            open_count = a.0 ∙ h.holds.open_count;
-            names = a.1 ∙ h.holds.names;
-            labels = ap (all_entered w.labels) (text_new reader.source.now w n.kind t ahead n.passes k) ∙ h.holds.labels;
-          };
-          level = omega (arith, lower, opens, level);
-        };
-        keyword = b.0;
-        level = b.1;
-      }
+      let a = text_after reader.source.now w n.kind t (kind_of (seen_from reader behind)) n.passes in
+      stays_by reader w n.kind t behind a.2 h a.0 (a.1 ∙ h.holds.names) (ap (all_entered w.labels) (text_new reader.source.now w n.kind t (kind_of (seen_from reader behind)) n.passes k) ∙ h.holds.labels)
 
   -- a text
   pub text_got : {limit : ℕ} {tables : Tables} → Has reader tables w → (x : Word) → x ≡ record { at = t.at; text = unquoted (token_text reader.source.now t) } →
@@ -208,13 +154,10 @@ pub symbol_refused : {limit : ℕ} {source : List ℕ} {w v : Walk} {ts us : Lis
     Refuses limit source (the Shown) w ts e
 symbol_refused {ts = ts} unled g r = refuses_the Shown (refuses_right unled (led_first (is_among (Name ∷ Suffix ∷ [])) (opt (the Attribute)) ts (led_given g)) (refuses_second g r))
 
-shows_meant : (source : List ℕ) (sense : Sense) (tree : Derivation) (xs : List Show) → AreAll (IsShown source) sense tree xs → xs ≡ listed_in (shown_in source sense.names sense.labels) tree
-shows_meant source sense tree xs h = sym (map-id xs) ∙ all_meant (IsShown source) (λ x. x) (shown_in source sense.names sense.labels) sense (λ t x k. k) tree xs h
-
 -- all that is shown
 pub shown_list_got : {limit : ℕ} {reader : Reader} {at next : ℕ} {new : Tables} {w : Walk} {items : List Show} → IsGot limit (AreAll (IsShown reader.source.now)) (Stays reader new w) (list_of (is Comma) (the Shown)) reader at new w items next →
     IsGot limit (AreShown reader.source.now) (Stays reader new w) (the ShownList) reader at new w items next
-shown_list_got {reader = reader} {items = items} got = got_by (gives_the ShownList got.gives) got.leaves (λ sense m. shows_meant reader.source.now sense got.tree items (got.means sense m)) got.further
+shown_list_got {reader = reader} {items = items} got = got_by (gives_the ShownList got.gives) got.leaves (λ sense m. sym (map-id items) ∙ all_meant (IsShown reader.source.now) (λ x. x) (shown_in reader.source.now sense.names sense.labels) sense (λ t x k. k) got.tree items (got.means sense m)) got.further
 
 -- where a step of a list that is shown is looked at by itself
 abbrev pub showing : Reader → Tables → Walk

@@ -1,5 +1,6 @@
 -- The tokens of an expression leave the same names, labels and parentheses, and have the same faults, whether they are looked at as those
 -- of an expression or as those of a program.
+use Rattle.std.proofs.Math.Bool.{or-false, and-false}
 use Rattle.std.proofs.Common.{◌≡◌, ℕ, ◌<◌, Bool, true, false, not, ◌&&◌, ◌||◌, ◌==◌, cond, List, [], ◌∷◌, refl, sym, ap, ap₂, ◌∙◌, subst, arith}
 use Rattle.gms_labels.specs.Labels.{entered, IsFullFor}
 use Rattle.gms_lex.specs.TokenTexts.{token_text, unquoted}
@@ -19,7 +20,7 @@ use Rattle.gms_parse.specs.Readings.{Optionless, Tableless}
 use Rattle.std.proofs.lemmas.Bool.{not-true, eqb-true}
 use Rattle.gms_grammar.proofs.Basics.{not_true}
 use Rattle.gms_parse.proofs.TokenKinds.{same_kind, begins}
-use Rattle.gms_parse.proofs.Walks.{room_for_none}
+use Rattle.gms_parse.proofs.Walks.{keyword_after, room_for_none}
 use Rattle.gms_parse.proofs.Ranges.{full_of, lacks_append}
 use Rattle.gms_parse.proofs.Alphabet.{AllPass}
 use Rattle.gms_parse.proofs.Depths.{TextsAbove}
@@ -47,29 +48,15 @@ dot_or_using Using h = cc
 dot_or_using _ h = refl
 
 inner_keyword : (w : Walk) (source : List ℕ) (t : Seen) (ahead : Terminal) → is_inner t.0 ≡ true → ((walk_after source w t ahead).keyword ≡ w.keyword) × ((walk_after source w t ahead).level ≡ w.level)
-inner_keyword w source t ahead h = let b = begins_no t.0 h in (ap (λ c. cond c t.0 w.keyword) b, ap (λ c. cond c w.open_count w.level) b)
-  where
-    begins_no : (kind : Terminal) → is_inner kind ≡ true → begins kind ≡ false
-    begins_no kind h = not-true (begins kind) (also is_inner (λ k. not (begins k)) refl kind h)
+inner_keyword w source t ahead h = keyword_after source w t ahead (not-true (begins t.0) (also is_inner (λ k. not (begins k)) refl t.0 h))
 
 -- a name is one for both
 same_name : (w : Walk) (x : inner.Walk) (kind : Terminal) → Agrees w x → is_name w kind ≡ inner.is_name x kind
-same_name w x kind a = ap (λ b. is_among (Name ∷ Suffix ∷ []) kind && not b) (ap₂ (λ b c. b || c) a.dotted a.optionless ∙ or_false x.dotted)
-  where
-    or_false : (b : Bool) → (b || false) ≡ b
-    or_false true = refl
-    or_false false = refl
+same_name w x kind a = ap (λ b. is_among (Name ∷ Suffix ∷ []) kind && not b) (ap₂ (λ b c. b || c) a.dotted a.optionless ∙ or-false x.dotted)
 
 -- a text that stands deep enough is an index
 deep_index : (w : Walk) (kind : Terminal) → (kind ≡ Text → w.level < w.open_count) → is_index w kind ≡ is Text kind
-deep_index w Text h = let l = h refl in ap not (ap (λ b. is_among (Display ∷ Abort ∷ []) w.keyword && b) (differ w.open_count w.level l) ∙ and_false _)
-  where
-    differ : (m n : ℕ) → n < m → (m == n) ≡ false
-    differ m n l = not_true (m == n) (λ e. let k = eqb-true m n e in omega (arith, l, k))
-
-    and_false : (b : Bool) → (b && false) ≡ false
-    and_false true = refl
-    and_false false = refl
+deep_index w Text h = let l = h refl in ap not (ap (λ b. is_among (Display ∷ Abort ∷ []) w.keyword && b) (not_true (w.open_count == w.level) (λ e. let k = eqb-true w.open_count w.level e in omega (arith, l, k))) ∙ and-false _)
 deep_index w _ h = refl
 
 -- the labels that a token of an expression enters

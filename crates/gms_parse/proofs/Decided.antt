@@ -136,11 +136,10 @@ bounded limit x f = by f.m f.e f.shortest f.within
     }
 
 pub fits_told : (limit : ℕ) (x : Number) → Told (FitsLiteral limit x)
-fits_told limit x = go (search (λ m. Found (λ e. Fits limit x m e) (suc limit)) (λ m. search (λ e. Fits limit x m e) (fit_told limit x m) (suc limit)) (suc limit))
-  where
-    go : Told (Bounded limit x) → Told (FitsLiteral limit x)
-    go (inl f) = inl (record { m = f.n; e = f.holds.n; shortest = f.holds.holds.0; within = f.holds.holds.1 })
-    go (inr none) = inr (λ f. none (bounded limit x f))
+fits_told limit x = elim (search (λ m. Found (λ e. Fits limit x m e) (suc limit)) (λ m. search (λ e. Fits limit x m e) (fit_told limit x m) (suc limit)) (suc limit)) [
+  | inl f ↦ inl (record { m = f.n; e = f.holds.n; shortest = f.holds.holds.0; within = f.holds.holds.1 })
+  | inr none ↦ inr (λ f. none (bounded limit x f))
+]
 
 -- ---- values
 

@@ -134,11 +134,8 @@ level_after RightParen n h = cc
 level_after Text n h = cc
 level_after _ n h = refl
 
-level_text : (kind : Terminal) → is_level kind ≡ true → kind ≡ Text → ⊥
-level_text kind h e = let f : is_level kind ≡ false = ap is_level e in cc
-
 closes_one : (least n : ℕ) (t : Seen) → is_level t.0 ≡ true → Closes least n (t ∷ [])
-closes_one least n t h = record { above = (λ e. absurd (level_text t.0 h e), tt); closed = level_after t.0 n h }
+closes_one least n t h = record { above = (λ e. let f : is_level t.0 ≡ false = ap is_level e in cc, tt); closed = level_after t.0 n h }
 
 closes_in : (least n : ℕ) (l r : Seen) (u : List Seen) → l.0 ≡ LeftParen → r.0 ≡ RightParen → Closes least (n + 1) u → Closes least n (l ∷ (u ++ r ∷ []))
 closes_in least n l r u el er h =

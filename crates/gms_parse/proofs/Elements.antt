@@ -1,4 +1,5 @@
 -- Elements of lists: positions with ranges, joined by dots.
+use Rattle.std.proofs.Math.Bool.{or-false, or_assoc}
 use Rattle.std.proofs.Common.{◌≡◌, ℕ, ◌≤◌, Bool, true, false, ◌||◌, List, [], ◌∷◌, ◌++◌, map, refl, sym, ap, ◌∙◌, arith, append_assoc}
 use Rattle.std.proofs.lemmas.List.{append-nil}
 use Rattle.gms_lex.specs.declared.token.Token.{Token}
@@ -17,7 +18,7 @@ use Rattle.gms_parse.specs.declared.reader.Reader.{Reader}
 use Rattle.gms_parse.specs.declared.reader.Tables.{Tables}
 use Rattle.gms_parse.specs.DataLists.{listed_in, each_in, joined, any_true, labels_in_range, is_bad_range}
 use Rattle.gms_parse.specs.Walks.{Seen, Walk, ends_statement}
-use Rattle.gms_parse.specs.Readings.{Derivation, GamsPart, Gives, Refuses, Sense, IsSense, IsGot, Has, Stays, Tableless, IsNext, IsLacking, IsOpened, IsUnopened, seen_from, kind_of}
+use Rattle.gms_parse.specs.Readings.{Derivation, GamsPart, Refuses, Sense, IsSense, IsGot, Has, Stays, Tableless, IsNext, IsLacking, IsOpened, IsUnopened, seen_from, kind_of}
 use Rattle.gms_parse.specs.Meanings.{IsAdded, IsPart}
 use Rattle.gms_parse.proofs.TokenKinds.{unled_next, led_first, leads_alike, same_kind}
 use Rattle.gms_parse.proofs.Steps.{got_by, Within, within_second, within_then, within_again, gives_both, gives_the, gives_left, gives_right, gives_no_more, refuses_the, refuses_second, refuses_right, refuses_again, by_cause, stuck_as, wrong_as}
@@ -45,10 +46,6 @@ pub record Gathering (limit : ℕ) (reader : Reader) (start : ℕ) (w : Walk) (n
   pub labels : (sense : Sense) → IsSense new sense → (b : Derivation) → labels_of reader.source.now sense (first_ranges (context b)) ≡ part.labels.items ++ labels_of reader.source.now sense (other_ranges b)
   pub bad : (sense : Sense) → IsSense new sense → (b : Derivation) → bad_of reader.source.now sense (first_ranges (context b)) ≡ (part.bad_range || bad_of reader.source.now sense (other_ranges b))
   pub further : start ≤ at
-
-or_assoc : (a b c : Bool) → (a || (b || c)) ≡ ((a || b) || c)
-or_assoc true b c = refl
-or_assoc false b c = refl
 
 module _ {limit : ℕ} {reader : Reader} {start : ℕ} {w : Walk} where
   pub gathering_start : (was : Position) {new : Tables} {part : Position} {at : ℕ} → was.labels.items ≡ [] → was.bad_range ≡ false → IsGot limit (λ sense tree x. IsAdded reader.source.now sense tree was x) (Stays reader new w) (the Range) reader start new w part at → Gathering limit reader start w new part at
@@ -81,7 +78,7 @@ module _ {limit : ℕ} {reader : Reader} {start : ℕ} {w : Walk} where
               ∙ ap (λ u. u ++ labels_of reader.source.now sense (other_ranges b)) (sym (got.means sense s).0);
           bad = λ sense s b.
               l.bad sense (earlier g l.stays.has.holds got.leaves.has.holds s) (more (pair (leaf (Comma, t)) got.tree) b)
-              ∙ or_assoc part.bad_range (is_bad_range reader.source.now sense.labels got.tree) (bad_of reader.source.now sense (other_ranges b))
+              ∙ sym (or_assoc part.bad_range (is_bad_range reader.source.now sense.labels got.tree) (bad_of reader.source.now sense (other_ranges b)))
               ∙ ap (λ c. c || bad_of reader.source.now sense (other_ranges b)) (sym (got.means sense s).1);
           further = (let a = l.further in let f = got.further in let g = n.further in omega arith);
         }
@@ -91,14 +88,6 @@ module _ {limit : ℕ} {reader : Reader} {start : ℕ} {w : Walk} where
 
 -- ---- positions
 
-or_none : (b : Bool) → (b || false) ≡ b
-or_none true = refl
-or_none false = refl
-
--- no parenthesis leads into a range
-no_paren : (ts : List Seen) → leads productions look_ahead (token LeftParen) ts ≡ false → leads productions look_ahead (bracketed (the RangeList)) ts ≡ false
-no_paren ts h = unled_next (is LeftParen) (the RangeList · token RightParen) ts h
-
 -- a label leads into a range
 leads_range : (ts : List Seen) → leads productions look_ahead (the Range) ts ≡ leads productions look_ahead (token Label) ts
 leads_range ts = leads_alike (the Range) (token Label) ts refl refl (same_test (may_begin look_ahead (the Range)) (is Label) refl)
@@ -106,22 +95,19 @@ leads_range ts = leads_alike (the Range) (token Label) ts refl refl (same_test (
 range_read : {ts rest : List Seen} {tree : Derivation} → Reads productions look_ahead (the Range) ts (read tree rest) → leads productions look_ahead (token Label) ts ≡ true
 range_read (entered (both (taken h) s)) = h
 
-range_reads : {limit : ℕ} {source : List ℕ} {w v : Walk} {ts rest : List Seen} {tree : Derivation} → Gives limit source (the Range) w ts tree v rest → leads productions look_ahead (the Range) ts ≡ true
-range_reads {ts = ts} g = leads_range ts ∙ range_read g.reads
-
 -- a range alone
 pub lone_got : {limit : ℕ} {reader : Reader} {at next : ℕ} {new : Tables} {w : Walk} (was : Position) (part : Position) → was.labels.items ≡ [] → was.bad_range ≡ false → IsGot limit (λ sense tree x. IsAdded reader.source.now sense tree was x) (Stays reader new w) (the Range) reader at new w part next →
     IsGot limit (IsPart reader.source.now) (Stays reader new w) (the ElementPart) reader at new w part next
-lone_got {reader = reader} was part none_yet sound_yet got = got_by (gives_the ElementPart (gives_left (range_reads got.gives) got.gives)) got.leaves
+lone_got {reader = reader} {at = at} was part none_yet sound_yet got = got_by (gives_the ElementPart (gives_left (leads_range (seen_from reader at) ∙ range_read got.gives.reads) got.gives)) got.leaves
     (λ sense s. (
       (got.means sense s).0 ∙ ap (λ u. u ++ labels_in_range reader.source.now sense.labels got.tree) none_yet ∙ sym (append-nil (labels_in_range reader.source.now sense.labels got.tree)),
-      (got.means sense s).1 ∙ ap (λ c. c || is_bad_range reader.source.now sense.labels got.tree) sound_yet ∙ sym (or_none (is_bad_range reader.source.now sense.labels got.tree)),
+      (got.means sense s).1 ∙ ap (λ c. c || is_bad_range reader.source.now sense.labels got.tree) sound_yet ∙ sym (or-false (is_bad_range reader.source.now sense.labels got.tree)),
     ))
     got.further
 
 -- it is refused
 pub lone_refused : {limit : ℕ} {source : List ℕ} {w : Walk} {ts : List Seen} {e : SourceFaultOrMemory} → leads productions look_ahead (token LeftParen) ts ≡ false → Refuses limit source (the Range) w ts e → Refuses limit source (the ElementPart) w ts e
-lone_refused {ts = ts} unled r = refuses_the ElementPart (by_cause r (λ fault s. stuck_as s (stuck_range (no_paren ts unled) s.reads)) (λ fault s. wrong_as s (takes_left s.takes)))
+lone_refused {ts = ts} unled r = refuses_the ElementPart (by_cause r (λ fault s. stuck_as s (stuck_range (unled_next (is LeftParen) (the RangeList · token RightParen) ts unled) s.reads)) (λ fault s. wrong_as s (takes_left s.takes)))
   where
     stuck_in : {p : GamsPart} {us front rest : List Seen} → leads productions look_ahead p us ≡ false → Reads productions look_ahead (productions Range) us (stuck front rest) → Reads productions look_ahead (the Range) us (stuck front rest) → Reads productions look_ahead (the Range ∣ p) us (stuck front rest)
     stuck_in {us = us} k (first_stuck (refused h)) r = in_neither (leads_range us ∙ h) k
@@ -144,7 +130,7 @@ module _ {reader : Reader} {at start : ℕ} {inner : Reader} {old : Tables} {w :
   module _ {limit : ℕ} {new : Tables} {part : Position} {next : ℕ} (l : Gathering limit inner start (opened w o) new part next) (unled : leads productions look_ahead (token Comma) (seen_from inner next) ≡ false) where
     listed_got : IsGot limit (λ sense tree (x : Position). (x.labels.items ≡ labels_of inner.source.now sense (first_ranges tree)) × (x.bad_range ≡ bad_of inner.source.now sense (first_ranges tree))) (Stays inner new (opened w o)) (the Range · many (token Comma · the Range)) inner start new (opened w o) part next
     listed_got = got_by (l.within.gives none _ _ (gives_no_more (unled_next (is Comma) (the Range) (seen_from inner next) unled))) l.stays
-        (λ sense s. (sym (l.labels sense s none ∙ append-nil part.labels.items), sym (l.bad sense s none ∙ or_none part.bad_range))) l.further
+        (λ sense s. (sym (l.labels sense s none ∙ append-nil part.labels.items), sym (l.bad sense s none ∙ or-false part.bad_range))) l.further
 
     outer_got : IsGot limit (λ sense tree (x : Position). (x.labels.items ≡ labels_of reader.source.now sense (first_ranges tree)) × (x.bad_range ≡ bad_of reader.source.now sense (first_ranges tree))) (Stays inner new (opened w o)) (the Range · many (token Comma · the Range)) reader start new (opened w o) part next
     outer_got = got_inside (λ (r : Reader) sense tree (x : Position). (x.labels.items ≡ labels_of r.source.now sense (first_ranges tree)) × (x.bad_range ≡ bad_of r.source.now sense (first_ranges tree))) o listed_got

@@ -1,4 +1,5 @@
 -- The end of a source is its last token, and no other token is an end; nor is any token of a program.
+use Rattle.gms_grammar.proofs.Basics.{not_true}
 use Rattle.std.proofs.Common.{◌≡◌, ℕ, ◌+◌, ◌==◌, ◌&&◌, ◌||◌, Bool, true, false, not, nat_lt, nat_le, if◌then◌else◌, List, [], ◌∷◌, ◌++◌, take, drop, Option, Some, None, Ok, Err, refl, sym, ap, ◌∙◌, subst}
 use Rattle.std.proofs.lemmas.List.{map_push}
 use Rattle.std.specs.List.{prefix_len}
@@ -146,14 +147,10 @@ abbrev pub is_other : Terminal → Bool
 is_other kind = not (is End kind)
 
 kind_other : (k : Kind) (text : List ℕ) → is_end_piece (piece.Token k) ≡ false → is_other (terminal_of k text) ≡ true
-kind_other k text h = go (is End (terminal_of k text)) refl
-  where
-    go : (b : Bool) → is End (terminal_of k text) ≡ b → not b ≡ true
-    go false e = refl
-    go true e =
-        let end : k ≡ kind.End = lone_as End refl k text (sym (same_kind End (terminal_of k text) e)) in
-        let not_end : is_end_piece (piece.Token kind.End) ≡ false = sym (ap (λ (x : Kind). is_end_piece (piece.Token x)) end) ∙ h in
-        cc
+kind_other k text h = ap not (not_true (is End (terminal_of k text)) (λ e.
+    let end : k ≡ kind.End = lone_as End refl k text (sym (same_kind End (terminal_of k text) e)) in
+    let not_end : is_end_piece (piece.Token kind.End) ≡ false = sym (ap (λ (x : Kind). is_end_piece (piece.Token x)) end) ∙ h in
+    cc))
 
 front_other : (source : List ℕ) (at : Place) (p : Piece) (from to : ℕ) (others : List Token) → is_end_piece p ≡ false → AllPass is_other (seen source others) → AllPass is_other (seen source (token_of_piece at p from to ++ others))
 front_other source at (piece.Token k) from to others h rest = (kind_other k (token_text source (record { kind = k; start = from; end = to; at = at })) h, rest)

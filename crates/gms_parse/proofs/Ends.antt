@@ -1,4 +1,5 @@
 -- The end of the source is a token: behind any other there is a further one.
+use Rattle.gms_grammar.proofs.Orders.{order, at_once, earlier, later, some_there}
 use Rattle.std.proofs.Common.{◌≡◌, ℕ, ◌-◌, ◌<◌, Bool, true, false, List, [], ◌∷◌, ◌++◌, length, map, take, drop, refl, sym, ap, ◌∙◌, arith}
 use Rattle.std.proofs.lemmas.List.{length-drop, length-map, take-append-drop}
 use Rattle.gms_lex.specs.declared.token.Token.{Token}
@@ -23,14 +24,6 @@ seen_token reader t = (terminal_of t.kind (token_text reader.source.now t), t)
 pub length_seen : (reader : Reader) (at : ℕ) → length (seen_from reader at) ≡ length reader.tokens.now - at
 length_seen reader at = length-map (drop at reader.tokens.now) (seen_token reader) ∙ length-drop at reader.tokens.now
 
-abbrev last_or : {T : Type 0} → T → List T → T
-last_or d [] = d
-last_or d (x ∷ xs) = last_or x xs
-
-last_pushed : {T : Type 0} (d : T) (xs : List T) (x : T) → last_or d (xs ++ x ∷ []) ≡ x
-last_pushed d [] x = refl
-last_pushed d (y ∷ xs) x = last_pushed y xs x
-
 module _ {reader : Reader} {test : Terminal → Bool} {at behind : ℕ} {t : Token} (ready : IsReady reader) (n : IsNext test reader at t behind) where
   -- the last token is the end
   alone : (drop at reader.tokens.now ≡ t ∷ []) → n.kind ≡ End
@@ -38,7 +31,11 @@ module _ {reader : Reader} {test : Terminal → Bool} {at behind : ℕ} {t : Tok
       let tokens = reader.tokens.now in
       let front = tokens_of reader.source.now 0 ready.tokens.has.pieces in
       let all : take at tokens ++ t ∷ [] ≡ front ++ end_token reader.source.now ∷ [] = ap (λ u. take at tokens ++ u) (sym e) ∙ take-append-drop at tokens ∙ ready.tokens.has.tokens_are in
-      let same : t ≡ end_token reader.source.now = sym (last_pushed t (take at tokens) t) ∙ ap (last_or t) all ∙ last_pushed t front (end_token reader.source.now) in
+      let same : t ≡ end_token reader.source.now = elim (order (take at tokens) t [] front (end_token reader.source.now) [] all) [
+        | at_once e f g ↦ f
+        | earlier w e g ↦ absurd (some_there w (end_token reader.source.now) [] g)
+        | later w e g ↦ absurd (some_there w t [] g)
+      ] in
       n.kind_is ∙ ap (λ (x : Token). terminal_of x.kind (token_text reader.source.now x)) same
 
   one_left : (us : List Token) → map (seen_token reader) us ≡ (n.kind, t) ∷ [] → us ≡ t ∷ []

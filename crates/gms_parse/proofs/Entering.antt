@@ -1,4 +1,7 @@
 -- Names that are entered, numbers, and signs.
+use Rattle.std.proofs.lemmas.Bool.{not-true}
+use Rattle.gms_expressions.proofs.TokenKinds.{also}
+use Rattle.gms_table.specs.WordLabels.{all_entered}
 use Rattle.std.proofs.Common.{◌≡◌, ℕ, ◌≤◌, Bool, true, false, cond, not, ◌&&◌, ◌||◌, List, [], ◌∷◌, refl, sym, ap, ap₂, ◌∙◌, subst, arith, inl, inr}
 use Rattle.gq_number.specs.Number.{Number as Rational}
 use Rattle.gq_text.specs.Decimal.{MeansNumber}
@@ -8,7 +11,7 @@ use Rattle.gms_lex.specs.declared.token.Token.{Token}
 use Rattle.gms_lex.specs.TokenTexts.{token_text}
 use Rattle.gms_grammar.specs.declared.terminal.Terminal.{Terminal}
 use Rattle.gms_grammar.specs.declared.terminal.Terminal.TheVariants as terminal
-use Rattle.gms_grammar.specs.declared.terminal.Terminal.TheVariants.{LeftParen, Name, Suffix, Number, Sign, Dot, Using, Option}
+use Rattle.gms_grammar.specs.declared.terminal.Terminal.TheVariants.{LeftParen, Name, Suffix, Number, Sign}
 use Rattle.gms_grammar.specs.Grammar.{one, opt, leaf}
 use Rattle.gms_grammar.specs.Reading.{leads}
 use Rattle.gms_grammar.specs.Terminals.{is, is_among}
@@ -25,67 +28,37 @@ use Rattle.gms_parse.specs.declared.reader.Tables.{Tables}
 use Rattle.gms_grammar.proofs.Basics.{not_true}
 use Rattle.gms_expressions.specs.Outcomes.{unexpected_error}
 use Rattle.gms_parse.specs.DataLists.{opposed}
-use Rattle.gms_parse.specs.Walks.{Seen, Walk, walk_after, new_labels, is_name, last_kind, IsFaulty, deep, out_of_range, many_names, many_labels, in_table, without_lines}
+use Rattle.gms_parse.specs.Walks.{Seen, Walk, is_name, IsFaulty, deep, out_of_range, many_names, many_labels, in_table, without_lines}
 use Rattle.gms_parse.specs.Readings.{Gives, Refuses, IsGot, Has, Starts, Stays, IsNext, IsEntered, IsNotEntered, IsTooLarge, IsLacking, IsUnopened, seen_from, kind_of}
 use Rattle.gms_parse.specs.Meanings.{IsNamed, IsSign}
 use Rattle.gms_parse.proofs.TokenKinds.{begins, same_kind}
-use Rattle.gms_parse.proofs.Walks.{keyword_after, room_for_none}
+use Rattle.gms_parse.proofs.Walks.{is_mute, is_free, mute_after, free_sound, room_for_none}
 use Rattle.gms_parse.proofs.Steps.{got_by, gives_one, gives_none, gives_some, takes_next, refuses_token, refuses_memory}
-use Rattle.gms_parse.proofs.Nexts.{past, exact, led_next, refuses_lacking, gives_exact, plain_stays, stays_same}
+use Rattle.gms_parse.proofs.Nexts.{past, exact, led_next, refuses_lacking, gives_exact, stays_by, plain_stays, stays_same}
 
 abbrev pub is_named : Terminal → Bool
 is_named = is_among (Name ∷ Suffix ∷ [])
 
--- a name, where it is one
-name_there : (w : Walk) (kind : Terminal) → is_named kind ≡ true → is_among (Dot ∷ Using ∷ []) (last_kind w.before) ≡ false → is Option w.keyword ≡ false → is_name w kind ≡ true
-name_there w kind h d o = ap₂ (λ a b. a && not b) h (ap₂ (λ a b. a || b) d o)
-
-name_new : (source : List ℕ) (w : Walk) (kind : Terminal) (t : Token) (ahead : Terminal) → is_named kind ≡ true → new_labels source w (kind, t) ahead ≡ []
-name_new source w Name t ahead h = refl
-name_new source w Suffix t ahead h = refl
-name_new source w _ t ahead h = cc
-
-name_labels : (source : List ℕ) (w : Walk) (kind : Terminal) (t : Token) (ahead : Terminal) → is_named kind ≡ true → ((walk_after source w (kind, t) ahead).labels ≡ w.labels) × ((walk_after source w (kind, t) ahead).open_count ≡ w.open_count) × (begins kind ≡ false)
-name_labels source w Name t ahead h = (refl, refl, refl)
-name_labels source w Suffix t ahead h = (refl, refl, refl)
-name_labels source w _ t ahead h = cc
-
+-- a name stands here
 named_there : {reader : Reader} {at behind : ℕ} {t : Token} {old : Tables} {w : Walk} (n : IsNext is_named reader at t behind) → Starts reader old w → is_name w n.kind ≡ true
-named_there {w = w} n s = name_there w n.kind n.passes s.undotted s.optionless
+named_there n s = ap₂ (λ a b. a && not b) n.passes (ap₂ (λ a b. a || b) s.undotted s.optionless)
 
 name_sound : (limit : ℕ) {reader : Reader} {at behind : ℕ} {t : Token} {old : Tables} {w : Walk} (n : IsNext is_named reader at t behind) → Starts reader old w → (IsFullFor old.names (token_text reader.source.now t) → ⊥) → (fault : SourceFault) →
     IsFaulty limit reader.source.now w (n.kind, t) (kind_of (seen_from reader behind)) fault → ⊥
-name_sound limit n s room fault (deep e d) = let k : is_named LeftParen ≡ true = ap is_named (sym e) ∙ n.passes in cc
-name_sound limit n s room fault (out_of_range e d) = let k : is_named Number ≡ true = ap is_named (sym e) ∙ n.passes in cc
-name_sound limit {reader} {t = t} n s room fault (many_names e d) = room (subst (λ (ns : List (List ℕ)). IsFullFor ns (token_text reader.source.now t)) s.has.holds.names d)
-name_sound limit {reader} {behind = behind} {t = t} {w = w} n s room fault (many_labels e d) = room_for_none w.labels _ (name_new reader.source.now w n.kind t (kind_of (seen_from reader behind)) n.passes) d
-name_sound limit n s room fault (in_table e d f) = let k : is_named terminal.TableLine ≡ true = ap is_named (sym e) ∙ n.passes in cc
-name_sound limit n s room fault (without_lines e d f) = let k : is_named terminal.RightParen ≡ true = ap is_named (sym e) ∙ n.passes in cc
+name_sound limit {reader} {behind = behind} {t = t} {w = w} n s room =
+    free_sound limit reader.source.now w n.kind t (kind_of (seen_from reader behind)) (also is_named is_free refl n.kind n.passes) (λ e d. room (subst (λ (ns : List (List ℕ)). IsFullFor ns (token_text reader.source.now t)) s.has.holds.names d))
+    (room_for_none w.labels _ (mute_after reader.source.now w n.kind t (kind_of (seen_from reader behind)) (also is_named is_mute refl n.kind n.passes)).1)
 
 -- a name was entered, and has this number
 pub name_got : {limit : ℕ} {reader : Reader} {at behind : ℕ} {t : Token} {old : Tables} {w : Walk} (n : IsNext is_named reader at t behind) → Starts reader old w → (number : ℕ) (texts : List ℕ) → texts ≡ token_text reader.source.now t → (names : List (List ℕ)) → IsEntered old.names names texts number →
     (new : Tables) → new.names ≡ names → new.labels ≡ old.labels → IsGot limit (IsNamed reader.source.now) (Stays reader new w) name reader at new w (record { at = t.at; name = number }) behind
 name_got {limit} {reader} {at} {behind} {t} {old} {w} n s number texts is names entered_there new same labels =
     let text = token_text reader.source.now t in
-    let k = name_labels reader.source.now w n.kind t (kind_of (seen_from reader behind)) n.passes in
-    let b = keyword_after reader.source.now w (n.kind, t) (kind_of (seen_from reader behind)) k.2 in
-    let lower = s.has.level in
-    let opens = k.1 in
-    let level = b.1 in
+    let m = mute_after reader.source.now w n.kind t (kind_of (seen_from reader behind)) (also is_named is_mute refl n.kind n.passes) in
     let table : IsEntered old.names names text number = subst (λ (x : List ℕ). IsEntered old.names names x number) is entered_there in
     got_by (gives_one n.is n.passes (name_sound limit n s table.room) refl)
-    (record {
-      has = record {
-        holds = record {
-          open_count = k.1 ∙ s.has.holds.open_count;
-          names = ap (λ c. cond c (entered w.names text) w.names) (named_there n s) ∙ ap (λ (ns : List (List ℕ)). entered ns text) s.has.holds.names ∙ sym table.table ∙ sym same;
-          labels = k.0 ∙ s.has.holds.labels ∙ sym labels;
-        };
-        level = omega (arith, lower, opens, level);
-      };
-      keyword = b.0;
-      level = b.1;
-    })
+    (stays_by reader w n.kind t behind (not-true (begins n.kind) (also is_named (λ k. not (begins k)) refl n.kind n.passes)) s.has m.0
+    (ap (λ c. cond c (entered w.names text) w.names) (named_there n s) ∙ ap (λ (ns : List (List ℕ)). entered ns text) s.has.holds.names ∙ sym table.table ∙ sym same) (ap (all_entered w.labels) m.1 ∙ s.has.holds.labels ∙ sym labels))
     (λ sense m. ap (λ v. record { at = t.at; name = v }) (sym (ap or_0 (m.names text number (ap (λ (ns : List (List ℕ)). place_of ns text) same ∙ table.place))))) (let g = n.further in omega arith)
 
 -- there is no room for a name

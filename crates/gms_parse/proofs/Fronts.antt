@@ -49,11 +49,10 @@ joined : {p q r : GamsPart} {ts between rest : List Seen} (a : Derivation) (c : 
     ((u : List Seen) (x : Seen) (v : List Seen) → yield a ≡ u ++ (x ∷ v) → Takes productions look_ahead p ts (u ++ x ∷ []) (v ++ between)) →
     ((u : List Seen) (x : Seen) (v : List Seen) → c ≡ u ++ (x ∷ v) → Takes productions look_ahead q between (u ++ x ∷ []) (v ++ rest)) →
     between ≡ c ++ rest → (u : List Seen) (x : Seen) (v : List Seen) → yield a ++ c ≡ u ++ (x ∷ v) → Takes productions look_ahead r ts (u ++ x ∷ []) (v ++ rest)
-joined {p} {q} {r} {ts} {between} {rest} a c first second f g is u x v e = go (split (yield a) c u x v e)
-  where
-    go : Split (yield a) c u x v → Takes productions look_ahead r ts (u ++ x ∷ []) (v ++ rest)
-    go (inside w h k) = subst (λ z. Takes productions look_ahead r ts (u ++ x ∷ []) z) (ap (λ y. w ++ y) is ∙ sym (append_assoc w c rest) ∙ ap (λ y. y ++ rest) (sym k)) (first _ _ (f u x w h))
-    go (beyond w h k) = subst (λ z. Takes productions look_ahead r ts z (v ++ rest)) (sym (append_assoc (yield a) w (x ∷ [])) ∙ ap (λ y. y ++ x ∷ []) (sym h)) (second _ _ (g w x v k))
+joined {p} {q} {r} {ts} {between} {rest} a c first second f g is u x v e = elim (split (yield a) c u x v e) [
+  | inside w h k ↦ subst (λ z. Takes productions look_ahead r ts (u ++ x ∷ []) z) (ap (λ y. w ++ y) is ∙ sym (append_assoc w c rest) ∙ ap (λ y. y ++ rest) (sym k)) (first _ _ (f u x w h))
+  | beyond w h k ↦ subst (λ z. Takes productions look_ahead r ts z (v ++ rest)) (sym (append_assoc (yield a) w (x ∷ [])) ∙ ap (λ y. y ++ x ∷ []) (sym h)) (second _ _ (g w x v k))
+]
 
 -- each token that was gone over ends a front
 pub takes_front : {p : GamsPart} {ts : List Seen} {found : Found Seen} → Reads productions look_ahead p ts found → (u : List Seen) (x : Seen) (v : List Seen) → front_of found ≡ u ++ (x ∷ v) → Takes productions look_ahead p ts (u ++ x ∷ []) (v ++ rest_of found)

@@ -80,17 +80,11 @@ lead_same {p} {inner} {ts} {rest} {c = c} e l = subst (λ (w : List Seen). Leadi
 name_led : (ts : List Seen) → leads productions look_ahead (name · opt (the Lag)) ts ≡ true → leads productions look_ahead (name · the AfterHeadName) ts ≡ true
 name_led ts h = led_more (name · opt (the Lag)) (name · the AfterHeadName) ts refl refl refl h
 
-lag_led : (ts : List Seen) → leads productions look_ahead (the Lag) ts ≡ true → leads productions look_ahead (the Lag · the AfterLag) ts ≡ true
-lag_led ts h = led_more (the Lag) (the Lag · the AfterLag) ts refl refl refl h
+lag_alike : (ts : List Seen) → leads productions look_ahead (the Lag) ts ≡ leads productions look_ahead (the Lag · the AfterLag) ts
+lag_alike ts = leads_alike (the Lag) (the Lag · the AfterLag) ts refl refl (same_test _ _ refl)
 
-lag_unled : (ts : List Seen) → leads productions look_ahead (the Lag) ts ≡ false → leads productions look_ahead (the Lag · the AfterLag) ts ≡ false
-lag_unled ts h = unled_less (the Lag · the AfterLag) (the Lag) ts refl refl refl h
-
-comma_led : (ts : List Seen) → leads productions look_ahead (token Comma · the Index) ts ≡ true → leads productions look_ahead (token Comma · the HeadIndices) ts ≡ true
-comma_led ts h = led_more (token Comma · the Index) (token Comma · the HeadIndices) ts refl refl refl h
-
-comma_unled : (ts : List Seen) → leads productions look_ahead (token Comma · the Index) ts ≡ false → leads productions look_ahead (token Comma · the HeadIndices) ts ≡ false
-comma_unled ts h = unled_less (token Comma · the HeadIndices) (token Comma · the Index) ts refl refl refl h
+comma_alike : (ts : List Seen) → leads productions look_ahead (token Comma · the Index) ts ≡ leads productions look_ahead (token Comma · the HeadIndices) ts
+comma_alike ts = leads_alike (token Comma · the Index) (token Comma · the HeadIndices) ts refl refl (same_test _ _ refl)
 
 abbrev suffixed_rest : GamsPart
 suffixed_rest = the Attribute · opt (bracketed (the IndexList)) · the AfterTarget
@@ -98,17 +92,11 @@ suffixed_rest = the Attribute · opt (bracketed (the IndexList)) · the AfterTar
 abbrev plain_rest : GamsPart
 plain_rest = token LeftParen · the HeadIndices ∣ the AfterHead
 
-dotted_led : (ts : List Seen) → leads productions look_ahead (the Attribute) ts ≡ true → leads productions look_ahead suffixed_rest ts ≡ true
-dotted_led ts h = led_more (the Attribute) suffixed_rest ts refl refl refl h
+dotted_alike : (ts : List Seen) → leads productions look_ahead (the Attribute) ts ≡ leads productions look_ahead suffixed_rest ts
+dotted_alike ts = leads_alike (the Attribute) suffixed_rest ts refl refl (same_test _ _ refl)
 
-dotted_unled : (ts : List Seen) → leads productions look_ahead (the Attribute) ts ≡ false → leads productions look_ahead suffixed_rest ts ≡ false
-dotted_unled ts h = unled_less suffixed_rest (the Attribute) ts refl refl refl h
-
-paren_led : (ts : List Seen) → leads productions look_ahead (bracketed (the IndexList)) ts ≡ true → leads productions look_ahead (token LeftParen · the HeadIndices) ts ≡ true
-paren_led ts h = led_more (bracketed (the IndexList)) (token LeftParen · the HeadIndices) ts refl refl refl h
-
-paren_unled : (ts : List Seen) → leads productions look_ahead (bracketed (the IndexList)) ts ≡ false → leads productions look_ahead (token LeftParen · the HeadIndices) ts ≡ false
-paren_unled ts h = unled_less (token LeftParen · the HeadIndices) (bracketed (the IndexList)) ts refl refl refl h
+paren_alike : (ts : List Seen) → leads productions look_ahead (bracketed (the IndexList)) ts ≡ leads productions look_ahead (token LeftParen · the HeadIndices) ts
+paren_alike ts = leads_alike (bracketed (the IndexList)) (token LeftParen · the HeadIndices) ts refl refl (same_test _ _ refl)
 
 plain_led : (ts : List Seen) → leads productions look_ahead (bracketed (the IndexList)) ts ≡ true → leads productions look_ahead plain_rest ts ≡ true
 plain_led ts h = led_more (bracketed (the IndexList)) plain_rest ts refl refl refl h
@@ -118,7 +106,7 @@ plain_led ts h = led_more (bracketed (the IndexList)) plain_rest ts refl refl re
 -- behind a name without a lag
 behind_name : (ts : List Seen) → leads productions look_ahead (the Lag) ts ≡ false → Leading (the AfterHeadName) ts [] (the AfterHeadIndex) ts (λ b. node (right b))
 behind_name ts h = record {
-  reads = λ a behind r. entered (in_right (lag_unled ts h) (led r) r);
+  reads = λ a behind r. entered (in_right (sym (lag_alike ts) ∙ h) (led r) r);
   yields = λ a. refl;
   sticks = λ u behind r. entered_stuck (sticks_on r);
   takes = λ u behind t. takes_the (takes_right t);
@@ -132,9 +120,9 @@ behind_name ts h = record {
     alike = leads_alike (the AfterHeadIndex) (productions AfterHeadIndex) ts refl refl (same_test _ _ refl)
 
     sticks_on : {u behind : List Seen} → Reads productions look_ahead (the AfterHeadIndex) ts (stuck u behind) → Reads productions look_ahead (productions AfterHeadName) ts (stuck u behind)
-    sticks_on (entered_stuck (in_left_stuck k r)) = in_right_stuck (lag_unled ts h) (led_more (token Comma · the HeadIndices) (the AfterHeadIndex) ts refl refl refl k) (entered_stuck (in_left_stuck k r))
-    sticks_on (entered_stuck (in_right_stuck j k r)) = in_right_stuck (lag_unled ts h) (led_more (token RightParen · the AfterHead) (the AfterHeadIndex) ts refl refl refl k) (entered_stuck (in_right_stuck j k r))
-    sticks_on (entered_stuck (in_neither j k)) = in_neither (lag_unled ts h) (alike ∙ unled_either (token Comma · the HeadIndices) (token RightParen · the AfterHead) ts j k)
+    sticks_on (entered_stuck (in_left_stuck k r)) = in_right_stuck (sym (lag_alike ts) ∙ h) (led_more (token Comma · the HeadIndices) (the AfterHeadIndex) ts refl refl refl k) (entered_stuck (in_left_stuck k r))
+    sticks_on (entered_stuck (in_right_stuck j k r)) = in_right_stuck (sym (lag_alike ts) ∙ h) (led_more (token RightParen · the AfterHead) (the AfterHeadIndex) ts refl refl refl k) (entered_stuck (in_right_stuck j k r))
+    sticks_on (entered_stuck (in_neither j k)) = in_neither (sym (lag_alike ts) ∙ h) (alike ∙ unled_either (token Comma · the HeadIndices) (token RightParen · the AfterHead) ts j k)
 
 -- an index without a lag: a comma and a further index, or the parenthesis that closes, stand behind it
 record PlainIndex (first : Derivation) (ts between : List Seen) : Type 0 where
@@ -176,7 +164,7 @@ index_goes {ts} {between} (entered (in_right h k (both {a = w} r (left_out l))))
 index_goes {ts} (entered (in_right h k (both {between = us} {a = w} r (there l (entered (both {a = sign} {b = amount} p q)))))) = inr (record {
   wrap = λ b. node (right (pair w (node (left (pair (node (pair sign amount)) b)))));
   leading = lead_same (ap (λ v. yield w ++ v) (end_nil (yield sign ++ yield amount)))
-      (lead_the HeadIndices (lead_right (unled_next (is Text) (the AfterHeadIndex) ts h) (name_led ts k) (lead_second r (lead_the AfterHeadName (lead_left (lag_led us l) (lead_second (entered (both p q)) lead_here))))));
+      (lead_the HeadIndices (lead_right (unled_next (is Text) (the AfterHeadIndex) ts h) (name_led ts k) (lead_second r (lead_the AfterHeadName (lead_left (sym (lag_alike us) ∙ l) (lead_second (entered (both p q)) lead_here))))));
   act_is = λ source s target others closing b. refl;
   indices_are = λ source s others b. refl;
   lagged = λ source s rest. refl;
@@ -216,7 +204,7 @@ before_plain : {ts between us rest : List Seen} {comma : Seen} (first second oth
     PlainList second others us rest → PlainList first (more (pair (leaf comma) second) others) ts rest
 before_plain {between = between} {comma = comma} first second others p h c l = record {
   wrap = λ b. p.wrap (node (left (pair (leaf comma) (l.wrap b))));
-  leading = lead_then p.leading (lead_the AfterHeadIndex (lead_left (comma_led between h) (lead_second c l.leading)));
+  leading = lead_then p.leading (lead_the AfterHeadIndex (lead_left (sym (comma_alike between) ∙ h) (lead_second c l.leading)));
   over = l.over;
   act_closed = λ source s target closing b. p.act_on source s target (leaf comma) (l.wrap (node (right (pair closing b)))) ∙ l.act_closed source s target closing b;
   indices_are = λ source s closing b. p.indices_on source s (leaf comma) (l.wrap (node (right (pair closing b)))) ∙ ap (index source s.names s.labels first) (l.indices_are source s closing b);
@@ -227,7 +215,7 @@ before_lagged : {ts between us rest : List Seen} {comma : Seen} (first second ot
     LaggedList second others us rest → LaggedList first (more (pair (leaf comma) second) others) ts rest
 before_lagged {between = between} {comma = comma} first second others p h c l = record {
   wrap = λ b. p.wrap (node (left (pair (leaf comma) (l.wrap b))));
-  leading = lead_then p.leading (lead_the AfterHeadIndex (lead_left (comma_led between h) (lead_second c l.leading)));
+  leading = lead_then p.leading (lead_the AfterHeadIndex (lead_left (sym (comma_alike between) ∙ h) (lead_second c l.leading)));
   act_closed = λ source s target closing b. p.act_on source s target (leaf comma) (l.wrap (pair closing b)) ∙ l.act_closed source s target closing b;
   indices_are = λ source s b. p.indices_on source s (leaf comma) (l.wrap b) ∙ ap (index source s.names s.labels first) (l.indices_are source s b);
   lagged = λ source s. p.lagless source s (index source s.names s.labels second (more_indices source s.names s.labels others)) ∙ l.lagged source s;
@@ -259,7 +247,7 @@ index_stuck : {ts u behind : List Seen} → Reads productions look_ahead (the In
 index_stuck {ts} (entered_stuck (in_left_stuck h (refused k))) = absurd (both_ways _ h k)
 index_stuck {ts} (entered_stuck (in_right_stuck h k (first_stuck (refused l)))) = absurd (both_ways _ k (unled_next (is_among (Name ∷ SuffixWord ∷ [])) (opt (the Lag)) ts l))
 index_stuck {ts} (entered_stuck (in_right_stuck h k (second_stuck {between = us} r (there_stuck l s)))) =
-    entered_stuck (in_right_stuck (unled_next (is Text) (the AfterHeadIndex) ts h) (name_led ts k) (second_stuck r (entered_stuck (in_left_stuck (lag_led us l) (first_stuck s)))))
+    entered_stuck (in_right_stuck (unled_next (is Text) (the AfterHeadIndex) ts h) (name_led ts k) (second_stuck r (entered_stuck (in_left_stuck (sym (lag_alike us) ∙ l) (first_stuck s)))))
 index_stuck {ts} (entered_stuck (in_neither h k)) =
     entered_stuck (in_neither (unled_next (is Text) (the AfterHeadIndex) ts h) (unled_less (name · the AfterHeadName) (name · opt (the Lag)) ts refl refl refl k))
 
@@ -279,8 +267,8 @@ taken_behind {u = u} {behind = behind} r a m = elim (index_goes r) [ inl p ↦ p
 
 others_stuck : {ts between u behind : List Seen} {first : Derivation} → Reads productions look_ahead (the Index) ts (read first between) → Reads productions look_ahead (many (token Comma · the Index)) between (stuck u behind) → Reads productions look_ahead (the HeadIndices) ts (stuck (yield first ++ u) behind)
 others_stuck {between = between} r (again_stuck h (first_stuck (refused k))) = absurd (both_ways _ h (unled_next (is Comma) (the Index) between k))
-others_stuck {between = between} r (again_stuck h (second_stuck c s)) = stuck_behind r (entered_stuck (in_left_stuck (comma_led between h) (second_stuck c (index_stuck s)))) (again_stuck h (second_stuck c s))
-others_stuck {between = between} r (later_stuck h (both (taken k) s) m) = stuck_behind r (entered_stuck (in_left_stuck (comma_led between h) (second_stuck (taken k) (others_stuck s m)))) (later_stuck h (both (taken k) s) m)
+others_stuck {between = between} r (again_stuck h (second_stuck c s)) = stuck_behind r (entered_stuck (in_left_stuck (sym (comma_alike between) ∙ h) (second_stuck c (index_stuck s)))) (again_stuck h (second_stuck c s))
+others_stuck {between = between} r (later_stuck h (both (taken k) s) m) = stuck_behind r (entered_stuck (in_left_stuck (sym (comma_alike between) ∙ h) (second_stuck (taken k) (others_stuck s m)))) (later_stuck h (both (taken k) s) m)
 
 others_taken : {ts between u behind : List Seen} {first : Derivation} → Reads productions look_ahead (the Index) ts (read first between) → Takes productions look_ahead (many (token Comma · the Index)) between u behind → Takes productions look_ahead (the HeadIndices) ts (yield first ++ u) behind
 others_taken r (takes_many (takes_first (takes_one h))) = taken_behind r (takes_the (takes_left (takes_first (takes_one h)))) (takes_many (takes_first (takes_one h)))
@@ -298,7 +286,7 @@ list_taken (takes_the (takes_second r t)) = others_taken r t
 -- no parenthesis closes them
 unclosed : {ts rest : List Seen} {list : Derivation} → Reads productions look_ahead (the IndexList) ts (read list rest) → leads productions look_ahead (token RightParen) rest ≡ false → Reads productions look_ahead (the HeadIndices) ts (stuck (yield list ++ []) rest)
 unclosed {rest = rest} (entered (both r m)) h = elim (list_goes r m) [
-  | inl p ↦ p.leading.sticks [] rest (entered_stuck (in_neither (comma_unled rest p.over) (unled_next (is RightParen) (the AfterHead) rest h)))
+  | inl p ↦ p.leading.sticks [] rest (entered_stuck (in_neither (sym (comma_alike rest) ∙ p.over) (unled_next (is RightParen) (the AfterHead) rest h)))
   | inr l ↦ l.leading.sticks [] rest (first_stuck (refused h))
 ]
 
@@ -312,13 +300,13 @@ closed_taken {u = u} {behind = behind} (entered (both r m)) t = elim (list_goes 
 
 pub target_stuck : {ts u behind : List Seen} → Reads productions look_ahead (the Target) ts (stuck u behind) → Reads productions look_ahead (the NamedStatement) ts (stuck u behind)
 target_stuck (entered_stuck (first_stuck r)) = entered_stuck (first_stuck r)
-target_stuck (entered_stuck (second_stuck {between = us} r (first_stuck (there_stuck h s)))) = entered_stuck (second_stuck r (entered_stuck (in_left_stuck (dotted_led us h) (first_stuck s))))
-target_stuck (entered_stuck (second_stuck {between = us} r (second_stuck (there h s) m))) = entered_stuck (second_stuck r (entered_stuck (in_left_stuck (dotted_led us h) (second_stuck s (first_stuck m)))))
+target_stuck (entered_stuck (second_stuck {between = us} r (first_stuck (there_stuck h s)))) = entered_stuck (second_stuck r (entered_stuck (in_left_stuck (sym (dotted_alike us) ∙ h) (first_stuck s))))
+target_stuck (entered_stuck (second_stuck {between = us} r (second_stuck (there h s) m))) = entered_stuck (second_stuck r (entered_stuck (in_left_stuck (sym (dotted_alike us) ∙ h) (second_stuck s (first_stuck m)))))
 target_stuck (entered_stuck (second_stuck {between = us} r (second_stuck (left_out h) (there_stuck k (first_stuck (refused l)))))) = absurd (both_ways _ k (unled_next (is LeftParen) (the IndexList · token RightParen) us l))
 target_stuck (entered_stuck (second_stuck {between = us} r (second_stuck (left_out h) (there_stuck k (second_stuck (taken l) (first_stuck m)))))) =
-    entered_stuck (second_stuck r (entered_stuck (in_right_stuck (dotted_unled us h) (plain_led us k) (in_left_stuck (paren_led us k) (second_stuck (taken l) (list_stuck m))))))
+    entered_stuck (second_stuck r (entered_stuck (in_right_stuck (sym (dotted_alike us) ∙ h) (plain_led us k) (in_left_stuck (sym (paren_alike us) ∙ k) (second_stuck (taken l) (list_stuck m))))))
 target_stuck (entered_stuck (second_stuck {between = us} r (second_stuck (left_out h) (there_stuck k (second_stuck (taken l) (second_stuck m (refused j))))))) =
-    entered_stuck (second_stuck r (entered_stuck (in_right_stuck (dotted_unled us h) (plain_led us k) (in_left_stuck (paren_led us k) (second_stuck (taken l) (unclosed m j))))))
+    entered_stuck (second_stuck r (entered_stuck (in_right_stuck (sym (dotted_alike us) ∙ h) (plain_led us k) (in_left_stuck (sym (paren_alike us) ∙ k) (second_stuck (taken l) (unclosed m j))))))
 
 pub target_taken : {ts u behind : List Seen} → Takes productions look_ahead (the Target) ts u behind → Takes productions look_ahead (the NamedStatement) ts u behind
 target_taken (takes_the (takes_first t)) = takes_the (takes_first t)
@@ -362,7 +350,7 @@ unconditioned = the Condition ∣ token Equals · the Expression ∣ token DotDo
 -- neither a suffix nor indices
 bare : (ts : List Seen) → leads productions look_ahead (the Attribute) ts ≡ false → leads productions look_ahead (bracketed (the IndexList)) ts ≡ false → Leading (the AfterName) ts [] (the AfterHead) ts (λ b. node (right (right b)))
 bare ts h k = record {
-  reads = λ a behind r. entered (in_right (dotted_unled ts h) (led_more (the AfterHead) plain_rest ts refl refl refl (led r)) (in_right (paren_unled ts k) (led r) r));
+  reads = λ a behind r. entered (in_right (sym (dotted_alike ts) ∙ h) (led_more (the AfterHead) plain_rest ts refl refl refl (led r)) (in_right (sym (paren_alike ts) ∙ k) (led r) r));
   yields = λ a. refl;
   sticks = λ u behind r. sticks_on r;
   takes = λ u behind t. takes_the (takes_right (takes_right t));
@@ -374,7 +362,7 @@ bare ts h k = record {
     led (entered (both (left_out l) (in_right i j s))) = led_more (token DotDot · the Sides) (the AfterHead) ts refl refl refl j
 
     sticks_led : {u behind : List Seen} → leads productions look_ahead (the AfterHead) ts ≡ true → Reads productions look_ahead (the AfterHead) ts (stuck u behind) → Reads productions look_ahead (the AfterName) ts (stuck u behind)
-    sticks_led l r = entered_stuck (in_right_stuck (dotted_unled ts h) (led_more (the AfterHead) plain_rest ts refl refl refl l) (in_right_stuck (paren_unled ts k) l r))
+    sticks_led l r = entered_stuck (in_right_stuck (sym (dotted_alike ts) ∙ h) (led_more (the AfterHead) plain_rest ts refl refl refl l) (in_right_stuck (sym (paren_alike ts) ∙ k) l r))
 
     alike : leads productions look_ahead plain_rest ts ≡ leads productions look_ahead (token LeftParen · the HeadIndices ∣ unconditioned) ts
     alike = leads_alike plain_rest (token LeftParen · the HeadIndices ∣ unconditioned) ts refl refl (same_test _ _ refl)
@@ -386,15 +374,15 @@ bare ts h k = record {
     sticks_on (entered_stuck (second_stuck (left_out l) (in_right_stuck i j s))) = sticks_led (led_more (token DotDot · the Sides) (the AfterHead) ts refl refl refl j) (entered_stuck (second_stuck (left_out l) (in_right_stuck i j s)))
     sticks_on (entered_stuck (second_stuck (left_out l) (in_neither i j))) =
         let neither = unled_either (the Condition) (token Equals · the Expression ∣ token DotDot · the Sides) ts l (unled_either (token Equals · the Expression) (token DotDot · the Sides) ts i j) in
-        entered_stuck (in_neither (dotted_unled ts h) (alike ∙ unled_either (token LeftParen · the HeadIndices) unconditioned ts (paren_unled ts k) neither))
+        entered_stuck (in_neither (sym (dotted_alike ts) ∙ h) (alike ∙ unled_either (token LeftParen · the HeadIndices) unconditioned ts (sym (paren_alike ts) ∙ k) neither))
 
 -- indices in parentheses
 headed : {ts us vs rest : List Seen} {opening closing : Seen} (word first others : Derivation) → Reads productions look_ahead name ts (read word us) → leads productions look_ahead (the Attribute) us ≡ false → leads productions look_ahead (bracketed (the IndexList)) us ≡ true →
     Reads productions look_ahead (token LeftParen) us (read (leaf opening) vs) → is RightParen closing.0 ≡ true → PlainList first others vs (closing ∷ rest) → Headed (node (pair word (pair none (some (pair (leaf opening) (pair (node (pair first others)) (leaf closing))))))) ts rest
 headed {us = us} {rest = rest} {opening = opening} {closing = closing} word first others r h k o c l = record {
   wrap = λ b. node (pair word (node (right (left (pair (leaf opening) (l.wrap (node (right (pair (leaf closing) b)))))))));
-  leading = lead_the NamedStatement (lead_second r (lead_the AfterName (lead_right (dotted_unled us h) (plain_led us k) (lead_left (paren_led us k) (lead_second o (lead_then l.leading
-      (lead_the AfterHeadIndex (lead_right (comma_unled (closing ∷ rest) l.over) (led_first (is RightParen) (the AfterHead) (closing ∷ rest) c) (lead_second (taken c) lead_here)))))))));
+  leading = lead_the NamedStatement (lead_second r (lead_the AfterName (lead_right (sym (dotted_alike us) ∙ h) (plain_led us k) (lead_left (sym (paren_alike us) ∙ k) (lead_second o (lead_then l.leading
+      (lead_the AfterHeadIndex (lead_right (sym (comma_alike (closing ∷ rest)) ∙ l.over) (led_first (is RightParen) (the AfterHead) (closing ∷ rest) c) (lead_second (taken c) lead_here)))))))));
   acts = λ source s b.
       let inner = l.wrap (node (right (pair (leaf closing) b))) in
       l.act_closed source s (target_at source s.names s.labels word suffix.None (head_indices source s.names s.labels inner)) (leaf closing) b
@@ -406,7 +394,7 @@ aimed : {ts us vs rest : List Seen} {opening closing : Seen} (word first others 
     Reads productions look_ahead (token LeftParen) us (read (leaf opening) vs) → is RightParen closing.0 ≡ true → LaggedList first others vs (closing ∷ rest) → Aimed (node (pair word (pair none (some (pair (leaf opening) (pair (node (pair first others)) (leaf closing))))))) ts rest
 aimed {us = us} {rest = rest} {opening = opening} {closing = closing} word first others r h k o c l = record {
   wrap = λ b. node (pair word (node (right (left (pair (leaf opening) (l.wrap (pair (leaf closing) b)))))));
-  leading = lead_the NamedStatement (lead_second r (lead_the AfterName (lead_right (dotted_unled us h) (plain_led us k) (lead_left (paren_led us k) (lead_second o (lead_then l.leading (lead_second (taken c) lead_here)))))));
+  leading = lead_the NamedStatement (lead_second r (lead_the AfterName (lead_right (sym (dotted_alike us) ∙ h) (plain_led us k) (lead_left (sym (paren_alike us) ∙ k) (lead_second o (lead_then l.leading (lead_second (taken c) lead_here)))))));
   acts = λ source s b.
       let inner = l.wrap (pair (leaf closing) b) in
       l.act_closed source s (target_at source s.names s.labels word suffix.None (head_indices source s.names s.labels inner)) (leaf closing) b
@@ -418,7 +406,7 @@ dotted : {ts us vs rest : List Seen} (word attribute indices : Derivation) → R
     Aimed (node (pair word (pair (some attribute) indices))) ts rest
 dotted {us = us} word attribute indices r h a m = record {
   wrap = λ b. node (pair word (node (left (pair attribute (pair indices b)))));
-  leading = lead_same (ap (λ v. yield word ++ (yield attribute ++ v)) (end_nil (yield indices))) (lead_the NamedStatement (lead_second r (lead_the AfterName (lead_left (dotted_led us h) (lead_second a (lead_second m lead_here))))));
+  leading = lead_same (ap (λ v. yield word ++ (yield attribute ++ v)) (end_nil (yield indices))) (lead_the NamedStatement (lead_second r (lead_the AfterName (lead_left (sym (dotted_alike us) ∙ h) (lead_second a (lead_second m lead_here))))));
   acts = λ source s b. refl;
   other = λ source s. and_first _ _ (attributed a source s);
 }

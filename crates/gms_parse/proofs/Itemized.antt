@@ -1,5 +1,5 @@
 -- The items of a declaration, which the grammar nests, read in a loop: a reading of the rest is one of the whole.
-use Rattle.std.proofs.Common.{◌≡◌, ℕ, ◌-◌, ◌<◌, ◌≤◌, false, List, [], ◌∷◌, ◌++◌, map, length, refl, sym, ap, ◌∙◌, subst, arith, append_assoc, inl, inr, ◌⊎◌}
+use Rattle.std.proofs.Common.{◌≡◌, ℕ, ◌-◌, ◌<◌, ◌≤◌, false, List, [], ◌∷◌, ◌++◌, map, length, refl, sym, ap, ◌∙◌, subst, arith, append_assoc, inl, inr}
 use Rattle.std.proofs.lemmas.List.{append-nil, map-append}
 use Rattle.gms_grammar.specs.declared.terminal.Terminal.TheVariants.{Comma, Break}
 use Rattle.gms_grammar.specs.Grammar.{the, ◌·◌, ◌∣◌, opt, leaf, pair, left, right, none, some, node}
@@ -130,13 +130,9 @@ module _ {T A : Type 0} {limit : ℕ} {show : T → A} {meaning : Sense → Deri
 
 -- the place behind the last item
 pub behind_break : {reader : Reader} {at behind : ℕ} → IsNotFurther reader at → IsPassed Break reader at behind → IsBehindLast reader at behind
-behind_break {reader} {at} {behind} u p = go u.1
+behind_break {reader} {at} {behind} u p = elim u.1 [ inl h ↦ (let k = led_next p.next in cc) | inr q ↦ inr (p, sym (ap (leads productions look_ahead name) (same_rest q.1)) ∙ q.2) ]
   where
     same_rest : {other : ℕ} → IsPassed Break reader at other → seen_from reader other ≡ seen_from reader behind
     same_rest {other} q =
         let e : (Break, q.token) ∷ seen_from reader other ≡ (Break, p.token) ∷ seen_from reader behind = sym (exact {kind = Break} q.next) ∙ exact {kind = Break} p.next in
         cc
-
-    go : (leads productions look_ahead (token Break) (seen_from reader at) ≡ false) ⊎ ((other : ℕ) × IsPassed Break reader at other × (leads productions look_ahead name (seen_from reader other) ≡ false)) → IsBehindLast reader at behind
-    go (inl h) = let k = led_next p.next in cc
-    go (inr q) = inr (p, sym (ap (leads productions look_ahead name) (same_rest q.1)) ∙ q.2)

@@ -1,5 +1,6 @@
 -- Elements with their positions, and lists of them.
-use Rattle.std.proofs.Common.{◌≡◌, ℕ, Bool, true, false, ◌||◌, List, [], ◌∷◌, ◌++◌, map, Some, None, Vec, refl, sym, ap, ap₂, ◌∙◌, subst, arith}
+use Rattle.std.proofs.Math.Bool.{or-false, or_assoc}
+use Rattle.std.proofs.Common.{◌≡◌, ℕ, Bool, false, ◌||◌, List, [], ◌∷◌, ◌++◌, map, Some, None, Vec, refl, sym, ap, ap₂, ◌∙◌, subst, arith}
 use Rattle.std.specs.declared.alloc.Global.{Global}
 use Rattle.std.proofs.lemmas.List.{map_push}
 use Rattle.gq_number.specs.Number.{Number as Rational}
@@ -44,24 +45,12 @@ pub record Positions (limit : ℕ) (reader : Reader) (start : ℕ) (w : Walk) (n
   pub listing : Listing limit (IsPart reader.source.now) (is Dot) (the ElementPart) reader start w new ghost at
 
 any_push : (f : Position → Bool) (xs : List Position) (x : Position) → any_true (map f (xs ++ x ∷ [])) ≡ (any_true (map f xs) || f x)
-any_push f [] x = or_none (f x)
-  where
-    or_none : (b : Bool) → (b || false) ≡ b
-    or_none true = refl
-    or_none false = refl
-any_push f (y ∷ xs) x = ap (λ b. f y || b) (any_push f xs x) ∙ or_assoc (f y) (any_true (map f xs)) (f x)
-  where
-    or_assoc : (a b c : Bool) → (a || (b || c)) ≡ ((a || b) || c)
-    or_assoc true b c = refl
-    or_assoc false b c = refl
-
-or_no : (b : Bool) → b ≡ (b || false)
-or_no true = refl
-or_no false = refl
+any_push f [] x = or-false (f x)
+any_push f (y ∷ xs) x = ap (λ b. f y || b) (any_push f xs x) ∙ sym (or_assoc (f y) (any_true (map f xs)) (f x))
 
 module _ {limit : ℕ} {reader : Reader} {start : ℕ} {w : Walk} where
   pub positions_start : {new : Tables} {part : Position} {at : ℕ} {bad : Bool} → IsGot limit (IsPart reader.source.now) (Stays reader new w) (the ElementPart) reader start new w part at → (parts : List (List ℕ)) → parts ≡ part.labels.items ∷ [] → bad ≡ part.bad_range → Positions limit reader start w new parts bad at
-  positions_start {part = part} got parts one_part bad_is = record { ghost = part ∷ []; parts_are = one_part; bad_is = bad_is ∙ or_no part.bad_range; listing = listing_start got (part ∷ []) refl }
+  positions_start {part = part} got parts one_part bad_is = record { ghost = part ∷ []; parts_are = one_part; bad_is = bad_is ∙ sym (or-false part.bad_range); listing = listing_start got (part ∷ []) refl }
 
   pub positions_on : {new : Tables} {parts : List (List ℕ)} {bad : Bool} {at : ℕ} (l : Positions limit reader start w new parts bad at) {t : Token} {behind : ℕ} (n : IsNext (is Dot) reader at t behind) {newer : Tables} {part : Position} {after : ℕ} →
       IsGot limit (IsPart reader.source.now) (Stays reader newer (separated_walk l.listing n)) (the ElementPart) reader behind newer (separated_walk l.listing n) part after → (now : List (List ℕ)) → now ≡ parts ++ part.labels.items ∷ [] → (worse : Bool) → worse ≡ (bad || part.bad_range) → Positions limit reader start w newer now worse after

@@ -15,7 +15,6 @@ pub mod Ends
 pub mod Conditions
 pub mod Domains
 pub mod Ranges
-pub mod Left
 pub mod Elements
 pub mod Values
 pub mod Items

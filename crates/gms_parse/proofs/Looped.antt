@@ -25,21 +25,20 @@ use Rattle.gms_grammar.specs.GamsLookAhead.{look_ahead}
 use Rattle.gms_expressions.specs.ExpressionTrees.{place_in}
 use Rattle.gms_expressions.specs.Outcomes.{next_place}
 use Rattle.gms_expressions.proofs.TokenKinds.{same_test}
-use Rattle.gms_parse.specs.declared.fault.SourceFault.{SourceFault}
 use Rattle.gms_parse.specs.declared.fault.SourceFaultOrMemory.{SourceFaultOrMemory}
 use Rattle.gms_parse.specs.declared.reader.Reader.{Reader}
 use Rattle.gms_parse.specs.declared.reader.Tables.{Tables}
 use Rattle.gms_parse.specs.Programs.{loop_act, controlled, loop_body, behind_semicolon, inner_act, display_or_other}
 use Rattle.gms_parse.specs.Statements.{assignment_act}
 use Rattle.std.specs.Prelude.{IsErrAnd}
-use Rattle.gms_parse.specs.Walks.{Seen, Walk, IsFaulty, deep, out_of_range, many_names, many_labels, in_table, without_lines}
+use Rattle.gms_parse.specs.Walks.{Seen, Walk}
 use Rattle.gms_parse.specs.Readings.{Derivation, GamsPart, IsReady, IsAnswer, unexpected_at, Refuses, Sense, IsSense, IsGot, Holds, Has, Starts, Stays, StaysOpen, Ends, Tableless, IsNext, IsLacking, IsOpened, seen_from, kind_of}
 use Rattle.gms_parse.specs.Meanings.{IsControl, IsInner, IsBody, IsAct, act_view, put_before, other_statement}
 use Rattle.gms_parse.proofs.TokenKinds.{IsNone, leads_alike, leads_of_none, unled_next}
-use Rattle.gms_parse.proofs.Walks.{room_for_none}
 use Rattle.gms_parse.proofs.Steps.{got_by, Within, within_the, within_left, within_right, within_second, within_some, within_then, gives_one, gives_both, gives_the, gives_none, refuses_the, refuses_first, refuses_second, refuses_at}
 use Rattle.gms_parse.proofs.Choices.{through, leads_at}
 use Rattle.gms_parse.proofs.Ends.{behind_within}
+use Rattle.gms_parse.proofs.Walks.{closing_sound}
 use Rattle.gms_parse.proofs.Nexts.{past, exact, opened, open_starts, gives_open, refuses_inside, refuses_within, got_inside, refuses_lacking, leads_next, gives_exact, begun_has, begun_starts, quiet_holds, plain_starts, tableless_on, earlier}
 use Rattle.gms_expressions.proofs.Chains.{place_read}
 
@@ -119,20 +118,12 @@ module _ {reader : Reader} {at opening : ℕ} {word : Token} {old : Tables} {w :
       loop_unclosed l = refuses_the LoopStatement (refuses_second (gives_exact {kind = Loop} n refl) (refuses_second (gives_open o loop_has) (refuses_second closed.gives (refuses_lacking l))))
 
       pub loop_got : {close : Token} {behind : ℕ} → IsNext (is RightParen) reader last close behind → IsGot limit (IsAct value reader.source.now loop_act) (Ends reader new) (the LoopStatement) reader at new w (act.Loop x.0 x.1) behind
-      loop_got {close} {behind} r = got_by (gives_the LoopStatement (gives_both (gives_exact {kind = Loop} n refl) (gives_both (gives_open o loop_has) (gives_both closed.gives (gives_one (exact {kind = RightParen} r) refl sound refl)))))
+      loop_got {close} {behind} r = got_by (gives_the LoopStatement (gives_both (gives_exact {kind = Loop} n refl) (gives_both (gives_open o loop_has) (gives_both closed.gives (gives_one (exact {kind = RightParen} r) refl (closing_sound limit reader.source.now closed.behind close (kind_of (seen_from reader behind)) (λ k f. let y : is Table closed.behind.keyword ≡ true = ap (is Table) k in let z = closed.leaves.tableless in cc)) refl)))))
           (record {
             holds = record { open_count = (let x = closed.leaves.holds.open_count ∙ ap (λ (y : Reader). y.unclosed) o.inner_is in omega (arith, x)); names = closed.leaves.holds.names; labels = closed.leaves.holds.labels };
             tableless = closed.leaves.tableless;
           })
           (λ sense s. view-Loop value x.0 x.1 ∙ closed.means sense s) (let a = n.further in let d = o.next.further in let g = closed.further in let i = r.further in omega arith)
-        where
-          sound : (fault : SourceFault) → IsFaulty limit reader.source.now closed.behind (RightParen, close) (kind_of (seen_from reader behind)) fault → ⊥
-          sound fault (deep e d) = cc
-          sound fault (out_of_range e d) = cc
-          sound fault (many_names e d) = cc
-          sound fault (many_labels e d) = room_for_none _ _ refl d
-          sound fault (in_table e d f) = cc
-          sound fault (without_lines e k f) = let y : is Table closed.behind.keyword ≡ true = ap (is Table) k in let z = closed.leaves.tableless in cc
 
 -- ---- a statement of a loop
 

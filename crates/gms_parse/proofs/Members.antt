@@ -14,12 +14,9 @@ use Rattle.std.proofs.lemmas.Str.Parse.{numerals_by_value, tells_by_index, digit
 use Rattle.gms_grammar.proofs.Checks.{left_and, right_and}
 use Rattle.gms_set.specs.Ranges.{text_length, text_of, digits_of, number_of, is_padded, is_numbered, go_together, is_range, width_of, written, members}
 
-lower_length : (a : List ℕ) → length (str_to_ascii_lowercase a) ≡ length a
-lower_length a = length-map a to_ascii_lowercase
-
 -- texts that are the same but for case are of one length
 same_length : (a b : List ℕ) → str_eq_ignore_ascii_case a b ≡ true → length a ≡ length b
-same_length a b h = sym (lower_length a) ∙ ap length ((bytes_eq-Decides (str_to_ascii_lowercase a) (str_to_ascii_lowercase b)).0 h) ∙ lower_length b
+same_length a b h = sym (length-map a to_ascii_lowercase) ∙ ap length ((bytes_eq-Decides (str_to_ascii_lowercase a) (str_to_ascii_lowercase b)).0 h) ∙ length-map b to_ascii_lowercase
 
 -- the text of a label, and its digits
 whole_length : (label : List ℕ) → length (text_of label) + length (digits_of label) ≡ length label

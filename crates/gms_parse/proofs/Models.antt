@@ -19,7 +19,6 @@ use Rattle.gms_expressions.proofs.TokenKinds.{same_test}
 use Rattle.gms_parse.specs.declared.fault.SourceFaultOrMemory.{SourceFaultOrMemory}
 use Rattle.gms_parse.specs.declared.reader.Reader.{Reader}
 use Rattle.gms_parse.specs.declared.reader.Tables.{Tables}
-use Rattle.gms_parse.specs.DataLists.{listed_in}
 use Rattle.gms_parse.specs.Declarations.{named_in, model_in, model_act}
 use Rattle.gms_parse.specs.Walks.{Walk}
 use Rattle.gms_parse.specs.Readings.{Derivation, GamsPart, Gives, Refuses, Sense, Has, Starts, Stays, Ends, Optionless, IsNext, IsLacking, IsGot, seen_from}
@@ -33,12 +32,9 @@ use Rattle.gms_parse.proofs.Itemized.{ItemPart, AreItems}
 
 -- ---- equations
 
-equations_meant : (source : List ℕ) (sense : Sense) (tree : Derivation) (xs : List Named) → AreAll (IsNamed source) sense tree xs → xs ≡ listed_in (named_in source sense.names sense.labels) tree
-equations_meant source sense tree xs h = sym (map-id xs) ∙ all_meant (IsNamed source) (λ x. x) (named_in source sense.names sense.labels) sense (λ t x k. k) tree xs h
-
 pub equations_got : {limit : ℕ} {reader : Reader} {at next : ℕ} {new : Tables} {w : Walk} {equations : Vec Named Global} → IsGot limit (AreAll (IsNamed reader.source.now)) (Stays reader new w) (list_of (is_among (Comma ∷ Break ∷ [])) name) reader at new w equations.items next →
     IsGot limit (AreEquations reader.source.now) (Stays reader new w) (separated name) reader at new w equations next
-equations_got {reader = reader} {equations = equations} got = got_by got.gives got.leaves (λ sense m. equations_meant reader.source.now sense got.tree equations.items (got.means sense m)) got.further
+equations_got {reader = reader} {equations = equations} got = got_by got.gives got.leaves (λ sense m. sym (map-id equations.items) ∙ all_meant (IsNamed reader.source.now) (λ x. x) (named_in reader.source.now sense.names sense.labels) sense (λ t x k. k) got.tree equations.items (got.means sense m)) got.further
 
 -- ---- the list of a model
 

@@ -26,7 +26,7 @@ use Rattle.gms_parse.specs.Meanings.{IsTarget, IsCondition, IsAssigned, IsDefine
 use Rattle.gms_parse.proofs.TokenKinds.{unled_next, led_first}
 use Rattle.gms_parse.proofs.Steps.{got_by, Within, gives_as, gives_both, gives_the, gives_left, gives_right, refuses_the, refuses_first, refuses_second, refuses_right, by_cause, stuck_as, wrong_as, stuck_behind, wrong_behind}
 use Rattle.gms_parse.proofs.Nexts.{past, exact, gives_exact, leads_next, plain_starts, kind_stays, stays_then, earlier, optionless_on, tableless_on}
-use Rattle.gms_parse.proofs.Heads.{Leading, target_stuck, target_taken, Headed, Aimed, target_goes}
+use Rattle.gms_parse.proofs.Heads.{Leading, target_stuck, target_taken, target_goes}
 
 module _ {limit : ℕ} {source : List ℕ} where
   -- what is refused as a target is refused as a statement that begins with one
@@ -83,15 +83,12 @@ module _ {F : Type 0} (value : F → Number) {limit : ℕ} {reader : Reader} {at
           ap₂ (λ x y. assigned reader.source.now sense.names sense.labels x y (second_in r.tree)) (t.means sense s1) (c.means sense s2)
 
       pub assigned_got : IsGot limit (IsAct value reader.source.now named_act) (Stays reader new w) (the NamedStatement) reader at new w act next
-      assigned_got = elim (target_goes t.gives.reads) [ inl h ↦ by_head h | inr a ↦ by_target a ]
-        where
-          by_head : Headed t.tree (seen_from reader at) (seen_from reader middle) → IsGot limit (IsAct value reader.source.now named_act) (Stays reader new w) (the NamedStatement) reader at new w act next
-          by_head h = got_by ((within_of t.gives h.leading).gives _ _ _ (gives_the AfterHead (gives_both c.gives (gives_left (led_pair r.gives.reads) r.gives)))) (stays_then t.leaves.stays (stays_then c.leaves.stays r.leaves))
-              (λ sense s. r.means sense s ∙ both_means sense s ∙ sym (h.acts reader.source.now sense (node (pair c.tree (left r.tree))))) (let x = t.further in let y = c.further in let z = r.further in omega arith)
-
-          by_target : Aimed t.tree (seen_from reader at) (seen_from reader middle) → IsGot limit (IsAct value reader.source.now named_act) (Stays reader new w) (the NamedStatement) reader at new w act next
-          by_target a = got_by ((within_of t.gives a.leading).gives _ _ _ (gives_the AfterTarget (gives_both c.gives r.gives))) (stays_then t.leaves.stays (stays_then c.leaves.stays r.leaves))
-              (λ sense s. r.means sense s ∙ both_means sense s ∙ sym (a.acts reader.source.now sense (node (pair c.tree r.tree)))) (let x = t.further in let y = c.further in let z = r.further in omega arith)
+      assigned_got = elim (target_goes t.gives.reads) [
+        | inl h ↦ got_by ((within_of t.gives h.leading).gives _ _ _ (gives_the AfterHead (gives_both c.gives (gives_left (led_pair r.gives.reads) r.gives)))) (stays_then t.leaves.stays (stays_then c.leaves.stays r.leaves))
+            (λ sense s. r.means sense s ∙ both_means sense s ∙ sym (h.acts reader.source.now sense (node (pair c.tree (left r.tree))))) (let x = t.further in let y = c.further in let z = r.further in omega arith)
+        | inr a ↦ got_by ((within_of t.gives a.leading).gives _ _ _ (gives_the AfterTarget (gives_both c.gives r.gives))) (stays_then t.leaves.stays (stays_then c.leaves.stays r.leaves))
+            (λ sense s. r.means sense s ∙ both_means sense s ∙ sym (a.acts reader.source.now sense (node (pair c.tree r.tree)))) (let x = t.further in let y = c.further in let z = r.further in omega arith)
+      ]
 
     -- it is refused, where no `..` stands behind a plain target
     pub assigned_refused : {e : SourceFaultOrMemory} → (is_plain_target (shown_target value target) ≡ true → leads productions look_ahead (token DotDot) (seen_from reader further) ≡ false) → Refuses limit reader.source.now (token Equals · the Expression) c.behind (seen_from reader further) e →
@@ -114,20 +111,18 @@ module _ {F : Type 0} (value : F → Number) {limit : ℕ} {reader : Reader} {at
 
       pub defined_got : {new : Tables} {act : ActNode F} {next : ℕ} → IsGot limit (IsDefined value reader.source.now target condition) (Stays reader new (past reader c.behind DotDot dots behind)) (the Sides) reader behind new (past reader c.behind DotDot dots behind) act next →
           IsGot limit (IsAct value reader.source.now named_act) (Stays reader new w) (the NamedStatement) reader at new w act next
-      defined_got {new} {act} {next} d = elim (target_goes t.gives.reads) [ inl h ↦ by_head h | inr a ↦ absurd (both_ways _ plain (plain_as false a.other)) ]
-        where
-          by_head : Headed t.tree (seen_from reader at) (seen_from reader middle) → IsGot limit (IsAct value reader.source.now named_act) (Stays reader new w) (the NamedStatement) reader at new w act next
-          by_head h =
-              let b = node (pair c.tree (right (pair (leaf (DotDot, dots)) d.tree))) in
-              got_by ((within_of t.gives h.leading).gives _ _ _ (gives_the AfterHead (gives_both c.gives (gives_right unled (leads_next (the Sides) n) (gives_both (gives_exact {kind = DotDot} n refl) d.gives)))))
-              (stays_then t.leaves.stays (stays_then c.leaves.stays (stays_then (kind_stays DotDot n refl c.leaves.stays.has) d.leaves)))
-              (λ sense s.
-              let s3 = earlier d.gives (kind_stays DotDot n refl c.leaves.stays.has).has.holds d.leaves.has.holds s in
-              let s1 = earlier c.gives t.leaves.stays.has.holds c.leaves.stays.has.holds s3 in
-              d.means sense s
-              ∙ ap₂ (λ (x : TargetTree Number) y. defines (record { at = x.at; name = x.name }) x.indices y (sides_in reader.source.now sense.names sense.labels d.tree)) (t.means sense s1) (c.means sense s3)
-              ∙ sym (h.acts reader.source.now sense b))
-              (let x = t.further in let y = c.further in let z = n.further in let u = d.further in omega arith)
+      defined_got {new} {act} {next} d = elim (target_goes t.gives.reads) [
+        | inr a ↦ absurd (both_ways _ plain (plain_as false a.other))
+        | inl h ↦ got_by ((within_of t.gives h.leading).gives _ _ _ (gives_the AfterHead (gives_both c.gives (gives_right unled (leads_next (the Sides) n) (gives_both (gives_exact {kind = DotDot} n refl) d.gives)))))
+            (stays_then t.leaves.stays (stays_then c.leaves.stays (stays_then (kind_stays DotDot n refl c.leaves.stays.has) d.leaves)))
+            (λ sense s.
+            let s3 = earlier d.gives (kind_stays DotDot n refl c.leaves.stays.has).has.holds d.leaves.has.holds s in
+            let s1 = earlier c.gives t.leaves.stays.has.holds c.leaves.stays.has.holds s3 in
+            d.means sense s
+            ∙ ap₂ (λ (x : TargetTree Number) y. defines (record { at = x.at; name = x.name }) x.indices y (sides_in reader.source.now sense.names sense.labels d.tree)) (t.means sense s1) (c.means sense s3)
+            ∙ sym (h.acts reader.source.now sense (node (pair c.tree (right (pair (leaf (DotDot, dots)) d.tree))))))
+            (let x = t.further in let y = c.further in let z = n.further in let u = d.further in omega arith)
+      ]
 
 -- behind `..` the left side may begin
 pub dots_starts : {reader : Reader} {at behind : ℕ} {dots : Token} {old new : Tables} {w v : Walk} → Starts reader old w → StaysOpen reader new w v → IsNext (is DotDot) reader at dots behind → Starts reader new (past reader v DotDot dots behind)

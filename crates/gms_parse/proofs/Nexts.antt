@@ -8,8 +8,10 @@ use Rattle.gms_grammar.specs.Terminals.{is, is_among}
 use Rattle.gms_grammar.specs.GamsGrammar.{productions, token, bracketed}
 use Rattle.gms_grammar.specs.GamsLookAhead.{look_ahead}
 use Rattle.gms_grammar.proofs.Checks.{left_and, right_and}
+use Rattle.std.proofs.lemmas.Bool.{not-true}
 use Rattle.gms_lex.specs.declared.token.Token.{Token}
 use Rattle.gms_labels.specs.Labels.{place_of}
+use Rattle.gms_expressions.specs.Outcomes.{open_after}
 use Rattle.gms_expressions.proofs.TokenKinds.{implies, also}
 use Rattle.gms_parse.specs.declared.fault.SourceFault.{SourceFault}
 use Rattle.gms_parse.specs.declared.fault.SourceFaultOrMemory.{SourceFaultOrMemory}
@@ -18,7 +20,7 @@ use Rattle.gms_parse.specs.declared.reader.Tables.{Tables}
 use Rattle.gms_parse.specs.Walks.{Seen, Walk, ends_statement, walk_after, IsFaulty, deep, out_of_range, many_names, many_labels, in_table, without_lines}
 use Rattle.gms_parse.specs.Readings.{Derivation, GamsPart, Gives, Refuses, Sense, IsSense, Holds, Has, Starts, Stays, Optionless, IsNext, IsLacking, IsOpened, IsUnopened, inside, seen_from, kind_of, IsGot}
 use Rattle.gms_parse.proofs.TokenKinds.{begins, is_quiet, is_plain, same_kind, led_first}
-use Rattle.gms_parse.proofs.Walks.{quiet_after, quiet_sound, keyword_after, begun_after, room_for_none, names_kept, labels_kept}
+use Rattle.gms_parse.proofs.Walks.{quiet_after, quiet_sound, closing_sound, keyword_after, begun_after, room_for_none, names_kept, labels_kept}
 use Rattle.gms_parse.proofs.Steps.{got_by, gives_one, gives_both, refuses_at, refuses_first, refuses_second}
 
 -- what a token leaves, which a reader has passed
@@ -73,25 +75,19 @@ module _ (reader : Reader) (w : Walk) (kind : Terminal) (t : Token) (behind : �
       let k = quiet_after reader.source.now w kind t (kind_of (seen_from reader behind)) q in
       record { open_count = k.open_count ∙ h.open_count; names = k.names ∙ h.names; labels = k.labels ∙ h.labels }
 
-  plain_begins : is_plain kind ≡ true → begins kind ≡ false
-  plain_begins p = let n = right_and (is_quiet kind) (not (begins kind)) p in go (begins kind) n
-    where
-      go : (b : Bool) → not b ≡ true → b ≡ false
-      go true h = cc
-      go false h = refl
+  -- behind a token within a statement that leaves the parentheses as they were
+  pub stays_by : {old new : Tables} → begins kind ≡ false → Has reader old w → open_after w.open_count kind ≡ w.open_count → (past reader w kind t behind).names ≡ new.names → (past reader w kind t behind).labels ≡ new.labels → Stays reader new w (past reader w kind t behind)
+  stays_by b h opens names labels =
+      let k = keyword_after reader.source.now w (kind, t) (kind_of (seen_from reader behind)) b in
+      let l = h.level in
+      record { has = record { holds = record { open_count = opens ∙ h.holds.open_count; names = names; labels = labels }; level = omega (arith, k.1, opens, l) }; keyword = k.0; level = k.1 }
 
   -- behind a plain token
   pub plain_stays : {tables : Tables} → is_plain kind ≡ true → Has reader tables w → Stays reader tables w (past reader w kind t behind)
   plain_stays p h =
       let q = left_and (is_quiet kind) (not (begins kind)) p in
       let k = quiet_after reader.source.now w kind t (kind_of (seen_from reader behind)) q in
-      let b = keyword_after reader.source.now w (kind, t) (kind_of (seen_from reader behind)) (plain_begins p) in
-      let l = h.level in
-      record {
-        has = record { holds = quiet_holds q h.holds; level = omega (arith, b.1, k.open_count, l) };
-        keyword = b.0;
-        level = b.1;
-      }
+      stays_by (not-true (begins kind) (right_and (is_quiet kind) (not (begins kind)) p)) h k.open_count (k.names ∙ h.holds.names) (k.labels ∙ h.holds.labels)
 
   pub plain_starts : {tables : Tables} → is_plain kind ≡ true → is_among (Dot ∷ Using ∷ []) kind ≡ false → Has reader tables w → Optionless w → Starts reader tables (past reader w kind t behind)
   plain_starts p d h o = let s = plain_stays p h in record { has = s.has; undotted = d; optionless = optionless_on s.keyword o }
@@ -191,17 +187,11 @@ module _ {reader : Reader} {at start : ℕ} {inner : Reader} {old : Tables} {w :
     module _ {new : Tables} {v : Walk} (s : Stays inner new (opened w o) v) where
       pub gives_close : {next behind : ℕ} {t : Token} → IsNext (is RightParen) reader next t behind → (is Table w.keyword && ends_statement (kind_of (seen_from reader behind))) ≡ false →
           Gives limit reader.source.now (token RightParen) v (seen_from reader next) (leaf (RightParen, t)) (past reader v RightParen t behind) (seen_from reader behind)
-      gives_close {behind = behind} {t = t} n on = gives_one (exact n) refl sound refl
+      gives_close {behind = behind} {t = t} n on = gives_one (exact n) refl (closing_sound limit reader.source.now v t (kind_of (seen_from reader behind)) table_on) refl
         where
-          sound : (fault : SourceFault) → IsFaulty limit reader.source.now v (RightParen, t) (kind_of (seen_from reader behind)) fault → ⊥
-          sound fault (deep e d) = cc
-          sound fault (out_of_range e d) = cc
-          sound fault (many_names e d) = cc
-          sound fault (many_labels e d) = room_for_none _ _ refl d
-          sound fault (in_table e d f) = cc
-          sound fault (without_lines e k f) =
-              let table : w.keyword ≡ Table = sym s.keyword ∙ k in
-              let yes : (is Table w.keyword && ends_statement (kind_of (seen_from reader behind))) ≡ true = ap (λ x. is Table x && ends_statement (kind_of (seen_from reader behind))) table ∙ f in
+          table_on : v.keyword ≡ Table → ends_statement (kind_of (seen_from reader behind)) ≡ true → ⊥
+          table_on k f =
+              let yes : (is Table w.keyword && ends_statement (kind_of (seen_from reader behind))) ≡ true = ap (λ x. is Table x && ends_statement (kind_of (seen_from reader behind))) (sym s.keyword ∙ k) ∙ f in
               cc
 
       -- a part in parentheses

@@ -147,10 +147,6 @@ module _ (limit : ℕ) (source : List ℕ) where
   one_told walk RightParen token one other h k = h ∙ sym k
   one_told walk _ token one other h k = h ∙ sym k
 
-  -- a token has one fault
-  one_faulty : (walk : Walk) (token : Seen) (ahead : Terminal) (one other : SourceFault) → IsFaulty limit source walk token ahead one → IsFaulty limit source walk token ahead other → one ≡ other
-  one_faulty walk token ahead one other h k = one_told walk token.0 token.1 one other (tells walk token.0 token.1 ahead h) (tells walk token.0 token.1 ahead k)
-
   -- a source has one first fault
   pub one_fault : (one other : SourceFault) → IsFault limit source one → IsFault limit source other → one ≡ other
   one_fault one other (inl a) (inl b) = a.1 ∙ sym b.1
@@ -171,4 +167,4 @@ module _ (limit : ℕ) (source : List ℕ) where
   one_fault one other (inr (inr a)) (inr (inr b)) =
       let are : Ok a.tokens ≡ Ok b.tokens = means_only source (Ok a.tokens) (Ok b.tokens) a.are_tokens b.are_tokens in
       let same : b.tokens ≡ a.tokens = cc in
-      one_refused source_rule (limit, source) one_faulty Program start (seen source a.tokens) one other a.refused (subst (λ (ts : List Token). IsNoProgram limit source (seen source ts) other) same b.refused)
+      one_refused source_rule (limit, source) (λ walk token ahead one other h k. one_told walk token.0 token.1 one other (tells walk token.0 token.1 ahead h) (tells walk token.0 token.1 ahead k)) Program start (seen source a.tokens) one other a.refused (subst (λ (ts : List Token). IsNoProgram limit source (seen source ts) other) same b.refused)

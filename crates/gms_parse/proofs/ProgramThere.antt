@@ -1,5 +1,5 @@
 -- A source without a fault has a program.
-use Rattle.std.proofs.Common.{◌≡◌, ◌≢◌, ℕ, ◌+◌, ◌≤◌, Bool, true, false, cond, not, List, [], ◌∷◌, ◌++◌, length, map, reverse, All, Result, Ok, Err, refl, sym, ap, ◌∙◌, subst, append_assoc, append-nil, inl, inr}
+use Rattle.std.proofs.Common.{◌≡◌, ◌≢◌, ℕ, ◌≤◌, Bool, true, false, cond, not, List, [], ◌∷◌, ◌++◌, length, map, reverse, All, Result, Ok, Err, refl, sym, ap, ◌∙◌, subst, append_assoc, append-nil, inl, inr}
 use Rattle.std.proofs.lemmas.Bool.{cases_lt}
 use Rattle.std.proofs.lemmas.List.{reverse-append, reverse-reverse}
 use Rattle.std.proofs.lemmas.List.Elements.{All-head, All-tail}
@@ -8,10 +8,9 @@ use Rattle.gms_lex.specs.declared.fault.LexFault.{LexFault}
 use Rattle.gms_lex.specs.TokenTexts.{token_text}
 use Rattle.gms_lex.specs.Tokens.{Means, IsTokens, most_bytes}
 use Rattle.gms_lex.proofs.AnswerLemmas.{means_one}
-use Rattle.gms_table.specs.declared.fault.TableFault.{TableFault}
 use Rattle.gms_table.specs.Words.{words_of}
 use Rattle.gms_table.specs.WordLabels.{all_entered}
-use Rattle.gms_table.specs.TableEntries.{texts_of, IsFirstFault}
+use Rattle.gms_table.specs.TableEntries.{texts_of}
 use Rattle.gms_table.proofs.LabelLemmas.{Stay}
 use Rattle.gms_grammar.specs.declared.terminal.Terminal.{Terminal}
 use Rattle.gms_grammar.specs.declared.terminal.Terminal.TheVariants.{TableLine, End}
@@ -39,7 +38,9 @@ use Rattle.gms_grammar.proofs.FirstFaults.{sound_at}
 use Rattle.gms_parse.proofs.Walks.{labels_kept}
 use Rattle.gms_parse.proofs.EndTokens.{has_end, end_alone}
 use Rattle.gms_parse.proofs.TableSteps.{turned, run_of, run_one, run_other}
-use Rattle.gms_parse.proofs.TableSound.{sound_table, ArePlaced, placed_stay, entered_placed, placed_table, entries_there}
+use Rattle.gms_parse.proofs.TableSound.{sound_table, placed_stay, placed_table, entries_there}
+use Rattle.gms_parse.specs.Meanings.{AreThere}
+use Rattle.gms_parse.proofs.Ranges.{entered_there}
 
 -- ---- the last of tokens
 
@@ -96,13 +97,10 @@ module _ (limit : ℕ) (source : List ℕ) (tokens : List Seen) (sound : AreSoun
     abbrev here : Walk
     here = walk_behind source start front TableLine
 
-    lines_pass : AllPass (is TableLine) (others ++ (TableLine, line) ∷ [])
-    lines_pass = subst (λ (us : List Seen). AllPass (is TableLine) us) are (all_lines lines k.are_lines)
-
     run_here : run_of here.before ≡ reverse others
     run_here =
         ap run_of (gone_over source start front TableLine ∙ append-nil (reverse front) ∙ reverse-append k.before others)
-        ∙ run_all others (reverse k.before) (pass_front (is TableLine) others ((TableLine, line) ∷ []) lines_pass)
+        ∙ run_all others (reverse k.before) (pass_front (is TableLine) others ((TableLine, line) ∷ []) (subst (λ (us : List Seen). AllPass (is TableLine) us) are (all_lines lines k.are_lines)))
         ∙ ap (λ (us : List Seen). reverse others ++ us) (run_none k.before k.none_before) ∙ append-nil (reverse others)
 
     lines_here : lines_with source here.before (TableLine, line) ≡ lines
@@ -121,9 +119,6 @@ module _ (limit : ℕ) (source : List ℕ) (tokens : List Seen) (sound : AreSoun
         sound_at (source_rule (limit, source)) start front (TableLine, line) k.behind End fault (subst (λ (us : List Seen). AreSound limit source start us End) tokens_are sound)
         (in_table refl no_line_ahead (subst (λ (ls : List Seen). IsLineFault limit source (table_name here.before) here.labels ls fault) (sym lines_here) f))
 
-    no_table_fault : (found : TableFault) → IsFirstFault limit here.labels (parts_of_tokens source lines) found → ⊥
-    no_table_fault found first = no_fault_here (record { error = error_of_table found.error; at = found.at }) (inr (found, first, refl))
-
     -- the walk behind the last line
     abbrev past : Walk
     past = walk_after source here (TableLine, line) ahead
@@ -139,14 +134,14 @@ module _ (limit : ℕ) (source : List ℕ) (tokens : List Seen) (sound : AreSoun
         (sym (ap (λ (us : List Seen). walk_behind source start us End) tokens_are ∙ walk_append (walk_after source) start front ((TableLine, line) ∷ k.behind) End))
         (record { stays = λ text n h. labels_kept source past k.behind End text n h })
 
-    placed : ArePlaced last_labels (texts_of (parts_of_tokens source lines))
+    placed : AreThere last_labels (texts_of (parts_of_tokens source lines))
     placed =
         placed_stay past.labels last_labels labels_stay (labels_of_lines source lines)
-        (subst (λ (ls : List (List ℕ)). ArePlaced ls (labels_of_lines source lines)) (sym past_labels) (entered_placed here.labels (labels_of_lines source lines)))
+        (subst (λ (ls : List (List ℕ)). AreThere ls (labels_of_lines source lines)) (sym past_labels) (entered_there here.labels (labels_of_lines source lines)))
 
     items_by : AreTableItems limit source last_labels lines (items_given source last_labels lines)
     items_by =
-        let whole = sound_table limit here.labels (parts_of_tokens source lines) no_table_fault in
+        let whole = sound_table limit here.labels (parts_of_tokens source lines) (λ found first. no_fault_here (record { error = error_of_table found.error; at = found.at }) (inr (found, first, refl))) in
         let cells = placed_table last_labels (map (λ (line : Seen). words_of line.1.at.line (token_text source line.1)) lines) placed in
         (entries_in last_labels (parts_of_tokens source lines), entries_there last_labels limit here.labels [] (parts_of_tokens source lines) whole cells, refl)
 

@@ -1,10 +1,12 @@
 -- Labels of lists, and ranges of them.
-use Rattle.std.proofs.Common.{◌≡◌, ℕ, zero, suc, get_or, ◌+◌, ◌-◌, ◌<◌, ◌≤◌, Bool, true, false, not, ◌&&◌, ◌||◌, cond, List, [], ◌∷◌, ◌++◌, length, map, take, Some, None, refl, sym, ap, ap₂, ◌∙◌, subst, inl, inr, arith, append_assoc}
+use Rattle.std.proofs.Math.Bool.{or-false, or-true}
+use Rattle.std.proofs.Common.{◌≡◌, ℕ, zero, suc, get_or, ◌+◌, ◌<◌, ◌≤◌, Bool, true, false, not, ◌&&◌, ◌||◌, cond, List, [], ◌∷◌, ◌++◌, length, map, take, Option, Some, None, is_some, refl, sym, ap, ap₂, ◌∙◌, subst, inl, inr, arith, append_assoc}
 use Rattle.std.specs.Str.{IsAscii}
-use Rattle.std.proofs.lemmas.List.{append-nil, map_push}
+use Rattle.std.proofs.lemmas.List.{append-nil, map_push, take_all}
 use Rattle.std.proofs.Math.Seq.{take-suc}
+use Rattle.gms_grammar.proofs.Orders.{order, at_once, earlier, later, some_there}
 use Rattle.gms_labels.specs.Labels.{place_of, entered, IsFullFor}
-use Rattle.gms_labels.proofs.Places.{place_of-entered_kept}
+use Rattle.gms_labels.proofs.Places.{place_of-entered, place_of-entered_kept}
 use Rattle.gms_lexemes.specs.declared.kind.Kind.{Kind}
 use Rattle.gms_lexemes.specs.declared.kind.Kind.TheVariants as token_kind
 use Rattle.gms_lex.specs.declared.token.Token.{Token}
@@ -23,7 +25,6 @@ use Rattle.gms_grammar.specs.GamsGrammar.{Range, productions, token}
 use Rattle.gms_grammar.specs.GamsLookAhead.{look_ahead}
 use Rattle.gms_expressions.specs.ExpressionTrees.{or_0}
 use Rattle.gms_parse.specs.declared.data.Part.{Part as Position}
-use Rattle.gms_parse.specs.declared.fault.SourceFault.{SourceFault}
 use Rattle.gms_parse.specs.declared.fault.SourceFaultOrMemory.{SourceFaultOrMemory}
 use Rattle.gms_parse.specs.declared.fault.SourceFaultOrMemory.TheVariants.{Fault}
 use Rattle.gms_parse.specs.declared.fault.SourceError.TheVariants.{Syntax}
@@ -32,14 +33,14 @@ use Rattle.gms_parse.specs.declared.reader.Reader.{Reader}
 use Rattle.gms_parse.specs.declared.reader.Tables.{Tables}
 use Rattle.gms_parse.specs.DataLists.{range_labels}
 use Rattle.gms_table.specs.WordLabels.{all_entered}
-use Rattle.gms_table.proofs.LabelLemmas.{all_entered-append}
-use Rattle.gms_parse.specs.Walks.{Seen, Walk, last_kind, range_start, range_texts, list_labels, new_labels, LacksRoom, IsFaulty, deep, out_of_range, many_names, many_labels, in_table, without_lines}
+use Rattle.gms_table.proofs.LabelLemmas.{Stay-all_entered, all_entered-append}
+use Rattle.gms_parse.specs.Walks.{Seen, Walk, last_kind, range_start, range_texts, list_labels, new_labels, LacksRoom, many_labels}
 use Rattle.gms_parse.specs.Readings.{Gives, Refuses, Sense, IsSense, IsGot, Has, Holds, Starless, Stays, IsNext, IsLacking, IsEntered, IsNotEntered, seen_from, kind_of}
 use Rattle.gms_parse.specs.Meanings.{IsLabelToken, IsEnteredRange, IsNotEnteredRange, IsAdded, AreThere, text_of_label}
 use Rattle.gms_parse.proofs.TokenKinds.{leads_by_kind, unled_next}
 use Rattle.gms_parse.proofs.Steps.{got_by, gives_one, gives_both, gives_the, gives_none, gives_some, takes_next, refuses_the, refuses_first, refuses_second, refuses_some, refuses_token, refuses_memory}
-use Rattle.gms_parse.proofs.Nexts.{past, exact, leads_next, gives_exact, refuses_lacking, plain_stays, stays_then}
-use Rattle.gms_parse.proofs.Walks.{room_for_none}
+use Rattle.gms_parse.proofs.Nexts.{past, exact, leads_next, gives_exact, refuses_lacking, stays_by, plain_stays, stays_then}
+use Rattle.gms_parse.proofs.Walks.{free_sound, room_for_none}
 
 -- ---- spelling
 
@@ -53,68 +54,50 @@ pub data Lacking (labels texts : List (List ℕ)) (text : List ℕ) : Type 0 whe
   earlier_one : LacksRoom labels texts → Lacking labels texts text
   this_one : IsFullFor (all_entered labels texts) text → Lacking labels texts text
 
-lacking_more : (labels texts : List (List ℕ)) (text : List ℕ) (before : List (List ℕ)) (other : List ℕ) (behind : List (List ℕ)) → texts ++ text ∷ [] ≡ before ++ other ∷ behind → IsFullFor (all_entered labels before) other → Lacking labels texts text
-lacking_more labels [] text [] other behind e f = let same : other ≡ text = cc in this_one (subst (λ (x : List ℕ). IsFullFor labels x) same f)
-lacking_more labels [] text (x ∷ []) other behind e f = cc
-lacking_more labels [] text (x ∷ (y ∷ before)) other behind e f = cc
-lacking_more labels (y ∷ texts) text [] other behind e f =
-    let same : other ≡ y = cc in
-    earlier_one (record { before = []; text = y; behind = texts; parts = refl; full = subst (λ (x : List ℕ). IsFullFor labels x) same f })
-lacking_more labels (y ∷ texts) text (x ∷ before) other behind e f =
-    let same : x ≡ y = cc in
-    let less : texts ++ text ∷ [] ≡ before ++ other ∷ behind = cc in
-    go (lacking_more (entered labels y) texts text before other behind less (subst (λ (z : List ℕ). IsFullFor (all_entered (entered labels z) before) other) same f))
-  where
-    go : Lacking (entered labels y) texts text → Lacking labels (y ∷ texts) text
-    go (earlier_one l) = earlier_one (record { before = y ∷ l.before; text = l.text; behind = l.behind; parts = ap (λ u. y ∷ u) l.parts; full = l.full })
-    go (this_one g) = this_one g
-
 pub lacking_of : (labels texts : List (List ℕ)) (text : List ℕ) → LacksRoom labels (texts ++ text ∷ []) → Lacking labels texts text
-lacking_of labels texts text l = lacking_more labels texts text l.before l.text l.behind l.parts l.full
+lacking_of labels texts text l = elim (order l.before l.text l.behind texts text [] (sym l.parts)) [
+  | earlier w e k ↦ earlier_one (record { before = l.before; text = l.text; behind = w; parts = e; full = l.full })
+  | later w e k ↦ absurd (some_there w l.text l.behind k)
+  | at_once e same k ↦ this_one (subst (λ (x : List ℕ). IsFullFor (all_entered labels texts) x) same (subst (λ (us : List (List ℕ)). IsFullFor (all_entered labels us) l.text) e l.full))
+]
 
 pub full_of : (labels : List (List ℕ)) (text : List ℕ) → LacksRoom labels (text ∷ []) → IsFullFor labels text
-full_of labels text l = go (lacking_of labels [] text l)
-  where
-    go : Lacking labels [] text → IsFullFor labels text
-    go (earlier_one k) = absurd (room_for_none _ [] refl k)
-    go (this_one f) = f
+full_of labels text l = elim (lacking_of labels [] text l) [ earlier_one k ↦ absurd (room_for_none _ [] refl k) | this_one f ↦ f ]
 
 -- so many texts were entered, and have these numbers
 pub record Entering (old now : List (List ℕ)) (texts : List (List ℕ)) (was numbers : List ℕ) : Type 0 where
   pub table : now ≡ all_entered old texts
   pub room : LacksRoom old texts → ⊥
   pub numbers_are : numbers ≡ was ++ map (λ text. or_0 (place_of now text)) texts
-  pub are_there : AreThere now texts
 
 pub entering_start : (old : List (List ℕ)) (was : List ℕ) → Entering old old [] was was
-entering_start old was = record { table = refl; room = λ l. room_for_none _ [] refl l; numbers_are = sym (append-nil was); are_there = tt }
+entering_start old was = record { table = refl; room = λ l. room_for_none _ [] refl l; numbers_are = sym (append-nil was) }
 
-kept_all : (text : List ℕ) (labels texts : List (List ℕ)) → AreThere labels texts → AreThere (entered labels text) texts × (map (λ t. or_0 (place_of labels t)) texts ≡ map (λ t. or_0 (place_of (entered labels text) t)) texts)
-kept_all text labels [] h = (tt, refl)
-kept_all text labels (t ∷ texts) h =
-    let k = place_of-entered_kept labels text t h.0.0 h.0.1 in
-    let r = kept_all text labels texts h.1 in
-    (((h.0.0, k), r.0), ap₂ (λ a b. or_0 a ∷ b) (h.0.1 ∙ sym k) r.1)
+there_from : (labels : List (List ℕ)) (text : List ℕ) (o : Option ℕ) → place_of labels text ≡ o → is_some o ≡ true → (n : ℕ) × (place_of labels text ≡ Some n)
+there_from labels text (Some n) e h = (n, e)
+there_from labels text None e h = absurd cc
 
-there_push : (labels texts : List (List ℕ)) (text : List ℕ) → AreThere labels texts → (n : ℕ) × (place_of labels text ≡ Some n) → AreThere labels (texts ++ text ∷ [])
-there_push labels [] x h k = (k, tt)
-there_push labels (y ∷ texts) x h k = (h.0, there_push labels texts x h.1 k)
+-- texts that are entered have numbers
+pub entered_there : (labels texts : List (List ℕ)) → AreThere (all_entered labels texts) texts
+entered_there labels [] = tt
+entered_there labels (t ∷ texts) =
+    let p = there_from (entered labels t) t (place_of (entered labels t) t) refl (place_of-entered labels t) in
+    ((p.0, (Stay-all_entered (entered labels t) texts).stays t p.0 p.1), entered_there (entered labels t) texts)
+
+-- tables that keep places keep the numbers of texts
+same_places : (labels now : List (List ℕ)) → ((text : List ℕ) (n : ℕ) → place_of labels text ≡ Some n → place_of now text ≡ Some n) → (texts : List (List ℕ)) → AreThere labels texts → map (λ t. or_0 (place_of labels t)) texts ≡ map (λ t. or_0 (place_of now t)) texts
+same_places labels now keep [] h = refl
+same_places labels now keep (t ∷ texts) h = ap₂ (λ a b. or_0 a ∷ b) (h.0.1 ∙ sym (keep t h.0.0 h.0.1)) (same_places labels now keep texts h.1)
 
 pub entering_on : (old now : List (List ℕ)) (texts : List (List ℕ)) (was numbers : List ℕ) → Entering old now texts was numbers → (new : List (List ℕ)) (text : List ℕ) (n : ℕ) → IsEntered now new text n → (more : List ℕ) → more ≡ numbers ++ n ∷ [] → Entering old new (texts ++ text ∷ []) was more
 entering_on old now texts was numbers e new text n f more is_more =
-    let k = kept_all text now texts e.are_there in
-    let there : AreThere new texts = subst (λ (z : List (List ℕ)). AreThere z texts) (sym f.table) k.0 in
-    let same : map (λ t. or_0 (place_of now t)) texts ≡ map (λ t. or_0 (place_of new t)) texts = k.1 ∙ ap (λ (z : List (List ℕ)). map (λ t. or_0 (place_of z t)) texts) (sym f.table) in
+    let there : AreThere now texts = subst (λ (z : List (List ℕ)). AreThere z texts) (sym e.table) (entered_there old texts) in
+    let same : map (λ t. or_0 (place_of now t)) texts ≡ map (λ t. or_0 (place_of new t)) texts = same_places now (entered now text) (λ t n p. place_of-entered_kept now text t n p) texts there ∙ ap (λ (z : List (List ℕ)). map (λ t. or_0 (place_of z t)) texts) (sym f.table) in
     record {
       table = f.table ∙ ap (λ z. entered z text) e.table ∙ sym (all_entered-append old texts (text ∷ []));
-      room = λ l. lacks (lacking_of old texts text l);
+      room = λ l. elim (lacking_of old texts text l) [ earlier_one k ↦ e.room k | this_one g ↦ f.room (subst (λ (z : List (List ℕ)). IsFullFor z text) (sym e.table) g) ];
       numbers_are = is_more ∙ ap₂ (λ a b. a ++ b ∷ []) e.numbers_are (sym (ap or_0 f.place)) ∙ append_assoc was (map (λ t. or_0 (place_of now t)) texts) (or_0 (place_of new text) ∷ []) ∙ ap (λ u. was ++ (u ++ or_0 (place_of new text) ∷ [])) same ∙ ap (λ u. was ++ u) (sym (map_push (λ t. or_0 (place_of new t)) texts text));
-      are_there = there_push new texts text there (n, f.place);
     }
-  where
-    lacks : Lacking old texts text → ⊥
-    lacks (earlier_one l) = e.room l
-    lacks (this_one g) = f.room (subst (λ (z : List (List ℕ)). IsFullFor z text) (sym e.table) g)
 
 pub lacks_append : (old texts : List (List ℕ)) (text : List ℕ) (more : List (List ℕ)) → IsFullFor (all_entered old texts) text → LacksRoom old (texts ++ text ∷ more)
 lacks_append old texts text more f = record { before = texts; text = text; behind = more; parts = refl; full = f }
@@ -138,58 +121,33 @@ label_new source w t ahead h = ap (λ o. list_labels source o ahead t) (no_range
 -- what a label leaves, where it enters these
 label_stays : {reader : Reader} (w : Walk) (t : Token) (behind : ℕ) {old new : Tables} (texts : List (List ℕ)) → new_labels reader.source.now w (Label, t) (kind_of (seen_from reader behind)) ≡ texts → Has reader old w → new.names ≡ old.names → new.labels ≡ all_entered old.labels texts →
     Stays reader new w (past reader w Label t behind)
-label_stays w t behind texts is h names labels = record {
-  has = record {
-    holds = record { open_count = h.holds.open_count; names = h.holds.names ∙ sym names; labels = ap (all_entered w.labels) is ∙ ap (λ (ls : List (List ℕ)). all_entered ls texts) h.holds.labels ∙ sym labels };
-    level = h.level;
-  };
-  keyword = refl;
-  level = refl;
-}
-
-label_sound : (limit : ℕ) (source : List ℕ) (w : Walk) (t : Token) (ahead : Terminal) → (LacksRoom w.labels (new_labels source w (Label, t) ahead) → ⊥) → (fault : SourceFault) → IsFaulty limit source w (Label, t) ahead fault → ⊥
-label_sound limit source w t ahead room fault (deep e d) = cc
-label_sound limit source w t ahead room fault (out_of_range e d) = cc
-label_sound limit source w t ahead room fault (many_names e d) = cc
-label_sound limit source w t ahead room fault (many_labels e d) = room d
-label_sound limit source w t ahead room fault (in_table e d f) = cc
-label_sound limit source w t ahead room fault (without_lines e d f) = cc
+label_stays {reader} w t behind texts is h names labels = stays_by reader w Label t behind refl h refl (h.holds.names ∙ sym names) (ap (all_entered w.labels) is ∙ ap (λ (ls : List (List ℕ)). all_entered ls texts) h.holds.labels ∙ sym labels)
 
 -- a label that enters these
 label_gives : {limit : ℕ} {reader : Reader} {at behind : ℕ} {t : Token} {w : Walk} {old : Tables} (texts : List (List ℕ)) → IsNext (is Label) reader at t behind → new_labels reader.source.now w (Label, t) (kind_of (seen_from reader behind)) ≡ texts → Holds reader old w → (LacksRoom old.labels texts → ⊥) →
     Gives limit reader.source.now (token Label) w (seen_from reader at) (leaf (Label, t)) (past reader w Label t behind) (seen_from reader behind)
 label_gives {limit} {reader} {behind = behind} {t = t} {w = w} texts n is h room =
-    gives_one (exact {kind = Label} n) refl (label_sound limit reader.source.now w t (kind_of (seen_from reader behind)) (λ l. room (subst (λ (ls : List (List ℕ)). LacksRoom ls texts) h.labels (subst (λ (x : List (List ℕ)). LacksRoom w.labels x) is l)))) refl
+    gives_one (exact {kind = Label} n) refl (free_sound limit reader.source.now w Label t (kind_of (seen_from reader behind)) refl (λ e d. cc) (λ l. room (subst (λ (ls : List (List ℕ)). LacksRoom ls texts) h.labels (subst (λ (x : List (List ℕ)). LacksRoom w.labels x) is l)))) refl
 
 label_refuses : {limit : ℕ} {reader : Reader} {at behind : ℕ} {t : Token} {w : Walk} {old : Tables} (texts : List (List ℕ)) {e : SourceFaultOrMemory} → IsNext (is Label) reader at t behind → new_labels reader.source.now w (Label, t) (kind_of (seen_from reader behind)) ≡ texts → Holds reader old w → LacksRoom old.labels texts →
     e ≡ Fault (record { error = Syntax TooManyLabels; at = t.at }) → Refuses limit reader.source.now (token Label) w (seen_from reader at) e
 label_refuses {w = w} texts n is h lacks e =
     refuses_token (takes_next (exact {kind = Label} n) refl) (many_labels refl (subst (λ (x : List (List ℕ)). LacksRoom w.labels x) (sym is) (subst (λ (ls : List (List ℕ)). LacksRoom ls texts) (sym h.labels) lacks))) e
 
-single_room : (labels : List (List ℕ)) (text : List ℕ) → (IsFullFor labels text → ⊥) → LacksRoom labels (text ∷ []) → ⊥
-single_room labels text room l = room (full_of labels text l)
-
-starless_ahead : (ts : List Seen) → leads productions look_ahead (token Star) ts ≡ false → is Star (kind_of ts) ≡ false
-starless_ahead ts h = sym (leads_by_kind (token Star) ts refl) ∙ h
-
 -- ---- a label, or a range
 
 module _ {reader : Reader} {at : ℕ} {old : Tables} {w : Walk} {first : Token} {next : ℕ} (h : Has reader old w) (clean : Starless w) (n : IsNext (is Label) reader at first next) where
   -- the label that stands alone
   alone_new : leads productions look_ahead (token Star) (seen_from reader next) ≡ false → new_labels reader.source.now w (Label, first) (kind_of (seen_from reader next)) ≡ text_of_label reader.source.now first ∷ []
-  alone_new unled = label_new reader.source.now w first (kind_of (seen_from reader next)) clean ∙ ap (λ b. cond b [] (text_of_label reader.source.now first ∷ [])) (starless_ahead (seen_from reader next) unled)
+  alone_new unled = label_new reader.source.now w first (kind_of (seen_from reader next)) clean ∙ ap (λ b. cond b [] (text_of_label reader.source.now first ∷ [])) (sym (leads_by_kind (token Star) (seen_from reader next) refl) ∙ unled)
 
   pub label_got : {limit : ℕ} (was now : Position) (new : Tables) (number : ℕ) (labels : List (List ℕ)) → leads productions look_ahead (token Star) (seen_from reader next) ≡ false → (text : List ℕ) → text ≡ text_of_label reader.source.now first → IsEntered old.labels labels text number → new.names ≡ old.names → new.labels ≡ labels →
       now.labels.items ≡ was.labels.items ++ number ∷ [] → now.bad_range ≡ was.bad_range → IsGot limit (λ sense tree x. IsAdded reader.source.now sense tree was x) (Stays reader new w) (the Range) reader at new w now next
   label_got was now new number labels unled text spelled given names same items bad = let e = subst (λ (x : List ℕ). IsEntered old.labels labels x number) spelled given in got_by
-      (gives_the Range (gives_both (label_gives (text_of_label reader.source.now first ∷ []) n (alone_new unled) h.holds (single_room old.labels (text_of_label reader.source.now first) e.room)) (gives_none (unled_next (is Star) (token Label) (seen_from reader next) unled))))
+      (gives_the Range (gives_both (label_gives (text_of_label reader.source.now first ∷ []) n (alone_new unled) h.holds (λ l. e.room (full_of old.labels (text_of_label reader.source.now first) l))) (gives_none (unled_next (is Star) (token Label) (seen_from reader next) unled))))
       (label_stays w first next (text_of_label reader.source.now first ∷ []) (alone_new unled) h names (same ∙ e.table))
-      (λ sense m. (items ∙ ap (λ k. was.labels.items ++ k ∷ []) (sym (ap or_0 (m.labels (text_of_label reader.source.now first) number (ap (λ (z : List (List ℕ)). place_of z (text_of_label reader.source.now first)) same ∙ e.place)))), bad ∙ or_none was.bad_range))
+      (λ sense m. (items ∙ ap (λ k. was.labels.items ++ k ∷ []) (sym (ap or_0 (m.labels (text_of_label reader.source.now first) number (ap (λ (z : List (List ℕ)). place_of z (text_of_label reader.source.now first)) same ∙ e.place)))), bad ∙ sym (or-false was.bad_range)))
       (let g = n.further in omega arith)
-    where
-      or_none : (b : Bool) → b ≡ (b || false)
-      or_none true = refl
-      or_none false = refl
 
   pub label_not_entered : {limit : ℕ} {e : SourceFaultOrMemory} → leads productions look_ahead (token Star) (seen_from reader next) ≡ false → (text : List ℕ) → text ≡ text_of_label reader.source.now first → IsNotEntered old.labels text first.at e → Refuses limit reader.source.now (the Range) w (seen_from reader at) e
   label_not_entered unled text spelled r = elim r.why [
@@ -229,16 +187,12 @@ module _ {reader : Reader} {at : ℕ} {old : Tables} {w : Walk} {first : Token} 
           texts : List (List ℕ)
           texts = range_texts reader.source.now from to
 
-          in_order : (sense : Sense) → IsSense new sense → (us : List (List ℕ)) → AreThere new.labels us → map (λ text. or_0 (place_of new.labels text)) us ≡ map (λ text. or_0 (place_of sense.labels text)) us
-          in_order sense s [] h = refl
-          in_order sense s (u ∷ us) h = ap₂ (λ a b. or_0 a ∷ b) (h.0.1 ∙ sym (s.labels u h.0.0 h.0.1)) (in_order sense s us h.1)
-
           by_range : (labels : List (List ℕ)) (b : Bool) → map (λ text. or_0 (place_of labels text)) (cond b (members from to) []) ≡ cond b (map (λ text. or_0 (place_of labels text)) (members from to)) []
           by_range labels true = refl
           by_range labels false = refl
 
           places : (sense : Sense) → IsSense new sense → map (λ text. or_0 (place_of new.labels text)) (range_texts reader.source.now from to) ≡ range_labels reader.source.now sense.labels from to
-          places sense s = in_order sense s (range_texts reader.source.now from to) e.are_there ∙ by_range sense.labels (is_range from to)
+          places sense s = same_places new.labels sense.labels (λ text n p. s.labels text n p) (range_texts reader.source.now from to) e.are_there ∙ by_range sense.labels (is_range from to)
 
       pub range_refused : {limit : ℕ} {e : SourceFaultOrMemory} → IsNotEnteredRange reader.source.now old first last e → Refuses limit reader.source.now (the Range) w (seen_from reader at) e
       range_refused r = elim r.why [
@@ -262,28 +216,18 @@ entering_next old now all i was numbers e within text is new n f more is_more =
 pub texts_are : (source from to a b : List ℕ) (all : List (List ℕ)) → from ≡ a → to ≡ b → is_range from to ≡ true → all ≡ members from to → range_texts source a b ≡ all
 texts_are source from to a b all e f r m = ap₂ (λ x y. range_texts source x y) (sym e) (sym f) ∙ ap (λ c. cond c (members from to) []) r ∙ sym m
 
-take_all : {T : Type 0} (xs : List T) (i : ℕ) → length xs ≤ i → take i xs ≡ xs
-take_all [] zero h = refl
-take_all [] (suc i) h = refl
-take_all (x ∷ xs) zero h = absurd (omega (arith, h))
-take_all (x ∷ xs) (suc i) h = ap (λ u. x ∷ u) (take_all xs i (omega (arith, h)))
-
 -- all members were entered
 pub members_entered : (source : List ℕ) (old new : Tables) (was now : Position) (first last : Token) (all : List (List ℕ)) (i : ℕ) → Entering old.labels new.labels (take i all) was.labels.items now.labels.items → length all ≤ i → range_texts source (text_of_label source first) (text_of_label source last) ≡ all →
     now.bad_range ≡ was.bad_range → is_range (text_of_label source first) (text_of_label source last) ≡ true → IsEnteredRange source old new was now first last
 members_entered source old new was now first last all i e done texts bad range =
-    let whole : Entering old.labels new.labels (range_texts source (text_of_label source first) (text_of_label source last)) was.labels.items now.labels.items = subst (λ (z : List (List ℕ)). Entering old.labels new.labels z was.labels.items now.labels.items) (take_all all i done ∙ sym texts) e in
+    let whole : Entering old.labels new.labels (range_texts source (text_of_label source first) (text_of_label source last)) was.labels.items now.labels.items = subst (λ (z : List (List ℕ)). Entering old.labels new.labels z was.labels.items now.labels.items) (take_all i all done ∙ sym texts) e in
     record {
       table = whole.table;
       room = whole.room;
       labels = whole.numbers_are;
-      are_there = whole.are_there;
-      bad_range = bad ∙ or_none was.bad_range ∙ ap (λ b. was.bad_range || not b) (sym range);
+      are_there = subst (λ (z : List (List ℕ)). AreThere z (range_texts source (text_of_label source first) (text_of_label source last))) (sym whole.table) (entered_there old.labels (range_texts source (text_of_label source first) (text_of_label source last)));
+      bad_range = bad ∙ sym (or-false was.bad_range) ∙ ap (λ b. was.bad_range || not b) (sym range);
     }
-  where
-    or_none : (b : Bool) → b ≡ (b || false)
-    or_none true = refl
-    or_none false = refl
 
 -- it is no range
 pub no_members : (source : List ℕ) (tables : Tables) (was now : Position) (first last : Token) → is_range (text_of_label source first) (text_of_label source last) ≡ false → now.labels.items ≡ was.labels.items → now.bad_range ≡ true → IsEnteredRange source tables tables was now first last
@@ -294,12 +238,8 @@ no_members source tables was now first last lacking items bad =
       room = room_for_none tables.labels (range_texts source (text_of_label source first) (text_of_label source last)) texts;
       labels = items ∙ sym (append-nil was.labels.items) ∙ ap (λ us. was.labels.items ++ map (λ text. or_0 (place_of tables.labels text)) us) (sym texts);
       are_there = subst (λ (us : List (List ℕ)). AreThere tables.labels us) (sym texts) tt;
-      bad_range = bad ∙ sym (ap (λ b. was.bad_range || not b) lacking ∙ or_yes was.bad_range);
+      bad_range = bad ∙ sym (ap (λ b. was.bad_range || not b) lacking ∙ or-true was.bad_range);
     }
-  where
-    or_yes : (b : Bool) → (b || true) ≡ true
-    or_yes true = refl
-    or_yes false = refl
 
 -- a member finds no room
 pub member_refused : (source : List ℕ) (old : Tables) (first last : Token) (now all : List (List ℕ)) (i : ℕ) (was numbers : List ℕ) → Entering old.labels now (take i all) was numbers → i < length all → range_texts source (text_of_label source first) (text_of_label source last) ≡ all → (text : List ℕ) → text ≡ get_or all i [] →

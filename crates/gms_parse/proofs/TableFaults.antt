@@ -25,10 +25,6 @@ error_is BadRow = refl
 error_is NoHeading = refl
 error_is Labels = refl
 
--- errors of the same number are the same
-same_error : (one other : TableError) → error_code one ≡ error_code other → one ≡ other
-same_error one other e = sym (error_is one) ∙ ap error_of_code e ∙ error_is other
-
 module _ (limit : ℕ) (labels : List (List ℕ)) where
   -- nothing stands at a sound part
   pub stands_not : (done before : List Part) (part : Part) (behind : List Part) (error : TableError) → AreSound limit labels done (before ++ (part ∷ behind)) → Stands limit labels (done ++ before) part error → ⊥
@@ -49,7 +45,7 @@ module _ (limit : ℕ) (labels : List (List ℕ)) where
           let less : error_code one.error ≤ error_code other.error = f.least other.error there in
           let more : error_code other.error ≤ error_code one.error = g.least one.error here in
           let codes : error_code one.error ≡ error_code other.error = omega (arith, less, more) in
-          ap₂ (λ (e : TableError) (p : Place). record { error = e; at = p }) (same_error one.error other.error codes) (f.at ∙ ap place_of_part part ∙ sym g.at)
+          ap₂ (λ (e : TableError) (p : Place). record { error = e; at = p }) (sym (error_is one.error) ∙ ap error_of_code codes ∙ error_is other.error) (f.at ∙ ap place_of_part part ∙ sym g.at)
 
 -- what is told of a fault of a table
 abbrev told_of : TableFault → SourceFault

@@ -1,22 +1,21 @@
 -- Lines of a table without a fault have entries.
-use Rattle.std.proofs.Common.{◌≡◌, ◌⊎◌, ℕ, zero, suc, ◌<◌, Bool, true, false, cond, List, [], ◌∷◌, ◌++◌, length, map, Option, Some, None, is_some, refl, sym, ap, ap₂, ◌∙◌, subst, append_assoc, arith, inl, inr}
+use Rattle.std.proofs.Common.{◌≡◌, ◌⊎◌, ℕ, zero, suc, ◌<◌, Bool, true, false, cond, List, [], ◌∷◌, ◌++◌, length, map, Option, Some, refl, sym, ap, ap₂, ◌∙◌, subst, append_assoc, arith, inl, inr}
 use Rattle.std.proofs.lemmas.Bool.{cases_lt}
 use Rattle.gq_number.specs.Number.{Number as Rational}
-use Rattle.gms_labels.specs.Labels.{place_of, entered}
-use Rattle.gms_labels.proofs.Places.{place_of-entered}
 use Rattle.gms_table.specs.declared.fault.TableError.{TableError}
 use Rattle.gms_table.specs.declared.fault.TableError.TheVariants.{NoColumn, TwoColumns, BadRow}
 use Rattle.gms_table.specs.declared.fault.TableFault.{TableFault}
 use Rattle.gms_table.specs.Faults.{error_code}
 use Rattle.gms_table.specs.Words.{Word}
-use Rattle.gms_table.specs.WordLabels.{AreNumbers, names_of, all_entered}
+use Rattle.gms_table.specs.WordLabels.{AreNumbers, names_of}
 use Rattle.gms_table.specs.CellNumbers.{unsigned, signed, IsValue}
 use Rattle.gms_table.specs.TableEntries.{Part, name, cell, is_plus, under, table_of, texts_of, place_of_part, meet, met, IsEntry, AreEntries, Stands, AreSound, IsFirstFault}
-use Rattle.gms_table.proofs.LabelLemmas.{Stay, Stay-all_entered}
+use Rattle.gms_table.proofs.LabelLemmas.{Stay}
 use Rattle.gms_table.proofs.PartLemmas.{texts_of-append, AreSound-push}
 use Rattle.gms_expressions.specs.ExpressionTrees.{or_0}
 use Rattle.gms_expressions.proofs.Valued.{number_in_is}
 use Rattle.gms_parse.specs.Tables.{numbers_of, entry_under, entries_in}
+use Rattle.gms_parse.specs.Meanings.{AreThere}
 use Rattle.gms_parse.proofs.Decided.{value_told}
 
 -- ---- a table without a fault is sound
@@ -49,47 +48,22 @@ module _ (limit : ℕ) (labels : List (List ℕ)) (parts : List Part) (none : (f
 
 -- ---- labels that have numbers
 
--- a text has a number among labels
-pub record Placed (labels : List (List ℕ)) (text : List ℕ) : Type 0 where
-  pub n : ℕ
-  pub at : place_of labels text ≡ Some n
-
--- each of these texts has one
-abbrev pub ArePlaced : List (List ℕ) → List (List ℕ) → Type 0
-ArePlaced labels [] = Unit {0}
-ArePlaced labels (text ∷ texts) = Placed labels text × ArePlaced labels texts
-
-placed_front : (labels u v : List (List ℕ)) → ArePlaced labels (u ++ v) → ArePlaced labels u
+placed_front : (labels u v : List (List ℕ)) → AreThere labels (u ++ v) → AreThere labels u
 placed_front labels [] v h = tt
 placed_front labels (t ∷ u) v h = (h.0, placed_front labels u v h.1)
 
-placed_rest : (labels u v : List (List ℕ)) → ArePlaced labels (u ++ v) → ArePlaced labels v
+placed_rest : (labels u v : List (List ℕ)) → AreThere labels (u ++ v) → AreThere labels v
 placed_rest labels [] v h = h
 placed_rest labels (t ∷ u) v h = placed_rest labels u v h.1
 
-pub placed_stay : (before after : List (List ℕ)) → Stay before after → (texts : List (List ℕ)) → ArePlaced before texts → ArePlaced after texts
+pub placed_stay : (before after : List (List ℕ)) → Stay before after → (texts : List (List ℕ)) → AreThere before texts → AreThere after texts
 placed_stay before after stay [] h = tt
-placed_stay before after stay (t ∷ texts) h =
-    let there : Placed after t = record { n = h.0.n; at = stay.stays t h.0.n h.0.at } in
-    (there, placed_stay before after stay texts h.1)
-
-placed_from : (labels : List (List ℕ)) (text : List ℕ) (o : Option ℕ) → place_of labels text ≡ o → is_some o ≡ true → Placed labels text
-placed_from labels text (Some n) e h = record { n = n; at = e }
-placed_from labels text None e h = absurd cc
-
--- texts that are entered have numbers
-pub entered_placed : (labels texts : List (List ℕ)) → ArePlaced (all_entered labels texts) texts
-entered_placed labels [] = tt
-entered_placed labels (t ∷ texts) =
-    let p = placed_from (entered labels t) t (place_of (entered labels t) t) refl (place_of-entered labels t) in
-    let stay = Stay-all_entered (entered labels t) texts in
-    let there : Placed (all_entered (entered labels t) texts) t = record { n = p.n; at = stay.stays t p.n p.at } in
-    (there, entered_placed (entered labels t) texts)
+placed_stay before after stay (t ∷ texts) h = ((h.0.0, stay.stays t h.0.0 h.0.1), placed_stay before after stay texts h.1)
 
 -- these are the numbers of texts that have some
-numbered : (labels texts : List (List ℕ)) → ArePlaced labels texts → AreNumbers labels (numbers_of labels texts) texts
+numbered : (labels texts : List (List ℕ)) → AreThere labels texts → AreNumbers labels (numbers_of labels texts) texts
 numbered labels [] h = refl
-numbered labels (t ∷ texts) h = ap₂ (λ (a : Option ℕ) (b : List (Option ℕ)). a ∷ b) (ap (λ (o : Option ℕ). Some (or_0 o)) h.0.at ∙ sym h.0.at) (numbered labels texts h.1)
+numbered labels (t ∷ texts) h = ap₂ (λ (a : Option ℕ) (b : List (Option ℕ)). a ∷ b) (ap (λ (o : Option ℕ). Some (or_0 o)) h.0.1 ∙ sym h.0.1) (numbered labels texts h.1)
 
 -- ---- the rows and headings of numbers
 
@@ -97,11 +71,11 @@ module _ (labels : List (List ℕ)) where
   -- the labels of each of these words have numbers
   abbrev pub HavePlaces : List Word → Type 0
   HavePlaces [] = Unit {0}
-  HavePlaces (word ∷ words) = ArePlaced labels (names_of word) × HavePlaces words
+  HavePlaces (word ∷ words) = AreThere labels (names_of word) × HavePlaces words
 
   -- the labels of a row, and those of the headings that hold there
   pub record CellPlaced (row : Word) (headings : List Word) : Type 0 where
-    pub row_there : ArePlaced labels (names_of row)
+    pub row_there : AreThere labels (names_of row)
     pub headings_there : HavePlaces headings
 
   -- the same of each number
@@ -110,7 +84,7 @@ module _ (labels : List (List ℕ)) where
   CellsPlaced (name word ∷ parts) = CellsPlaced parts
   CellsPlaced (cell row headings word ∷ parts) = CellPlaced row headings × CellsPlaced parts
 
-  names_placed : (words : List Word) → ArePlaced labels (texts_of (map name words)) → HavePlaces words
+  names_placed : (words : List Word) → AreThere labels (texts_of (map name words)) → HavePlaces words
   names_placed [] h = tt
   names_placed (word ∷ words) h =
       (placed_front labels (names_of word) (texts_of (map name words)) h, names_placed words (placed_rest labels (names_of word) (texts_of (map name words)) h))
@@ -127,27 +101,27 @@ module _ (labels : List (List ℕ)) where
   texts_behind row headings [] rest = refl
   texts_behind row headings (word ∷ words) rest = texts_behind row headings words rest
 
-  placed_under : (headings : List Word) (lines : List (List Word)) → HavePlaces headings → ArePlaced labels (texts_of (under headings lines)) → CellsPlaced (under headings lines)
+  placed_under : (headings : List Word) (lines : List (List Word)) → HavePlaces headings → AreThere labels (texts_of (under headings lines)) → CellsPlaced (under headings lines)
   placed_under headings [] k h = tt
   placed_under headings ([] ∷ lines) k h = placed_under headings lines k h
   placed_under headings ((first ∷ words) ∷ lines) k h = go (λ others p q. placed_under others lines p q) (is_plus first) h
     where
-      go : ((others : List Word) → HavePlaces others → ArePlaced labels (texts_of (under others lines)) → CellsPlaced (under others lines)) → (b : Bool) → ArePlaced labels (texts_of (cond b (map name words ++ under words lines) (name first ∷ (map (cell first headings) words ++ under headings lines)))) →
+      go : ((others : List Word) → HavePlaces others → AreThere labels (texts_of (under others lines)) → CellsPlaced (under others lines)) → (b : Bool) → AreThere labels (texts_of (cond b (map name words ++ under words lines) (name first ∷ (map (cell first headings) words ++ under headings lines)))) →
           CellsPlaced (cond b (map name words ++ under words lines) (name first ∷ (map (cell first headings) words ++ under headings lines)))
       go below true g =
-          let split : ArePlaced labels (texts_of (map name words) ++ texts_of (under words lines)) = subst (λ (ts : List (List ℕ)). ArePlaced labels ts) (texts_of-append (map name words) (under words lines)) g in
+          let split : AreThere labels (texts_of (map name words) ++ texts_of (under words lines)) = subst (λ (ts : List (List ℕ)). AreThere labels ts) (texts_of-append (map name words) (under words lines)) g in
           let there = names_placed words (placed_front labels (texts_of (map name words)) (texts_of (under words lines)) split) in
           behind_names words (under words lines) (below words there (placed_rest labels (texts_of (map name words)) (texts_of (under words lines)) split))
       go below false g =
           let there : CellPlaced first headings = record { row_there = placed_front labels (names_of first) (texts_of (map (cell first headings) words ++ under headings lines)) g; headings_there = k } in
-          let others : ArePlaced labels (texts_of (under headings lines)) = subst (λ (ts : List (List ℕ)). ArePlaced labels ts) (texts_behind first headings words (under headings lines)) (placed_rest labels (names_of first) (texts_of (map (cell first headings) words ++ under headings lines)) g) in
+          let others : AreThere labels (texts_of (under headings lines)) = subst (λ (ts : List (List ℕ)). AreThere labels ts) (texts_behind first headings words (under headings lines)) (placed_rest labels (names_of first) (texts_of (map (cell first headings) words ++ under headings lines)) g) in
           cells_placed first headings words (under headings lines) there (below headings k others)
 
-  pub placed_table : (lines : List (List Word)) → ArePlaced labels (texts_of (table_of lines)) → CellsPlaced (table_of lines)
+  pub placed_table : (lines : List (List Word)) → AreThere labels (texts_of (table_of lines)) → CellsPlaced (table_of lines)
   placed_table [] h = tt
   placed_table ([] ∷ lines) h = placed_table lines h
   placed_table ((first ∷ words) ∷ lines) h =
-      let split : ArePlaced labels (texts_of (map name (first ∷ words)) ++ texts_of (under (first ∷ words) lines)) = subst (λ (ts : List (List ℕ)). ArePlaced labels ts) (texts_of-append (map name (first ∷ words)) (under (first ∷ words) lines)) h in
+      let split : AreThere labels (texts_of (map name (first ∷ words)) ++ texts_of (under (first ∷ words) lines)) = subst (λ (ts : List (List ℕ)). AreThere labels ts) (texts_of-append (map name (first ∷ words)) (under (first ∷ words) lines)) h in
       let there = names_placed (first ∷ words) (placed_front labels (texts_of (map name (first ∷ words))) (texts_of (under (first ∷ words) lines)) split) in
       behind_names (first ∷ words) (under (first ∷ words) lines) (placed_under (first ∷ words) lines there (placed_rest labels (texts_of (map name (first ∷ words))) (texts_of (under (first ∷ words) lines)) split))
 

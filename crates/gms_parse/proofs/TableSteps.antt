@@ -155,22 +155,14 @@ record AtLines (w : Walk) (run : List Seen) (at : Place) : Type 0 where
 lines_on : (source : List ℕ) {w : Walk} (t : Token) {run : List Seen} {at : Place} → AtLines w run at → AtLines (walk_after source w (lined t) TableLine) (lined t ∷ run) at
 lines_on source {w} t a = record { run_is = run_one (lined t) w.before refl ∙ ap (λ us. lined t ∷ us) a.run_is; named = name_pushed (lined t) w.before a.behind ∙ a.named; behind = refl }
 
--- a line before another has no fault
-line_sound : (limit : ℕ) (source : List ℕ) (w : Walk) (t : Token) (fault : SourceFault) → IsFaulty limit source w (lined t) TableLine fault → ⊥
-line_sound limit source w t fault (deep e d) = cc
-line_sound limit source w t fault (out_of_range e d) = cc
-line_sound limit source w t fault (many_names e d) = cc
-line_sound limit source w t fault (many_labels e d) = cc
-line_sound limit source w t fault (in_table e d f) = cc
-line_sound limit source w t fault (without_lines e d f) = cc
-
-last_sound : (limit : ℕ) (source : List ℕ) (w : Walk) (t : Token) (ahead : Terminal) → ((fault : SourceFault) → IsLineFault limit source (table_name w.before) w.labels (lines_with source w.before (lined t)) fault → ⊥) → (fault : SourceFault) → IsFaulty limit source w (lined t) ahead fault → ⊥
-last_sound limit source w t ahead none_there fault (deep e d) = cc
-last_sound limit source w t ahead none_there fault (out_of_range e d) = cc
-last_sound limit source w t ahead none_there fault (many_names e d) = cc
-last_sound limit source w t ahead none_there fault (many_labels e d) = cc
-last_sound limit source w t ahead none_there fault (in_table e d f) = none_there fault f
-last_sound limit source w t ahead none_there fault (without_lines e d f) = cc
+-- a line has no fault but the last one that of the table
+line_sound : (limit : ℕ) (source : List ℕ) (w : Walk) (t : Token) (ahead : Terminal) → (is TableLine ahead ≡ false → (fault : SourceFault) → IsLineFault limit source (table_name w.before) w.labels (lines_with source w.before (lined t)) fault → ⊥) → (fault : SourceFault) → IsFaulty limit source w (lined t) ahead fault → ⊥
+line_sound limit source w t ahead none_there fault (deep e d) = cc
+line_sound limit source w t ahead none_there fault (out_of_range e d) = cc
+line_sound limit source w t ahead none_there fault (many_names e d) = cc
+line_sound limit source w t ahead none_there fault (many_labels e d) = cc
+line_sound limit source w t ahead none_there fault (in_table e d f) = none_there d fault f
+line_sound limit source w t ahead none_there fault (without_lines e d f) = cc
 
 ahead_other : (rest : List Seen) → leads productions look_ahead (token TableLine) rest ≡ false → is TableLine (kind_of rest) ≡ false
 ahead_other [] h = refl
@@ -184,13 +176,8 @@ pub turned : (u : Seen) (us before : List Seen) → reverse (u ∷ us) ++ before
 turned u us before = ap (λ (ws : List Seen). ws ++ before) (reverse-append (u ∷ []) us) ∙ append_assoc (reverse us) (u ∷ []) before
 
 -- the fault of all lines is that of the last one
-fault_of_last : (limit : ℕ) (source : List ℕ) (w : Walk) (run : List Seen) (at : Place) (t : Token) (fault : SourceFault) → AtLines w run at → IsLineFault limit source (table_name w.before) w.labels (lines_with source w.before (lined t)) fault → IsLineFault limit source at w.labels (reverse run ++ lined t ∷ []) fault
-fault_of_last limit source w run at t fault a f =
-    subst (λ (ls : List Seen). IsLineFault limit source at w.labels ls fault) (last_lines source w run t a.run_is) (subst (λ (p : Place). IsLineFault limit source p w.labels (lines_with source w.before (lined t)) fault) a.named f)
-
-fault_for_last : (limit : ℕ) (source : List ℕ) (w : Walk) (run : List Seen) (at : Place) (t : Token) (fault : SourceFault) → AtLines w run at → IsLineFault limit source at w.labels (reverse run ++ lined t ∷ []) fault → IsLineFault limit source (table_name w.before) w.labels (lines_with source w.before (lined t)) fault
-fault_for_last limit source w run at t fault a f =
-    subst (λ (p : Place). IsLineFault limit source p w.labels (lines_with source w.before (lined t)) fault) (sym a.named) (subst (λ (ls : List Seen). IsLineFault limit source at w.labels ls fault) (sym (last_lines source w run t a.run_is)) f)
+told_at : (limit : ℕ) (source : List ℕ) (labels : List (List ℕ)) (fault : SourceFault) {p q : Place} {ls ms : List Seen} → p ≡ q → ls ≡ ms → IsLineFault limit source p labels ls fault → IsLineFault limit source q labels ms fault
+told_at limit source labels fault {p} {q} {ls} e k f = subst (λ (us : List Seen). IsLineFault limit source q labels us fault) k (subst (λ (x : Place). IsLineFault limit source x labels ls fault) e f)
 
 -- what lines leave
 record LinesGive (limit : ℕ) (source : List ℕ) (w : Walk) (ts : List Token) (rest lines : List Seen) : Type 0 where
@@ -204,7 +191,7 @@ module _ (limit : ℕ) (source : List ℕ) (rest : List Seen) (unled : leads pro
   lines_give : (t : Token) (ts : List Token) (w : Walk) (run : List Seen) (at : Place) → AtLines w run at → ((fault : SourceFault) → IsLineFault limit source at w.labels (reverse run ++ map lined (t ∷ ts)) fault → ⊥) → LinesGive limit source w (t ∷ ts) rest (reverse run ++ map lined (t ∷ ts))
   lines_give t [] w run at a none_there = record {
     behind = walk_after source w (lined t) (kind_of rest);
-    gives = gives_again refl (gives_one refl refl (last_sound limit source w t (kind_of rest) (λ fault f. none_there fault (fault_of_last limit source w run at t fault a f))) refl) (gives_no_more unled);
+    gives = gives_again refl (gives_one refl refl (line_sound limit source w t (kind_of rest) (λ d fault f. none_there fault (told_at limit source w.labels fault a.named (last_lines source w run t a.run_is) f))) refl) (gives_no_more unled);
     open_count = refl;
     names = refl;
     labels = ap (λ b. all_entered w.labels (cond (not b) (labels_of_lines source (lines_with source w.before (lined t))) [])) (ahead_other rest unled) ∙ ap (λ ls. all_entered w.labels (labels_of_lines source ls)) (last_lines source w run t a.run_is);
@@ -215,7 +202,7 @@ module _ (limit : ℕ) (source : List ℕ) (rest : List Seen) (unled : leads pro
       let g = lines_give u ts v (lined t ∷ run) at (lines_on source t a) (λ fault f. none_there fault (subst (λ (ls : List Seen). IsLineFault limit source at w.labels ls fault) again f)) in
       record {
         behind = g.behind;
-        gives = gives_again refl (gives_one refl refl (line_sound limit source w t) refl) g.gives;
+        gives = gives_again refl (gives_one refl refl (line_sound limit source w t TableLine (λ d fault f. cc)) refl) g.gives;
         open_count = g.open_count;
         names = g.names;
         labels = g.labels ∙ ap (λ ls. all_entered w.labels (labels_of_lines source ls)) again;
@@ -223,9 +210,9 @@ module _ (limit : ℕ) (source : List ℕ) (rest : List Seen) (unled : leads pro
 
   lines_wrong : (t : Token) (ts : List Token) (w : Walk) (run : List Seen) (at : Place) → AtLines w run at → (fault : SourceFault) → IsLineFault limit source at w.labels (reverse run ++ map lined (t ∷ ts)) fault → (e : SourceFaultOrMemory) → e ≡ Fault fault →
       Refuses limit source (many (token TableLine)) w (map lined (t ∷ ts) ++ rest) e
-  lines_wrong t [] w run at a fault f e is = refuses_again refl (refuses_token (takes_one refl) (in_table refl (ahead_other rest unled) (fault_for_last limit source w run at t fault a f)) is)
+  lines_wrong t [] w run at a fault f e is = refuses_again refl (refuses_token (takes_one refl) (in_table refl (ahead_other rest unled) (told_at limit source w.labels fault (sym a.named) (sym (last_lines source w run t a.run_is)) f)) is)
   lines_wrong t (u ∷ ts) w run at a fault f e is =
-      refuses_later refl (gives_one refl refl (line_sound limit source w t) refl)
+      refuses_later refl (gives_one refl refl (line_sound limit source w t TableLine (λ d fault f. cc)) refl)
       (lines_wrong u ts (walk_after source w (lined t) TableLine) (lined t ∷ run) at (lines_on source t a) fault (subst (λ (ls : List Seen). IsLineFault limit source at w.labels ls fault) (sym (turned (lined t) run (map lined (u ∷ ts)))) f) e is)
 
 -- ---- kinds

@@ -10,16 +10,16 @@ use Rattle.gms_lex.specs.declared.token.Token.{Token}
 use Rattle.gms_lex.specs.TokenTexts.{token_text}
 use Rattle.gms_grammar.specs.declared.terminal.Terminal.{Terminal}
 use Rattle.gms_grammar.specs.declared.terminal.Terminal.TheVariants.{Number, Infinity, NotAvailable, Sign, Equals, Slash}
-use Rattle.gms_grammar.specs.Grammar.{the, one, ◌·◌, ◌∣◌, opt, leaf}
+use Rattle.gms_grammar.specs.Grammar.{the, one, ◌·◌, ◌∣◌, opt}
 use Rattle.gms_grammar.specs.Reading.{read, stuck, leads, Reads, taken, refused, first_stuck, second_stuck, in_right_stuck, in_neither, left_out, there, there_stuck, takes_right}
-use Rattle.gms_grammar.specs.Terminals.{is, is_among}
+use Rattle.gms_grammar.specs.Terminals.{is}
 use Rattle.gms_grammar.specs.GamsGrammar.{Value, productions, token, any_of}
 use Rattle.gms_grammar.specs.GamsLookAhead.{look_ahead}
 use Rattle.gms_grammar.proofs.Basics.{or_left, or_right, or_both, not_true}
 use Rattle.gms_expressions.proofs.Valued.{number_in_is}
 use Rattle.gms_expressions.specs.ExpressionTrees.{second_in}
 use Rattle.gms_expressions.specs.Outcomes.{next_place}
-use Rattle.gms_parse.proofs.TokenKinds.{is_quiet, same_kind, unled_next}
+use Rattle.gms_parse.proofs.TokenKinds.{same_kind, unled_next}
 use Rattle.gms_parse.proofs.Walks.{quiet_sound}
 use Rattle.gms_expressions.proofs.Chains.{place_read}
 use Rattle.gms_parse.specs.declared.fault.SourceFaultOrMemory.{SourceFaultOrMemory}
@@ -33,13 +33,9 @@ use Rattle.gms_parse.proofs.Steps.{got_by, gives_one, gives_both, gives_the, giv
 use Rattle.gms_parse.proofs.Nexts.{past, exact, led_next, leads_next, gives_exact, refuses_lacking, plain_stays, stays_then, stays_same, earlier}
 use Rattle.gms_parse.proofs.Entering.{number_gives, number_stays}
 
--- a token of any of some kinds, of which it is this one
-gives_kind : {limit : ℕ} (test : Terminal → Bool) (kind : Terminal) {reader : Reader} {at behind : ℕ} {t : Token} {w : Walk} → IsNext (is kind) reader at t behind → test kind ≡ true → is_quiet kind ≡ true → Gives limit reader.source.now (one test) w (seen_from reader at) (leaf (kind, t)) (past reader w kind t behind) (seen_from reader behind)
-gives_kind {limit} test kind {reader} {behind = behind} {t = t} {w = w} n h q = gives_one (exact {kind = kind} n) h (quiet_sound limit reader.source.now w kind t (kind_of (seen_from reader behind)) q) refl
-
 -- an infinity
 pub infinity_got : {F : Type 0} (value : F → Rational) {limit : ℕ} {reader : Reader} {at behind : ℕ} {t : Token} {tables : Tables} {w : Walk} → IsNext (is Infinity) reader at t behind → Has reader tables w → IsGot limit (IsUnsigned {F = F} value reader.source.now) (Stays reader tables w) (any_of (Number ∷ Infinity ∷ [])) reader at tables w ext.PlusInf behind
-infinity_got value {reader = reader} {behind = behind} {t = t} {w = w} n h = got_by (gives_kind (is_among (Number ∷ Infinity ∷ [])) Infinity n refl refl) (plain_stays reader w Infinity t behind refl h) (λ sense s. refl)
+infinity_got value {limit = limit} {reader = reader} {behind = behind} {t = t} {w = w} n h = got_by (gives_one (exact {kind = Infinity} n) refl (quiet_sound limit reader.source.now w Infinity t (kind_of (seen_from reader behind)) refl) refl) (plain_stays reader w Infinity t behind refl h) (λ sense s. refl)
     (let g = n.further in omega arith)
 
 -- a number

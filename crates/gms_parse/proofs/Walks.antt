@@ -1,20 +1,21 @@
 -- What tokens leave, one after another.
-use Rattle.std.proofs.Common.{◌≡◌, ℕ, true, false, not, cond, List, [], ◌∷◌, Some, refl, sym, ap, ◌∙◌}
-use Rattle.gms_labels.specs.Labels.{place_of}
+use Rattle.std.proofs.Common.{◌≡◌, ℕ, Bool, true, false, not, ◌&&◌, ◌||◌, cond, List, [], ◌∷◌, Some, refl, sym, ap, ◌∙◌}
+use Rattle.std.proofs.lemmas.Bool.{not-true}
+use Rattle.gms_labels.specs.Labels.{place_of, entered, IsFullFor}
 use Rattle.gms_lex.specs.declared.token.Token.{Token}
 use Rattle.gms_lex.specs.TokenTexts.{token_text}
 use Rattle.gms_grammar.specs.declared.terminal.Terminal.{Terminal}
-use Rattle.gms_grammar.specs.declared.terminal.Terminal.TheVariants.{LeftParen, RightParen, Name, Suffix, Text, Label, Number, TableLine}
-use Rattle.gms_grammar.specs.Terminals.{is_among}
-use Rattle.gms_grammar.proofs.Checks.{left_and}
+use Rattle.gms_grammar.specs.declared.terminal.Terminal.TheVariants.{LeftParen, RightParen, Name, Suffix, Text, Label, Number, Table, TableLine, Dot, Using, Option}
+use Rattle.gms_grammar.specs.Terminals.{is, is_among}
 use Rattle.gms_grammar.proofs.Orders.{some_there}
 use Rattle.gms_grammar.proofs.Rules.{all_keep}
+use Rattle.gms_expressions.specs.Outcomes.{open_after}
 use Rattle.gms_expressions.proofs.TokenKinds.{also}
 use Rattle.gms_expressions.proofs.Walks.{kept_by}
 use Rattle.gms_parse.specs.declared.fault.SourceFault.{SourceFault}
 use Rattle.gms_table.specs.WordLabels.{all_entered}
 use Rattle.gms_table.proofs.LabelLemmas.{Stay-all_entered}
-use Rattle.gms_parse.specs.Walks.{Seen, Walk, is_name, LacksRoom, new_labels, walk_after, walk_behind, IsFaulty, deep, out_of_range, many_names, many_labels, in_table, without_lines}
+use Rattle.gms_parse.specs.Walks.{Seen, Walk, is_name, last_kind, ends_statement, LacksRoom, new_labels, walk_after, walk_behind, IsFaulty, deep, out_of_range, many_names, many_labels, in_table, without_lines}
 use Rattle.gms_parse.proofs.TokenKinds.{begins, is_quiet}
 
 -- texts that are entered keep the places of others
@@ -36,24 +37,29 @@ pub record IsQuiet (w v : Walk) : Type 0 where
   pub names : v.names ≡ w.names
   pub labels : v.labels ≡ w.labels
 
--- a quiet token enters no label
-pub quiet_new : (source : List ℕ) (w : Walk) (kind : Terminal) (token : Token) (ahead : Terminal) → is_quiet kind ≡ true → new_labels source w (kind, token) ahead ≡ []
-quiet_new source w Text token ahead h = cc
-quiet_new source w Label token ahead h = cc
-quiet_new source w TableLine token ahead h = cc
-quiet_new source w _ token ahead h = refl
+-- a token of the kind opens and closes nothing, enters no label, and is no number
+abbrev pub is_mute : Terminal → Bool
+is_mute kind = not (is_among (LeftParen ∷ RightParen ∷ Text ∷ Label ∷ Number ∷ TableLine ∷ []) kind)
 
--- a quiet token leaves them as they were
+-- it leaves the parentheses as they were
+pub mute_after : (source : List ℕ) (w : Walk) (kind : Terminal) (token : Token) (ahead : Terminal) → is_mute kind ≡ true → (open_after w.open_count kind ≡ w.open_count) × (new_labels source w (kind, token) ahead ≡ [])
+mute_after source w LeftParen token ahead h = cc
+mute_after source w RightParen token ahead h = cc
+mute_after source w Text token ahead h = cc
+mute_after source w Label token ahead h = cc
+mute_after source w TableLine token ahead h = cc
+mute_after source w _ token ahead h = (refl, refl)
+
+-- a quiet token is no name
+quiet_unnamed : (w : Walk) (kind : Terminal) → is_quiet kind ≡ true → is_name w kind ≡ false
+quiet_unnamed w kind h =
+    ap (λ b. b && not (is_among (Dot ∷ Using ∷ []) (last_kind w.before) || is Option w.keyword)) (not-true (is_among (Name ∷ Suffix ∷ []) kind) (also is_quiet (λ k. not (is_among (Name ∷ Suffix ∷ []) k)) refl kind h))
+
+-- a quiet token leaves parentheses, names and labels as they were
 pub quiet_after : (source : List ℕ) (w : Walk) (kind : Terminal) (token : Token) (ahead : Terminal) → is_quiet kind ≡ true → IsQuiet w (walk_after source w (kind, token) ahead)
-quiet_after source w LeftParen token ahead h = cc
-quiet_after source w RightParen token ahead h = cc
-quiet_after source w Name token ahead h = cc
-quiet_after source w Suffix token ahead h = cc
-quiet_after source w Text token ahead h = cc
-quiet_after source w Label token ahead h = cc
-quiet_after source w Number token ahead h = cc
-quiet_after source w TableLine token ahead h = cc
-quiet_after source w _ token ahead h = record { open_count = refl; names = refl; labels = refl }
+quiet_after source w kind token ahead h =
+    let m = mute_after source w kind token ahead (also is_quiet is_mute refl kind h) in
+    record { open_count = m.0; names = ap (λ c. cond c (entered w.names (token_text source token)) w.names) (quiet_unnamed w kind h); labels = ap (all_entered w.labels) m.1 }
 
 -- within a statement, its keyword and where that stands are as they were
 pub keyword_after : (source : List ℕ) (w : Walk) (token : Seen) (ahead : Terminal) → begins token.0 ≡ false → ((walk_after source w token ahead).keyword ≡ w.keyword) × ((walk_after source w token ahead).level ≡ w.level)
@@ -67,13 +73,30 @@ begun_after source w token ahead h = (ap (λ c. cond c token.0 w.keyword) h, ap 
 pub room_for_none : (labels texts : List (List ℕ)) → texts ≡ [] → LacksRoom labels texts → ⊥
 room_for_none labels texts e l = some_there l.before l.text l.behind (sym e ∙ l.parts)
 
+-- a token of the kind is no parenthesis, no number and no line of a table
+abbrev pub is_free : Terminal → Bool
+is_free kind = not (is_among (LeftParen ∷ RightParen ∷ Number ∷ TableLine ∷ []) kind)
+
+-- it has no fault, where there is room for the name and the labels that it enters
+pub free_sound : (limit : ℕ) (source : List ℕ) (w : Walk) (kind : Terminal) (token : Token) (ahead : Terminal) → is_free kind ≡ true → (is_name w kind ≡ true → IsFullFor w.names (token_text source token) → ⊥) → (LacksRoom w.labels (new_labels source w (kind, token) ahead) → ⊥) →
+    (fault : SourceFault) → IsFaulty limit source w (kind, token) ahead fault → ⊥
+free_sound limit source w kind token ahead h named room fault (deep e d) = let f : is_free kind ≡ false = ap is_free e in cc
+free_sound limit source w kind token ahead h named room fault (out_of_range e d) = let f : is_free kind ≡ false = ap is_free e in cc
+free_sound limit source w kind token ahead h named room fault (many_names e d) = named e d
+free_sound limit source w kind token ahead h named room fault (many_labels e d) = room d
+free_sound limit source w kind token ahead h named room fault (in_table e d f) = let f : is_free kind ≡ false = ap is_free e in cc
+free_sound limit source w kind token ahead h named room fault (without_lines e d f) = let f : is_free kind ≡ false = ap is_free e in cc
+
 -- a quiet token has no fault
 pub quiet_sound : (limit : ℕ) (source : List ℕ) (w : Walk) (kind : Terminal) (token : Token) (ahead : Terminal) → is_quiet kind ≡ true → (fault : SourceFault) → IsFaulty limit source w (kind, token) ahead fault → ⊥
-quiet_sound limit source w kind token ahead h fault (deep e d) = let f : is_quiet kind ≡ false = ap is_quiet e in cc
-quiet_sound limit source w kind token ahead h fault (out_of_range e d) = let f : is_quiet kind ≡ false = ap is_quiet e in cc
-quiet_sound limit source w kind token ahead h fault (many_names n d) =
-    let f : not (is_quiet kind) ≡ true = also (is_among (Name ∷ Suffix ∷ [])) (λ k. not (is_quiet k)) refl kind (left_and _ _ n) in
-    cc
-quiet_sound limit source w kind token ahead h fault (many_labels n d) = room_for_none w.labels (new_labels source w (kind, token) ahead) (quiet_new source w kind token ahead h) d
-quiet_sound limit source w kind token ahead h fault (in_table e d f) = let f : is_quiet kind ≡ false = ap is_quiet e in cc
-quiet_sound limit source w kind token ahead h fault (without_lines e d f) = let f : is_quiet kind ≡ false = ap is_quiet e in cc
+quiet_sound limit source w kind token ahead h =
+    free_sound limit source w kind token ahead (also is_quiet is_free refl kind h) (λ e d. let u = quiet_unnamed w kind h in cc) (room_for_none w.labels _ (mute_after source w kind token ahead (also is_quiet is_mute refl kind h)).1)
+
+-- a parenthesis that closes has no fault, where it does not end the head of a table
+pub closing_sound : (limit : ℕ) (source : List ℕ) (w : Walk) (token : Token) (ahead : Terminal) → (w.keyword ≡ Table → ends_statement ahead ≡ true → ⊥) → (fault : SourceFault) → IsFaulty limit source w (RightParen, token) ahead fault → ⊥
+closing_sound limit source w token ahead on fault (deep e d) = cc
+closing_sound limit source w token ahead on fault (out_of_range e d) = cc
+closing_sound limit source w token ahead on fault (many_names e d) = cc
+closing_sound limit source w token ahead on fault (many_labels e d) = room_for_none _ _ refl d
+closing_sound limit source w token ahead on fault (in_table e d f) = cc
+closing_sound limit source w token ahead on fault (without_lines e k f) = on k f

@@ -1,22 +1,20 @@
 //! How much the lists of a program may ask for: with ranges, and lists in parentheses, a few bytes can ask for more labels and elements than
 //! there is time and memory for.
-ghost use Rattle.std.specs.Prelude.{◌≡◌, ◌≤◌, ◌-◌, nat_le, length, All};
-ghost use Rattle.std.specs.Option.{SomeIff};
+ghost use Rattle.std.specs.Prelude.{◌≡◌, nat_le, length, All};
 ghost use Rattle.gms_lex.specs.TokenTexts.{IsPlaced};
 ghost use Rattle.gms_parse.specs.Meanings.{IsLabelToken, text_of_label};
 ghost use Rattle.gms_parse.specs.Readings.{IsReady};
-ghost use Rattle.gms_parse.specs.Room.{elements_given, elements_of, elements_of_names, first_written, labels_written};
+ghost use Rattle.gms_parse.specs.Room.{first_written, labels_written};
 ghost use Rattle.gms_parse.specs.Walks.{range_texts};
 
 use crate::reader::Reader;
-use gms_ast::{Act, Decl, Stmt};
 use gms_lex::Token;
 use gms_lexemes::{Kind, Sym};
-use gms_set::{element_count, range_len};
+use gms_set::range_len;
 
 /// How many labels the ranges of a program may write out, and how many elements its lists may give: twice as many elements as one name may have,
 /// which take some seconds, and some hundred megabytes, to be put in order.
-const MOST_GIVEN: usize = 2_097_152;
+pub(crate) const MOST_GIVEN: usize = 2_097_152;
 
 impl<'s> Reader<'s> {
     /// Whether there is room for the labels that the ranges among the tokens write out.
@@ -64,43 +62,4 @@ impl<'s> Reader<'s> {
             _ => 0,
         }
     }
-}
-
-/// Whether there is room for the elements that the lists of statements give.
-pub(crate) fn has_room_for_elements<F>(statements: &[Stmt<F>]) -> bool
-    ensures { result ≡ nat_le (elements_given statements.now) 2097152 }
-{
-    behind_statements(MOST_GIVEN, statements).is_some()
-}
-
-/// What is left of so much room behind the lists of statements; `None` where there is not so much.
-fn behind_statements<F>(room: usize, statements: &[Stmt<F>]) -> Option<usize>
-    ensures { SomeIff result (elements_given statements.now ≤ room) (room - elements_given statements.now) }
-{
-    let mut left = room;
-    for statement in statements {
-        left = behind_act(left, &statement.act)?;
-    }
-    Some(left)
-}
-
-/// What is left of so much room behind the lists of what a statement does; `None` where there is not so much.
-fn behind_act<F>(room: usize, act: &Act<F>) -> Option<usize>
-    ensures { SomeIff result (elements_of act.now ≤ room) (room - elements_of act.now) }
-{
-    match act {
-        Act::Declare { items, .. } => behind_names(room, items.as_slice()),
-        _ => Some(room),
-    }
-}
-
-/// What is left of so much room behind the lists of names; `None` where there is not so much.
-fn behind_names<F>(room: usize, items: &[Decl<F>]) -> Option<usize>
-    ensures { SomeIff result (elements_of_names items.now ≤ room) (room - elements_of_names items.now) }
-{
-    let mut left = room;
-    for item in items {
-        left = left.checked_sub(element_count(item.items.as_slice()))?;
-    }
-    Some(left)
 }

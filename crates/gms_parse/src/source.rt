@@ -4,10 +4,11 @@ ghost use Rattle.gms_parse.specs.Outcomes.{IsProgram, IsRefusal};
 
 use crate::fault::{SourceError, SourceFaultOrMemory};
 use crate::reader::{Reader, Tables};
-use crate::room::has_room_for_elements;
+use crate::room::MOST_GIVEN;
 use gms_ast::Program;
 use gms_labels::{Labels, Place};
 use gms_lex::{MOST_BYTES, lex};
+use gms_set::elements_fit;
 use gq_field::ExactField;
 use std::alloc::Global;
 
@@ -46,7 +47,7 @@ pub fn parse<F: ExactField>(alloc: Global, source: &[u8]) -> Result<Program<F>, 
         return Err(SourceFaultOrMemory::Memory);
     }
     let statements = reader.program(&mut tables)?;
-    if !has_room_for_elements(&statements) {
+    if !elements_fit(&statements, MOST_GIVEN) {
         return Err(SourceFaultOrMemory::Memory);
     }
     Ok(Program {

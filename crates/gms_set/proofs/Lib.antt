@@ -1,5 +1,6 @@
 mod Behind
 mod Digits
+mod Left
 mod Numbers
 mod Products
 mod Repeats

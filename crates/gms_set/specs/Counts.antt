@@ -1,6 +1,11 @@
--- How many elements the items of a data list give (GAMS User's Guide, "Set Definition").
+-- How many elements the items of a data list give, and the lists of a program (GAMS User's Guide, "Set Definition").
 use Rattle.std.specs.Prelude.{ℕ, ◌+◌, nat_lt, List, [], ◌∷◌, length, if◌then◌else◌}
+use Rattle.std.specs.List.{sum_by}
+use Rattle.gms_ast.specs.declared.declaration.Decl.{Decl}
 use Rattle.gms_ast.specs.declared.declaration.Item.{Item}
+use Rattle.gms_ast.specs.declared.program.Act.{Act}
+use Rattle.gms_ast.specs.declared.program.Act.TheVariants as act
+use Rattle.gms_ast.specs.declared.program.Stmt.{Stmt}
 use Rattle.gms_tuple.specs.Products.{product}
 
 module _ {F : Type 0} where
@@ -13,3 +18,16 @@ module _ {F : Type 0} where
   -- how many elements items give
   abbrev pub element_count : List (Item F) → ℕ
   element_count items = count_from 0 items
+
+  -- how many elements the lists of names give
+  abbrev pub elements_of_names : List (Decl F) → ℕ
+  elements_of_names items = sum_by (λ (item : Decl F). element_count item.items) items
+
+  -- how many elements the lists of a statement give
+  abbrev pub elements_of : Act F → ℕ
+  elements_of (act.Declare kind items) = elements_of_names items
+  elements_of other = 0
+
+  -- how many elements the lists of statements give
+  abbrev pub elements_given : List (Stmt F) → ℕ
+  elements_given statements = sum_by (λ (statement : Stmt F). elements_of statement.act) statements

@@ -8,9 +8,11 @@ mod items;
 mod outside;
 mod product;
 mod ranges;
+mod room;
 mod seen;
 
 pub use count::element_count;
 pub use fault::{SetError, SetFault, SetFaultOrMemory};
 pub use items::expand;
 pub use ranges::{range, range_len};
+pub use room::elements_fit;

@@ -53,6 +53,33 @@ members-again (variable_of type.Discrete entries) k = refl
 members-again (equation_of entries) k = refl
 members-again (model_with model solver) k = refl
 
+-- ---- what each step keeps
+
+module _ {F : Type 0} (v : F → Number) (P : State → Type 0) (items : (k : DeclKind) (items : List (Decl F)) (s : State) → P s → P (fold (with_item v k) s items)) (alias : (s : State) (one two : ℕ) → P s → P (declare_alias s one two)) (models : (models : List ModelDecl) (s : State) → P s → P (fold (λ state (model : ModelDecl). declare_model state model.named.name) s models)) where
+  kept-act : (s : State) → P s → (act : Act F) → P (after_act v s act)
+  kept-act s there act = by_parts Q by act
+    where
+      Q : Act F → Type 0
+      Q a = P (after_act v s a)
+
+      by : (layer : Act-F F (Act F) (Stmt F)) → Q (roll-Act F layer)
+      by (Act-F.Declare k those) = subst Q (sym (rolls-Declare k those)) (items k those s there)
+      by (Act-F.Alias one two) = subst Q (sym (rolls-Alias one two)) (alias s one.name two.name there)
+      by (Act-F.Assign target condition right_at right) = subst Q (sym (rolls-Assign target condition right_at right)) there
+      by (Act-F.Define equation indices condition left_at left side right_at right) =
+          subst Q (sym (rolls-Define equation indices condition left_at left side right_at right)) there
+      by (Act-F.Model those) = subst Q (sym (rolls-Model those)) (models those s there)
+      by (Act-F.Solve model method objective maximize) = subst Q (sym (rolls-Solve model method objective maximize)) there
+      by (Act-F.Display shown) = subst Q (sym (rolls-Display shown)) there
+      by (Act-F.Loop control body) = subst Q (sym (rolls-Loop control body)) there
+      by (Act-F.Options settings) = subst Q (sym (rolls-Options settings)) there
+      by (Act-F.Abort condition shown) = subst Q (sym (rolls-Abort condition shown)) there
+
+  -- through statements without an error
+  kept-sound : (statements : List (Stmt F)) (s : State) → P s → P (fold (after_statement v) s (sound statements))
+  kept-sound [] s there = there
+  kept-sound (statement ∷ statements) s there = kept-sound statements (after_act v s statement.act) (kept-act s there statement.act)
+
 module _ (b : ℕ) (t : List ℕ) where
   -- a content has the member
   abbrev Has : Content → Type 0
@@ -158,29 +185,9 @@ module _ (b : ℕ) (t : List ℕ) where
     member-items k (item ∷ items) s there =
         member-items k items (with_item v k s item) (member-given (with_name v k s item) item.named.name (expanded s (positions_of k (names_of item.domain)) item.items) (member-declare k (names_of item.domain) s item.named.name there))
 
-    member-act : (s : State) → Member s → (act : Act F) → Member (after_act v s act)
-    member-act s there act = by_parts Q by act
-      where
-        Q : Act F → Type 0
-        Q a = Member (after_act v s a)
-
-        by : (layer : Act-F F (Act F) (Stmt F)) → Q (roll-Act F layer)
-        by (Act-F.Declare k items) = subst Q (sym (rolls-Declare k items)) (member-items k items s there)
-        by (Act-F.Alias one two) = subst Q (sym (rolls-Alias one two)) (member-alias s one.name two.name there)
-        by (Act-F.Assign target condition right_at right) = subst Q (sym (rolls-Assign target condition right_at right)) there
-        by (Act-F.Define equation indices condition left_at left side right_at right) =
-            subst Q (sym (rolls-Define equation indices condition left_at left side right_at right)) there
-        by (Act-F.Model models) = subst Q (sym (rolls-Model models)) (member-models models s there)
-        by (Act-F.Solve model method objective maximize) = subst Q (sym (rolls-Solve model method objective maximize)) there
-        by (Act-F.Display items) = subst Q (sym (rolls-Display items)) there
-        by (Act-F.Loop control body) = subst Q (sym (rolls-Loop control body)) there
-        by (Act-F.Options settings) = subst Q (sym (rolls-Options settings)) there
-        by (Act-F.Abort condition items) = subst Q (sym (rolls-Abort condition items)) there
-
     -- through statements without an error
     pub member-sound : (statements : List (Stmt F)) (s : State) → Member s → Member (fold (after_statement v) s (sound statements))
-    member-sound [] s there = there
-    member-sound (statement ∷ statements) s there = member-sound statements (after_act v s statement.act) (member-act s there statement.act)
+    member-sound = kept-sound v Member member-items member-alias member-models
 
 -- ---- what names stand for
 
@@ -193,28 +200,8 @@ module _ {F : Type 0} (v : F → Number) where
   closed-models [] s closed = closed
   closed-models (model ∷ models) s closed = closed-models models (declare_model s model.named.name) (closed-model s model.named.name closed)
 
-  closed-act : (s : State) → IsClosed s → (act : Act F) → IsClosed (after_act v s act)
-  closed-act s closed act = by_parts Q by act
-    where
-      Q : Act F → Type 0
-      Q a = IsClosed (after_act v s a)
-
-      by : (layer : Act-F F (Act F) (Stmt F)) → Q (roll-Act F layer)
-      by (Act-F.Declare k items) = subst Q (sym (rolls-Declare k items)) (closed-items k items s closed)
-      by (Act-F.Alias one two) = subst Q (sym (rolls-Alias one two)) (closed-alias s one.name two.name closed)
-      by (Act-F.Assign target condition right_at right) = subst Q (sym (rolls-Assign target condition right_at right)) closed
-      by (Act-F.Define equation indices condition left_at left side right_at right) =
-          subst Q (sym (rolls-Define equation indices condition left_at left side right_at right)) closed
-      by (Act-F.Model models) = subst Q (sym (rolls-Model models)) (closed-models models s closed)
-      by (Act-F.Solve model method objective maximize) = subst Q (sym (rolls-Solve model method objective maximize)) closed
-      by (Act-F.Display items) = subst Q (sym (rolls-Display items)) closed
-      by (Act-F.Loop control body) = subst Q (sym (rolls-Loop control body)) closed
-      by (Act-F.Options settings) = subst Q (sym (rolls-Options settings)) closed
-      by (Act-F.Abort condition items) = subst Q (sym (rolls-Abort condition items)) closed
-
   closed-sound : (statements : List (Stmt F)) (s : State) → IsClosed s → IsClosed (fold (after_statement v) s (sound statements))
-  closed-sound [] s closed = closed
-  closed-sound (statement ∷ statements) s closed = closed-sound statements (after_act v s statement.act) (closed-act s closed statement.act)
+  closed-sound = kept-sound v IsClosed closed-items closed-alias closed-models
 
   -- what statements have declared so far
   pub closed-after : (count : ℕ) (statements : List (Stmt F)) → IsClosed (state_after v count (sound statements))

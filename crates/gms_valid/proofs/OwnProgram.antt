@@ -17,14 +17,14 @@ use Rattle.gms_parse.specs.Outcomes.{IsProgram}
 use Rattle.gms_parse.specs.Programs.{statements_of}
 use Rattle.gms_front.proofs.Kinships.{program_kin}
 use Rattle.gms_front.proofs.KinPrograms.{statements_same}
-use Rattle.gms_fits.proofs.ProgramNames.{alike-itself}
+use Rattle.gms_fits.proofs.ProgramNames.{alike-itself, behind_longer, placed-behind}
 use Rattle.gms_frames.specs.Names.{Each}
 use Rattle.gms_frames.proofs.FormKeys.{EachHas}
 use Rattle.gms_going_on.proofs.Padding.{test-of}
 use Rattle.gms_valid.proofs.OwnData.{DeclHas, ItemHas}
 use Rattle.gms_valid.proofs.OwnLabels.{Derivation, HasOwn}
 use Rattle.gms_valid.proofs.OwnWritten.{AllPass, StatementsPass, act_data, act_labels, items-pass, statements-pass}
-use Rattle.gms_valid.proofs.Texts.{all_texts, behind_longer, placed-behind, written-there}
+use Rattle.gms_valid.proofs.Texts.{all_texts, written-there}
 
 -- what passes two tests passes a third
 module _ (p q r : ℕ → Bool) (both : (n : ℕ) → p n ≡ true → q n ≡ true → r n ≡ true) where

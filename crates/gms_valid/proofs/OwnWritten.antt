@@ -24,8 +24,9 @@ use Rattle.gms_grammar.specs.Grammar.{yield, pair, left, right, some, more, node
 use Rattle.gms_expressions.specs.ExpressionTrees.{control, expression, first_in, inside, more_indices, name_in, optional_indices, second_in, suffix_in}
 use Rattle.gms_parse.specs.Declarations.{equation_act, model_act, parameter_act, scalar_act, set_act, table_act, variable_act}
 use Rattle.gms_parse.specs.Programs.{behind_semicolon, controlled, display_or_other, inner_act, keyword_act, keyword_statements, loop_act, loop_body, named_first, segment, segments, statements_of}
-use Rattle.gms_parse.specs.Statements.{abort_act, act_of_head, after_head, after_target, alias_act, assigned, assignment_act, condition_in, display_act, head_indices, named_act, option_act, sides_in, solve_act, target_at, target_in}
+use Rattle.gms_parse.specs.Statements.{act_of_head, after_head, after_target, alias_act, assigned, assignment_act, condition_in, head_indices, named_act, sides_in, target_at, target_in}
 use Rattle.gms_parse.proofs.Looped.{view-Stmt}
+use Rattle.gms_fits.proofs.OwnNames.{QuietHave, abort-has, display-has, option-has, solve-has}
 use Rattle.gms_frames.specs.Names.{Each}
 use Rattle.gms_frames.proofs.Eaches.{each-both}
 use Rattle.gms_frames.proofs.FormKeys.{EachHas}
@@ -137,22 +138,8 @@ module _ (source : List ℕ) (names labels : List (List ℕ)) (own : ℕ → Boo
 
   -- ---- other statements
 
-  display-own : (tree : Derivation) → Written (display_act source names labels tree)
-  display-own (node (pair word list)) = tt
-  display-own tree = tt
-
-  option-own : (tree : Derivation) → Written (option_act source names labels tree)
-  option-own (node (pair word list)) = tt
-  option-own tree = tt
-
-  solve-own : (tree : Derivation) → Written (solve_act source names labels tree)
-  solve-own (node (pair word (pair model (left (pair using (pair method objective)))))) = tt
-  solve-own (node (pair word (pair model (right (pair direction (pair name method)))))) = tt
-  solve-own tree = tt
-
-  abort-own : (tree : Derivation) → Written (abort_act source names labels tree)
-  abort-own (node (pair word (pair condition list))) = tt
-  abort-own tree = tt
+  quiet : QuietHave Written
+  quiet = record { shown = λ list. tt; chosen = λ settings. tt; solved = λ model method objective most. tt; stopped = λ condition list. tt }
 
   mutual
     loop-own : (tree : Derivation) → Written (loop_act source names labels tree)
@@ -179,10 +166,10 @@ module _ (source : List ℕ) (names labels : List (List ℕ)) (own : ℕ → Boo
     inner-own tree = tt
 
     other-own : (tree : Derivation) → Written (display_or_other source names labels tree)
-    other-own (left tree) = display-own tree
-    other-own (right (left tree)) = option-own tree
-    other-own (right (right (left tree))) = solve-own tree
-    other-own (right (right (right (left tree)))) = abort-own tree
+    other-own (left tree) = display-has source names labels Written quiet tree
+    other-own (right (left tree)) = option-has source names labels Written quiet tree
+    other-own (right (right (left tree))) = solve-has source names labels Written quiet tree
+    other-own (right (right (right (left tree)))) = abort-has source names labels Written quiet tree
     other-own (right (right (right (right tree)))) = loop-own tree
     other-own tree = tt
 

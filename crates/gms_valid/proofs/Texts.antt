@@ -1,11 +1,8 @@
--- The texts that a source can write as labels: its parts, and the members of ranges from one part to another. In a table of all of them, behind a
--- longer text, each has a place that is not the first.
-use Rattle.std.proofs.Common.{◌≡◌, ◌⊎◌, ℕ, zero, suc, ◌+◌, ◌-◌, ◌<◌, ◌≤◌, Bool, true, false, cond, if◌then◌else◌, List, [], ◌∷◌, ◌++◌, length, map, filter, take, drop, get_or, Option, Some, None, unwrap_or, refl, sym, ap, ◌∙◌, subst, inl, inr, arith, append_assoc, length-append}
+-- The texts that a source can write as labels: its parts, and the members of ranges from one part to another.
+use Rattle.std.proofs.Common.{◌≡◌, ◌⊎◌, ℕ, zero, suc, ◌+◌, ◌-◌, Bool, true, false, cond, List, [], ◌∷◌, ◌++◌, length, map, filter, take, drop, Option, Some, None, unwrap_or, if◌then◌else◌, refl, sym, ap, ◌∙◌, subst, inl, inr, append_assoc}
 use Rattle.std.specs.Prelude.{flat_map}
 use Rattle.std.proofs.lemmas.List.{append-nil, take-append-drop}
 use Rattle.std.proofs.Math.Seq.{drop-append_seam, take-append_seam}
-use Rattle.gms_labels.specs.Labels.{is_same, place_of}
-use Rattle.gms_labels.proofs.Places.{is_same_refl, place_of-reads, position_misses}
 use Rattle.gms_labels.specs.declared.place.Place.{Place}
 use Rattle.gms_lines.specs.Lines.{is_blank}
 use Rattle.gms_lexemes.specs.Bytes.{is_quote}
@@ -17,9 +14,8 @@ use Rattle.gms_table.specs.TableEntries.{Part, name, cell, is_plus, under, table
 use Rattle.gms_lexemes.specs.Stretches.{is_dot, stretch_bytes}
 use Rattle.gms_table.specs.WordLabels.{label_of, labels_among, labels_of, names_of, quoted_label, plain_label, with_label}
 use Rattle.gms_table.specs.Words.{Word, column_of, first_stretches, others_by, parted, word_of, words_among}
-use Rattle.gms_expressions.specs.ExpressionTrees.{or_0}
 use Rattle.gms_parse.specs.Tables.{parts_of_tokens}
-use Rattle.gms_fits.proofs.ProgramNames.{Has, has-at, has-left, has-right, parts, parts-have, same-long}
+use Rattle.gms_fits.proofs.ProgramNames.{Has, has-left, has-right, parts, parts-have}
 use Rattle.gms_frames.proofs.FormKeys.{EachHas}
 
 -- ---- parts of a text
@@ -241,31 +237,3 @@ written-there source text (inl part) =
     has-left (parts source) (flat_map (λ from. flat_map (λ to. members from to) (parts source)) (parts source)) text (part-there source text part)
 written-there source text (inr range) =
     has-right (parts source) (flat_map (λ from. flat_map (λ to. members from to) (parts source)) (parts source)) text (has-flat (λ from. flat_map (λ to. members from to) (parts source)) (parts source) range.from text (part-there source range.from range.first) (has-flat (λ to. members range.from to) (parts source) range.to text (part-there source range.to range.last) range.among))
-
--- the texts behind one that is longer than each
-abbrev pub behind_longer : List (List ℕ) → List (List ℕ)
-behind_longer texts = (0 ∷ flat_map (λ (text : List ℕ). text) texts) ∷ texts
-
-not-longer : (texts : List (List ℕ)) (text : List ℕ) → Has texts text → length text ≤ length (flat_map (λ (text : List ℕ). text) texts)
-not-longer [] text there = absurd there
-not-longer (first ∷ texts) text (inl same) =
-    let long : length first ≡ length text = ap (λ (t : List ℕ). length t) same in
-    let all = length-append first (flat_map (λ (text : List ℕ). text) texts) in
-    omega (arith, long, all)
-not-longer (first ∷ texts) text (inr there) =
-    let few = not-longer texts text there in
-    let all = length-append first (flat_map (λ (text : List ℕ). text) texts) in
-    omega (arith, few, all)
-
--- each of them has a place behind the first
-pub placed-behind : (texts : List (List ℕ)) (text : List ℕ) → Has texts text → (o : Option ℕ) → place_of (behind_longer texts) text ≡ o → 0 < or_0 o
-placed-behind texts text there None e =
-    let at = has-at texts text there in
-    let missed : is_same text (get_or (behind_longer texts) (suc at.0) []) ≡ false = position_misses (is_same text) (behind_longer texts) e (suc at.0) [] (omega (arith, at.1)) in
-    let found : is_same text (get_or texts at.0 []) ≡ true = subst (λ (t : List ℕ). is_same text t ≡ true) (sym at.2) (is_same_refl text) in
-    absurd (let z : ◌≡◌ {A = Bool} true false = sym found ∙ missed in cc)
-placed-behind texts text there (Some zero) e =
-    let long : length text ≡ length (0 ∷ flat_map (λ (text : List ℕ). text) texts) = same-long text (0 ∷ flat_map (λ (text : List ℕ). text) texts) (place_of-reads (behind_longer texts) text 0 e).1 in
-    let few = not-longer texts text there in
-    absurd (omega (arith, long, few))
-placed-behind texts text there (Some (suc n)) e = omega arith

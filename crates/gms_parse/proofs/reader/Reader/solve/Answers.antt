@@ -21,7 +21,6 @@ pub returns-in_err-method : goal.returns-in_err-method
 returns-in_err-method g c walk h =
     let n = c.in_ok-next.ensures.next in
     let m = c.in_ok-model.ensures g.F.ExactField.limit _ (begun_starts c.args.self.now walk Solve c.in_ok-next.ensures.token c.in_ok-next.next refl refl refl refl h) in
-    let k = ap (is Option) m.leaves.keyword in
     handed_on _ _ c.from_residual-in_err-method.result _ c.from_residual-in_err-method.ensures.1
     (using_refused g.F.ExactField.value n m (sym c.is_next.ensures ∙ c.if-is_next.true) (c.in_err-method.ensures g.F.ExactField.limit _ m.behind m.leaves.has))
 

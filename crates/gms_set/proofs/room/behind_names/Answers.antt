@@ -2,8 +2,8 @@ use Rattle.std.proofs.Common.{◌∙◌, List, ap}
 use Rattle.gms_ast.specs.declared.declaration.Decl.{Decl}
 use Rattle.gms_ast.specs.declared.declaration.Item.{Item}
 use Rattle.gms_set.specs.Counts.{element_count}
-use Rattle.gms_parse.proofs.Left.{none_left, one_more, all_left}
-use Rattle.gms_parse.proofs.room.behind_names.Goals as goal
+use Rattle.gms_set.proofs.Left.{none_left, one_more, all_left}
+use Rattle.gms_set.proofs.room.behind_names.Goals as goal
 
 pub returns-in_err-left : goal.returns-in_err-left
 returns-in_err-left g c =

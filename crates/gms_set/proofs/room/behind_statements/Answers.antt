@@ -1,8 +1,8 @@
 use Rattle.std.proofs.Common.{refl}
 use Rattle.gms_ast.specs.declared.program.Stmt.{Stmt}
-use Rattle.gms_parse.specs.Room.{elements_of}
-use Rattle.gms_parse.proofs.Left.{none_left, one_more, all_left}
-use Rattle.gms_parse.proofs.room.behind_statements.Goals as goal
+use Rattle.gms_set.specs.Counts.{elements_of}
+use Rattle.gms_set.proofs.Left.{none_left, one_more, all_left}
+use Rattle.gms_set.proofs.room.behind_statements.Goals as goal
 
 pub returns-in_err-left : goal.returns-in_err-left
 returns-in_err-left g c =
