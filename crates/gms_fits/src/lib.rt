@@ -1,4 +1,4 @@
-//! Beside floor 7. A saved state fits each joint program of its source.
+//! Floor 7, outside. A saved state fits each joint program of its source.
 #![tactic(auto)]
 
 mod laws;

@@ -1,4 +1,4 @@
-//! Saves. The text of a saved state: how it is written, and how it is read back.
+//! Floor 3, state and checks. The text of a saved state: how it is written, and how it is read back.
 #![tactic(auto)]
 
 mod comparing;

@@ -1,4 +1,4 @@
-//! Floor 5, the run. The last state of a run is one that a save restores.
+//! Floor 7, outside. The last state of a run is one that a save restores.
 #![tactic(auto)]
 
 mod laws;
