@@ -9,7 +9,8 @@ use gms_labels::Place;
 pub enum ErrorKind {
     /// A name that no statement before declares, as `q = 1;`, or a word that is no option, as `option foo = 1;`.
     UnknownName,
-    /// A name that is declared again, as `set i;`. A variable may be given a type once more while its type is free.
+    /// A name that is declared again, as `set i;`. A variable may be given a type once more, with the same domain or none,
+    /// while its type is free.
     Redeclared,
     /// A symbol, a suffix, `yes`, `no` or an infinity where its kind does not stand, as `p("a") = yes;`.
     WrongKind,
@@ -31,7 +32,7 @@ pub enum ErrorKind {
     Nonlinear,
     /// A variable whose values are not continuous, as `binary variable b;`.
     Discrete,
-    /// A kind of model that is not linear, as `solve m using nlp minimizing z;`.
+    /// A kind of model other than `lp`, as `solve m using nlp minimizing z;`.
     ModelType,
     /// A solve of a model with an equation that no statement before defines, as `model m /e/; solve m using lp minimizing z;`.
     NotDefined,

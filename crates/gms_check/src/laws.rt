@@ -36,10 +36,10 @@ pub fn checked_laws<F: ExactField>()
 
 /// What holds of each reference of a program without compile errors, wherever it stands in a statement: in an expression, under any
 /// folds and conditions, in the amount of a lag, in an assignment, a definition, an abort or the condition of a loop, so many loops deep.
-/// Its name is declared by a statement before and may stand there, it has as many indices as its name has positions, at most 10, each
-/// set among them has one dimension and fits its position, each label is in its position's set, a set with a lag is ordered, and each
-/// set is one of those that are controlled just there: by the loops around the statement, by the left side, and by the folds around the
-/// reference. So is the set of an `ord`, which is ordered.
+/// Its name is declared by a statement before, as one that may stand somewhere with its suffix (that it may stand just there is said by
+/// `checked_laws`), it has as many indices as its name has positions, at most 10, each set among them has one dimension and fits its position,
+/// each label is in its position's set, a set with a lag is ordered, and each set is one of those that are controlled just there: by the loops
+/// around the statement, by the left side, and by the folds around the reference. So is the set of an `ord`, which is ordered.
 ///
 /// GAMS User's Guide, "Data Manipulations with Parameters", "Sets as Sequences: Ordered Sets", "Programming Flow Control Features".
 pub fn reference_laws<F: ExactField>()
@@ -59,8 +59,8 @@ pub fn left_laws<F: ExactField>()
 
 /// What is loaded of a program that has no compile error with solvers of some names, before its first statement acts: a set has
 /// the tuples of its items and no other, a parameter at each tuple the value of the item that has it and 0 elsewhere, a variable the
-/// bounds of its type and an equation none, with level and marginal 0. Each of them has the positions that it was declared with.
-/// Of a name that no statement declares there is nothing.
+/// bounds of its type and an equation none, with level and marginal 0. A set, a parameter and an equation have the positions
+/// of their declaration. Of a name that no statement declares there is nothing.
 ///
 /// GAMS User's Guide, "Set Definition"; "Data Entry: Parameters, Scalars and Tables"; "Variables".
 pub fn load_laws<F: ExactField>()

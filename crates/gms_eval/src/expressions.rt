@@ -467,7 +467,7 @@ pub fn holds<F: ExactField>(
 /// The elements of a control in a state, under a binding: those of the product of its sets whose condition holds, in the
 /// order of tuples.
 ///
-/// A stop is `DomainSize` at `at`, with their number as its count, where the product has more than 16,777,216 elements,
+/// A stop is `DomainSize` at `at`, with their number as its count, or the greatest `u64`, where the product has more than 16,777,216 elements,
 /// and else the first fault of the conditions, each under the binding with its element. GAMS User's Guide, "Data
 /// Manipulations with Parameters", "Conditional Expressions, Assignments and Equations".
 pub fn domain<F: ExactField>(

@@ -24,7 +24,8 @@ ghost use Rattle.gms_exec.specs.Elements.{AreElements, IsNot, elements, feasible
 use gq_field::ExactField;
 
 /// What is read after an assignment, which gives elements of one name values or membership: at each element what it was given, or what was
-/// there where it was given nothing. Other names stay as they were, and so do the settings.
+/// there where it was given nothing, where each that is given something has as many labels as the name has positions. Other names stay as
+/// they were, and so do the settings.
 pub fn assignment_laws()
     ensures values { (state : State) (name : ℕ) (all : AllGiven) (entries : Entries Extended) (t : List ℕ) →
         base_of state name < length state.symbols →

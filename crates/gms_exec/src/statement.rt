@@ -38,8 +38,8 @@ use std::alloc::Global;
 ///
 /// A stop is the first fault of the statement; what it showed and took before stays, and the state is the one that it had come to. The kinds
 /// are those of its expressions, domains and rows, `DomainSize` also of a display of bounds, `NoSolver` exactly where a solve is met and there
-/// is no solver, and `Aborted` exactly where an `abort` is met that has no condition or whose condition holds. After want of memory the store
-/// is not to be used again. GAMS User's Guide, "GAMS Programs", "Programming Flow Control Features".
+/// is no solver, and `Aborted` exactly where an `abort` is met that has no condition or whose condition holds, and what it shows has no fault.
+/// After want of memory the store is not to be used again. GAMS User's Guide, "GAMS Programs", "Programming Flow Control Features".
 pub fn step(
     alloc: Global,
     store: &mut Store<Frac>,

@@ -63,8 +63,13 @@ impl Tables {
     }
 }
 
-/// The longest expression that begins at a token, and the place of the token behind it. Whatever is answered, the names and the labels go on
-/// from what they were: new ones stand behind the others.
+/// The longest expression that begins at a token, and the place of the token behind it. The tokens are those of the source, `from` is the place of
+/// one of them, and `unclosed` parentheses are open before it, at most 100. Whatever is answered, the names and the labels go on from what
+/// they were: new ones stand behind the others.
+///
+/// The fault is the first that the tokens have in their order: a token that goes on in no such part (`Expected`, or `NotInProfile` for a word that
+/// the language leaves out), a parenthesis that is opened where 100 are open (`Depth`), a number out of range (`Number`), a name or a label for
+/// which there is no room (`TooManyLabels`). `Memory` comes where memory was wanting.
 pub fn expression<F: ExactField>(
     alloc: Global,
     source: &[u8],
@@ -97,8 +102,8 @@ pub fn expression<F: ExactField>(
     read
 }
 
-/// The longest operand that begins at a token, and the place of the token behind it. Whatever is answered, the names and the labels go on
-/// from what they were: new ones stand behind the others.
+/// The longest operand that begins at a token, and the place of the token behind it. The tokens, `from`, `unclosed`, the fault and what names
+/// and labels have after it are as in [`expression`].
 pub fn primary<F: ExactField>(
     alloc: Global,
     source: &[u8],
@@ -130,8 +135,8 @@ pub fn primary<F: ExactField>(
     read
 }
 
-/// The longest control that begins at a token, and the place of the token behind it. Whatever is answered, the names and the labels go on
-/// from what they were: new ones stand behind the others.
+/// The longest control that begins at a token, and the place of the token behind it. The tokens, `from`, `unclosed`, the fault and what names
+/// and labels have after it are as in [`expression`].
 pub fn control<F: ExactField>(
     alloc: Global,
     source: &[u8],
@@ -163,8 +168,8 @@ pub fn control<F: ExactField>(
     read
 }
 
-/// The longest target that begins at a token, and the place of the token behind it. Whatever is answered, the names and the labels go on
-/// from what they were: new ones stand behind the others.
+/// The longest target that begins at a token, and the place of the token behind it. The tokens, `from`, `unclosed`, the fault and what names
+/// and labels have after it are as in [`expression`].
 pub fn target<F: ExactField>(
     alloc: Global,
     source: &[u8],

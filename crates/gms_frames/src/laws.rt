@@ -26,8 +26,9 @@ pub fn value_laws<F: ExactField>()
         AgreeOn test one other → Each test (names e) → affine F.value F.limit other at binding e ≡ affine F.value F.limit one at binding e }
 {}
 
-/// Statements that name what a state declares alone do in each state that has all of it what they do in that one, and change
-/// nothing of any other name: where both runs of them come to their end, the one ends in the state of the other put over the one that it began
+/// Statements that name what a state declares alone, where what a name of it stands for is declared there too, do in each state that has all of
+/// it, with the same solvers and the same definitions of the models that they solve, what they do in that one, and change nothing of any other
+/// name: where both runs of them come to their end, the one ends in the state of the other put over the one that it began
 /// with, it took as many answers, and has those left that the other has left, with the answers behind them that were behind the other's.
 ///
 /// GAMS User's Guide, "Save and Restart", "GAMS Programs".

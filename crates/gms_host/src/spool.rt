@@ -62,9 +62,9 @@ impl Spool {
 
     /// Puts a text behind what is pending, and writes what does not find room.
     ///
-    /// The output followed by what is pending then is what it was, followed by the text. It fails only where a `write` of the host does;
-    /// then the output begins with what it was, and goes on with the front of what was pending and of the text, and nothing is pending.
-    /// It takes no memory, and leaves all of the host but its output and its count of faults of writing.
+    /// The output followed by what is pending then is what it was, followed by the text. The error is that of a `write` of the host; a fault
+    /// comes only where one of writing was counted. Then the output begins with what it was, and goes on with the front of what was pending
+    /// and of the text, and nothing is pending. All of the host stays but its output and its count of faults of writing.
     pub fn put<H: Host>(&mut self, host: &mut H, text: &[u8]) -> Result<(), Failed>
         requires { (H.meaning host.old).outside.writing ≡ true }
         ensures outside { PutsThrough result (H.meaning host.old).outside (H.meaning host.new).outside (self.old ++ text.now) self.new }
@@ -109,9 +109,9 @@ impl Spool {
 
     /// Writes what is pending.
     ///
-    /// The output then is what it was, followed by what was pending, and nothing is pending. It fails only where a `write` of the host
-    /// does; then the output begins with what it was, and goes on with the front of what was pending, and nothing is pending. It takes no
-    /// memory, and leaves all of the host but its output and its count of faults of writing.
+    /// The output then is what it was, followed by what was pending, and nothing is pending. The error is that of a `write` of the host; a
+    /// fault comes only where one of writing was counted. Then the output begins with what it was, and goes on with the front of what was
+    /// pending, and nothing is pending. All of the host stays but its output and its count of faults of writing.
     pub fn flush<H: Host>(&mut self, host: &mut H) -> Result<(), Failed>
         requires { (H.meaning host.old).outside.writing ≡ true }
         ensures outside { WritesAll result (H.meaning host.old).outside (H.meaning host.new).outside self.old }

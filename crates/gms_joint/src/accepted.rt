@@ -47,8 +47,9 @@ ghost use Rattle.lp_core.specs.declared.program.Lp.{Lp};
 use gq_field::ExactField;
 
 /// The labels of a reference of an accepted program, under a binding in which each set that is controlled where it stands has a label:
-/// so has each set among its indices, and there are at most 10 indices; so that in every state it has a tuple but where a lag goes
-/// past the ends of its set. No reference reads 0 for want of a label otherwise. And with the labels of an element of its sets a
+/// so has each set among its indices, and there are at most 10 indices; so that in every state in which no amount of a lag has a
+/// fault it has a tuple, but where a lag goes past the ends of its set or begins at a label that is none of its members. No reference reads 0
+/// for want of a label otherwise. And with the labels of an element of its sets a
 /// fold, a loop or a left side gives each of them a label, besides those that have one; where the sets are over one position, these
 /// labels are members of them.
 ///

@@ -242,7 +242,8 @@ impl<F: ExactField> Known<F> {
         }
     }
 
-    /// Makes one of two names another name of the other, which is a set (GAMS User's Guide, "Set Definition", aliases).
+    /// Makes one of two names another name of the other, which is a set, or where neither can be, declares both as sets (GAMS User's
+    /// Guide, "Set Definition", aliases).
     pub fn declare_alias(
         &mut self,
         alloc: Global,

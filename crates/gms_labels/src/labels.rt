@@ -71,7 +71,7 @@ impl Labels {
         self.texts.is_empty()
     }
 
-    /// The place of a text, letter case ignored, which is entered last where it is new.
+    /// The place of a text of at most 63 bytes, letter case ignored, which is entered last where it is new.
     ///
     /// `Full` comes exactly where the text is new and the table has 65,536 labels. After `Full`, and after want of
     /// memory, the table is as it was.
@@ -122,7 +122,7 @@ impl Labels {
         Ok(())
     }
 
-    /// The place of a text, letter case ignored. `None` exactly where it is not there.
+    /// The place of a text of at most 63 bytes, letter case ignored. `None` exactly where it is not there.
     pub fn find(&self, text: &str) -> Option<u32>
         requires { length text.now ≤ longest }
         ensures place { result ≡ place_of self.now text.now }
@@ -133,7 +133,7 @@ impl Labels {
         self.places.get(folded.as_slice()).copied()
     }
 
-    /// The text at a place, as it was first written.
+    /// The text at a place that has one, as it was first written.
     pub fn text(&self, n: u32) -> &str
         requires { n < length self.now }
         ensures value { slice_get self.now n ≡ Some result.now }

@@ -15,9 +15,9 @@ ghost use Rattle.gms_lex.specs.TokenTexts.{IsPlaced};
 
 /// Each source has exactly one list of tokens or exactly one first fault, and not both; its places come in the order of its bytes.
 ///
-/// Each token, and each descriptive text, is the longest that its mode allows where it stands: `**` is one token and not two `*`, in
-/// code and in lists. An error stands where the mode allows nothing, or where the longest that it allows is a word or a label of over 63
-/// bytes, or has a byte that is not of ASCII. Between two neighbouring tokens stand only blanks, line ends, comments, control lines and
+/// Each token but line ends and the end of the source, and each descriptive text, is the longest that its mode allows where it stands: `**`
+/// is one token and not two `*`, in code and in lists. An error in place of a token stands only where the mode allows nothing, or where the
+/// longest that it allows is a word or a label of over 63 bytes, or has a byte that is not of ASCII. Between two neighbouring tokens stand only blanks, line ends, comments, control lines and
 /// descriptive texts; comments and control lines are blank in the text that tokens are read off. A line end is a token exactly where it
 /// ends an item of a declaration or an element of a list. GAMS User's Guide, "Language Items" and "GAMS Programs".
 pub fn token_laws()

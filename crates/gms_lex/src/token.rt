@@ -18,8 +18,8 @@ pub struct Token {
     pub at: Place,
 }
 
-/// The bytes of a quoted token without its marks; those of any other as they are (GAMS User's Guide, "Language Items", quoted labels
-/// and texts).
+/// The bytes of a text that begins with a quotation mark, without that mark and the last byte, which is the other mark of a quoted token;
+/// those of any other text as they are (GAMS User's Guide, "Language Items", quoted labels and texts).
 pub fn unquoted(text: &[u8]) -> &[u8]
     ensures { result.now ≡ unquoted text.now }
 {

@@ -23,8 +23,9 @@ const START: Place = Place { line: 1, column: 1 };
 /// statement or a value that the language leaves out), the end of the source where more has to come (`Expected`), a parenthesis that
 /// is opened where 100 are open (`Depth`), a number out of range (`Number`), the 65,537th name or label (`TooManyLabels`; of a range,
 /// at its upper label), a fault of a table at its word (`NoColumn`, `TwoColumns`, `RepeatedEntry`, `BadRow`), a table without
-/// headings, found where it ends and told at its name (`NoHeading`). `Memory` comes where memory was wanting: also, before any is taken, where
-/// the ranges of the source write out more than 2,097,152 labels, or its lists give more elements than that in all.
+/// headings, found where it ends and told at its name (`NoHeading`). `Memory` comes where memory was wanting: also, before any is taken
+/// for them, where the ranges of the source write out more than 2,097,152 labels, or its lists give more elements than that in all, each list
+/// up to the item with which it would give more than 1,048,576, which a check refuses.
 pub fn parse<F: ExactField>(alloc: Global, source: &[u8]) -> Result<Program<F>, SourceFaultOrMemory>
     ensures { MatchResult result (λ program. IsProgram F.limit source.now F.value program) (λ e. IsRefusal F.limit source.now e) }
 {

@@ -5,20 +5,20 @@ ghost use Rattle.gms_run.specs.Jobs.{status_code};
 /// How a run ends.
 ///
 /// The numbers are those of `code`. After Usage and ReadFault no output was asked for; after Done, Compile and Execution the listing stands in it
-/// whole; after WriteFault the front of it may.
+/// whole; after WriteFault a front of it may, or all of it and a front of the save.
 #[derive(Clone, Copy, PartialEq, Eq)]
 pub enum Status {
-    /// Every statement was executed, and the whole listing was written.
+    /// Every statement was executed, and the whole listing was written, and with `--save` the save.
     Done,
     /// The words are refused.
     Usage,
-    /// The source is refused.
+    /// The source is refused, or the save cannot be restored.
     Compile,
     /// An execution error stopped the run.
     Execution,
-    /// The source could not be read.
+    /// A file that the words name could not be read: the source, or the save.
     ReadFault,
-    /// The listing or the closing line could not be written.
+    /// The listing, the save or the closing lines could not be written.
     WriteFault,
 }
 

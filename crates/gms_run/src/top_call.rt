@@ -369,7 +369,7 @@ fn run_words<H: Host>(
 ///
 /// The words are those of a command of `clap` with an optional FILE, `--out` with the name of the output, `--generate` with a number from 1
 /// to 30, `--save` and `--restart` with the name of a file each, and the flag `--ranges`; exactly one of FILE and `--generate` is there, and
-/// `--restart` goes with FILE alone. The source is read whole, or generated, before the output is
+/// `--restart` goes with FILE alone. The source is read, whole or one byte more than it may have, or generated, before the output is
 /// opened; its listing is written there, statement by statement, and behind the closed output the closing lines are said
 /// (docs/LISTING.md), first, with `--ranges`, how far each right side and each cost of each optimum may move. `AllocError` comes where memory was
 /// wanting, here or in the host, or where the ranges or the lists of the source ask for more room than a program has (docs/LANGUAGE.md, "Limits"); the
@@ -378,14 +378,15 @@ fn run_words<H: Host>(
 /// With `--restart` that file is read before FILE, and FILE goes on from the state that was saved in it: the source is the saved source with FILE
 /// behind it, of which FILE is echoed and its statements are executed. With `--save`, where every statement was executed, the last state is
 /// written to that file, behind the closed output and before the closing lines (docs/SAVES.md; GAMS User's Guide, "Save and Restart"): a save by the
-/// definition that `restore` goes by, so that it gives this state back.
+/// definition that `restore` goes by, so that it gives this state back, unless memory is wanting or the save is too long.
 ///
 /// What a run did is one statement, by its status, and holds over every host, whatever it tells: there is a source, which is what the
 /// host has at the name where it tells its files, and what the answers are to it, and what stands outside. Done and Execution: the source is
 /// accepted, its run takes all answers, each of which is one of its linear program, and the listing is the text of that run. Compile: it is
 /// refused, or the save cannot be restored, and the listing says why. Usage: the words ask for no source. ReadFault: a file was not read.
-/// WriteFault: how far the run came, and that no more was executed than was written, but for 4,096 bytes. The solvers stay, with their names and rules, and the pivots of each answer
-/// stand behind the paths of the one that gave it; with Usage, Compile and ReadFault nothing is solved.
+/// WriteFault: how far the run came; and where something was solved, all answers are taken by one statement more than those whose listing is at
+/// most 4,096 bytes longer than what was written. The solvers stay, with their names and rules, and the pivots of each answer stand behind the
+/// paths of the one that gave it; with Usage, Compile and ReadFault nothing is solved. There are fewer than 2^32 solvers.
 pub fn run<H: Host>(
     alloc: Global,
     words: &[String],

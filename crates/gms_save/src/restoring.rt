@@ -55,8 +55,9 @@ pub fn save(
 /// save of what is restored.
 ///
 /// Whatever state of whatever program of whatever source the bytes are the save of: it is restored, over that source and with
-/// that program as it is seen, unless memory was wanting, the bytes are too long or no solver has the name. So no text is the
-/// save of two states, what `save` wrote is restored as it was, and `SaveShape` comes only where no state has these bytes.
+/// that program as it is seen, unless memory was wanting, the bytes are too long or no solver has the name. So no text is the save of two
+/// states that differ in more than the place of the solver, what `save` wrote is restored as it was but for that place, and `SaveShape`
+/// comes only where no state has these bytes. There are fewer than 2^32 solvers.
 pub fn restore(alloc: Global, bytes: &[u8], solvers: &[String]) -> Result<Saved, SaveFaultOrMemory>
     requires { length solvers.now < 2 ^ 32 }
     ensures answer { Restores (map string_bytes solvers.now) bytes.now result }

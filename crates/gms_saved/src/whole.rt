@@ -73,11 +73,11 @@ fn settings_at(text: &[u8]) -> Result<(Settings, &[u8], &[u8]), ReadFault>
     Ok((settings, solver, rest))
 }
 
-/// The state whose text this is, over the names of a program, with the first solver in its settings; and the name of its
-/// solver.
+/// The state of which this is the text behind the source, over the names of a program, with the first solver in its settings; and
+/// the name of its solver.
 ///
-/// Of the text of each state that is a saved one of the program it is that state. It declares what the program declares.
-/// `Shape` comes only where the text is that of no such state. Other texts may be read too.
+/// Of that part of the text of each state that is a saved one of the program, with at most 2^32 labels, it is that state. It declares
+/// what the program declares. `Shape` comes only where the text is that of no such state. Other texts may be read too.
 pub fn read_state<'t, F: ExactField>(
     alloc: Global,
     program: &Program<F>,

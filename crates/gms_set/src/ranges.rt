@@ -19,9 +19,9 @@ const MOST_DIGITS: usize = 9;
 /// The members of the range `from*to`, in order: the text of `from` with each number from that of `from` to that of `to`.
 ///
 /// It is none where the texts before the digits differ, letter case ignored; where a label ends in no digits or in more than
-/// nine; where the second number is less, or there would be more than 65,536 members; and where only one of the numbers is
-/// written with zeros before it, or both in another width. Members keep the width of numbers with zeros before them. The
-/// fault is then BadRange at line 0 and column 0. GAMS User's Guide, "Set Definition".
+/// nine; where the second number is less, or there would be more than 65,536 members; and where the first number is
+/// written with zeros before it and the second with another number of digits, or the second alone with zeros. Members keep the width of
+/// a first number with zeros before it. The fault is then BadRange at line 0 and column 0. GAMS User's Guide, "Set Definition".
 pub fn range(alloc: Global, from: &str, to: &str) -> Result<Vec<String>, SetFaultOrMemory>
     ensures members { IfOk result (λ labels. (is_range from.now to.now ≡ true) × (map string_bytes labels.items ≡ members from.now to.now)) }
     ensures fault { IfErr result (IsRangeError (is_range from.now to.now)) }

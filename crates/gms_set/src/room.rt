@@ -6,8 +6,8 @@ ghost use Rattle.gms_set.specs.Counts.{elements_given, elements_of, elements_of_
 use crate::count::element_count;
 use gms_ast::{Act, Decl, Stmt};
 
-/// Whether the lists of statements give at most so many elements in all, each list up to the item with which it gives more than 1,048,576
-/// (GAMS User's Guide, "Set Definition").
+/// Whether the lists of statements give at most so many elements in all, each list up to, and without, the item with which it would give more
+/// than 1,048,576 (GAMS User's Guide, "Set Definition").
 pub fn elements_fit<F>(statements: &[Stmt<F>], room: usize) -> bool
     ensures { result ≡ nat_le (elements_given statements.now) room }
 {

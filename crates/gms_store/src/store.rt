@@ -26,7 +26,7 @@ use std::marker::Model;
 /// absent entry is kept; an absent one reads as 0, or as the bounds of the variable's type. A name that the program does
 /// not have or that is of another kind reads as one of which nothing is given, and a write to it, or at a tuple that has
 /// another length than the domain, changes nothing; a checked program has none of these. After want of memory the store
-/// is as it was.
+/// is as it was, but for `declare_act` and `declare_alias`, which may have declared the first of their names.
 pub struct Store<F: ExactField> {
     pub(crate) symbols: Vec<Symbol<F>>,
     settings: Settings,

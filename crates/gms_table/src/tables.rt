@@ -167,7 +167,7 @@ fn read_rows<F: ExactField>(
 /// The first line with words has the headings. A line whose first word is `+` has new headings behind it, which hold for the rows
 /// below. Every other line is a row: a row label, and numbers. Headings and row labels are labels joined by dots; they are entered in
 /// `labels` in the order in which they stand. Each number belongs to the one heading with which it shares a column: its columns go
-/// from its first byte up to, and not with, the one behind it. Lines without words are passed over.
+/// from its first byte up to, and not with, the one behind it. Lines without words are passed over. A line has at most 32,768 bytes.
 ///
 /// A fault is the first in the lines, and at one word the least by number: `NoColumn` at a number that shares a column with no heading,
 /// `TwoColumns` at one that does with two or more, `RepeatedEntry` at the second number of a row label and a heading, `BadRow` at a

@@ -154,7 +154,7 @@ fn request_in<'a>(matches: &ArgMatches<'a>) -> Option<Request<'a>>
 }
 
 /// What the words ask for. They are refused where there is `None`: where the command does not take them, they name not exactly
-/// one source, or a generated model is to go on from a saved state.
+/// one source, the value of `--generate` is no number from 1 to 30 in plain digits, or a generated model is to go on from a saved state.
 pub fn request_of<'a>(alloc: Global, words: &'a [String]) -> Result<Option<Request<'a>>, AllocError>
     ensures { IfOk result (λ request. option_map asked_by request ≡ request_of (texts words.now)) }
 {

@@ -6,7 +6,7 @@ use gq_field::Limit;
 /// The fault that a step on extended numbers has.
 #[derive(Clone, Copy, Debug, PartialEq, Eq)]
 pub enum ExtendedFault {
-    /// The exact number does not fit under the field's limit.
+    /// A number of the step does not fit under the field's limit.
     Limit,
     /// The divisor is 0, or 0 is to be raised to a power below 0.
     Divide,

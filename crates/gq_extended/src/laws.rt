@@ -85,7 +85,8 @@ pub fn relation_laws()
         greater x y ≡ (if is_at_most y x then x else y) }
 {}
 
-/// Powers with whole exponents, as in any algebra text: the first power is the number, and exponents add up.
+/// Powers with whole exponents, as in any algebra text: the first power is the number, and exponents of
+/// a number other than 0 add up.
 pub fn power_laws()
     ensures zeroth { (x : Number) → power_ℚ x (pos 0) ≡ whole (pos 1) }
     ensures first { (x : Number) → power_ℚ x (pos 1) ≡ x }

@@ -10,14 +10,14 @@ use crate::rounding::{down, to_nearest, towards_zero, up};
 use crate::sum::{difference, sum};
 use std::cmp::Ordering;
 
-/// The answer of a step whose number does not fit under the limit.
+/// The answer of a step of which a number does not fit under the limit.
 #[derive(Clone, Copy, Debug, PartialEq, Eq)]
 pub struct Limit;
 
 /// A field of exact numbers whose parts are at most a limit in magnitude.
 ///
-/// A value means a number, its reduced fraction. Each call answers the exact number where it fits; a step that
-/// does not fit answers `Limit`, and no other step does.
+/// A value means a number, its reduced fraction. A step answers the exact number where it fits, and `Limit` exactly where it does not:
+/// a sum or a difference fits where each number on the way does, any other step where its number does.
 pub trait ExactField: Copy {
     ghost use Rattle.gq_field.specs.Fits.{fits, sum_fits, Answers};
     ghost use Rattle.gq_field.specs.Values.{fraction_value};
@@ -63,7 +63,7 @@ pub trait ExactField: Copy {
         Self::narrowed(Fraction::whole(n < 0, n.unsigned_abs() as u128))
     }
 
-    /// The fraction of `num` over `den`, reduced. `Limit` exactly where a part of the reduced fraction does not fit.
+    /// The fraction of `num` over `den`, which is not 0, reduced. `Limit` exactly where a part of the reduced fraction does not fit.
     final fn from_parts(num: i128, den: u128) -> Result<Self, Limit>
         requires { 0 < den }
         ensures { Answers value result (fits limit (ratio num den)) (ratio num den) }

@@ -17,7 +17,7 @@ impl Fraction {
     ghost use Rattle.gq_number.specs.Number.{neg_ℚ, whole};
     ghost use Rattle.gq_field.specs.Values.{fraction_value, signed};
 
-    /// The fraction with these parts, which are reduced.
+    /// The fraction with these parts, which are reduced and below 2^127 in magnitude.
     #[inline(always)]
     pub fn new(numerator: i128, denominator: u128) -> Fraction
         requires reduced { IsReduced numerator denominator }
@@ -33,7 +33,7 @@ impl Fraction {
         }
     }
 
-    /// The whole number of this magnitude, negated or not.
+    /// The whole number of this magnitude, which is below 2^127, negated or not.
     #[inline(always)]
     pub fn whole(negative: bool, magnitude: u128) -> Fraction
         requires { magnitude < 2 ^ 127 }

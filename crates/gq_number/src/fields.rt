@@ -33,7 +33,7 @@ pub fn cancellation_laws()
         (x ≡ whole (pos 0)) ⊎ (y ≡ whole (pos 0)) }
 {}
 
-/// Fractions of numbers: how they are added, multiplied, divided and compared, as in any algebra
+/// Fractions of numbers: how they are added, multiplied and divided, and which number each is, as in any algebra
 /// text. The divisor 0 gives 0.
 pub fn quotient_laws()
     ensures by_zero { (x : Number) → x /ℚ whole (pos 0) ≡ whole (pos 0) }

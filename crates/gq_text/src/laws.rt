@@ -8,8 +8,8 @@ ghost use Rattle.gq_text.specs.Shown.{most_decimals, IsFixedSigned, IsRoundedTex
 
 use crate::show::MOST_DECIMALS;
 
-/// A text means one number at most, with a sign and as a quotient too. A number other than 0 is m times ten to the power e,
-/// with an m that does not end in 0, in one way, so the literal rule looks at the number and not at its text.
+/// A text means one number at most, with a sign and as a quotient too. A number is in at most one way m times ten to the power
+/// e, with a counting number m that does not end in 0, so the literal rule looks at the number and not at its text.
 pub fn reading_laws()
     ensures one_number { (text : List ℕ) (x y : Number) →
         MeansNumber text x → MeansNumber text y → x ≡ y }
@@ -21,7 +21,7 @@ pub fn reading_laws()
         scaled (whole (pos m)) e ≡ scaled (whole (pos n)) f → (m ≡ n) × (e ≡ f) }
 {}
 
-/// A number has one numeral, one exact text and one text of so many decimals. What is shown exactly reads back as the
+/// A number has at most one numeral, one exact text and one text of so many decimals. What is shown exactly reads back as the
 /// number. What is shown rounded reads back as a number within half a unit of the last place, and no other text of that
 /// form does, but for the middle between two.
 pub fn showing_laws()

@@ -10,7 +10,7 @@ use gq_field::ExactField;
 /// How many decimals a number is rounded to at most.
 pub const MOST_DECIMALS: u8 = 8;
 
-/// Puts the value rounded to so many decimals, half away from zero, in place of what `into` has.
+/// Puts the value rounded to so many decimals, at most 8, half away from zero, in place of what `into` has.
 ///
 /// The text is the whole part without needless zeros, a point and exactly so many decimals; with none there is no point.
 /// `-` stands before the text of a number below 0 where some digit is not 0 (GAMS User's Guide, "The Display Statement").

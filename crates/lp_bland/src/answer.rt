@@ -36,8 +36,8 @@ impl<F: ExactField> Choosing<F> for Least {
 ///
 /// Optimal, Infeasible and Unbounded come with what proves them. Interrupted comes after exactly `iterlim` pivots where a
 /// further one is due, and Refused with the first step that does not fit under the limit of the field. No basis comes back, so
-/// the pivots are fewer than twice the sets of the program's variables, and with a limit of at least that many the end is not
-/// Interrupted. The error is want of memory.
+/// the pivots are fewer than twice the sets of the variables of its standard form, slacks and variable 0 included, and with a limit
+/// of at least that many the end is not Interrupted. The error is want of memory.
 pub fn solve_in<F: ExactField>(
     alloc: Global,
     lp: &Lp<F>,

@@ -59,8 +59,8 @@ impl LpSolver for Bland {
         self.taken.as_slice()
     }
 
-    /// The answer of a program under Bland's rule, of which there is one. No basis comes back, so the pivots are fewer than twice
-    /// the sets of the program's variables, and with a limit of at least that many the end is not Interrupted.
+    /// The answer of a program under Bland's rule, of which there is one. No basis comes back, so the pivots are fewer than twice the sets of
+    /// the variables of its standard form, slacks and variable 0 included, and with a limit of at least that many the end is not Interrupted.
     fn solve(
         &mut self,
         alloc: Global,

@@ -16,8 +16,8 @@ ghost use Rattle.lp_bland.specs.Ends.{IsRefused};
 
 use gq_field::ExactField;
 
-/// A program has one answer under Bland's rule and a limit of pivots: the pivots, the end and each of its numbers are told by
-/// the program. So where two fields answer alike, they answer the same.
+/// A program has one answer at most under Bland's rule and a limit of pivots, over one field: the pivots, the end and each of its
+/// numbers are told by the program and the limits.
 pub fn one_answer<F: ExactField>()
     ensures { (lp : Lp F) (iterlim : ℕ) (a b : Answer F) → IsWellFormed F.value lp →
         IsAnswer F.value F.limit lp iterlim Bland a → IsAnswer F.value F.limit lp iterlim Bland b → a ≡ b }
@@ -30,7 +30,7 @@ pub fn an_answer<F: ExactField>()
         (answer : Answer F) × IsAnswer F.value F.limit lp iterlim Bland answer }
 {}
 
-/// An answer over numbers of 63 bits is the answer over those of 127, made wide, unless a step of it did not fit.
+/// Under Bland's rule an answer over numbers of 63 bits is the answer over those of 127, made wide, unless a step of it did not fit.
 pub fn wide_answers()
     ensures { (narrow : Lp Half) (wide : Lp Frac) (iterlim : ℕ) (a : Answer Half) (b : Answer Frac) → lp_numbers half_value narrow ≡ lp_numbers frac_value wide →
         IsWellFormed frac_value wide → answer_numbers frac_value b ≡ answer_numbers half_value a → ¬ (IsRefused a.end) →

@@ -15,7 +15,7 @@ pub struct Pivot {
 pub enum Rule {
     /// Of the improving variables the least enters, and of the tied ones the least leaves.
     Bland,
-    /// Any improving variable enters, and any tied one leaves.
+    /// Any improving variable enters, and any tied one leaves, variable 0 where it ties; at the opening any with the least constant leaves.
     Legal,
 }
 
@@ -24,7 +24,7 @@ pub enum Rule {
 /// Part 0 of a step is a product or a quotient, part 1 a sum or a difference.
 #[derive(Clone, Copy)]
 pub enum StepName {
-    /// In the standard form: a bound is taken out of a row. Rows are standard rows and columns the program's, from 1.
+    /// In the standard form: a bound is taken out of a row, or from a column's other bound. Rows are standard rows and columns the program's, from 1.
     Standard {
         /// The standard row.
         row: u32,
@@ -97,7 +97,7 @@ pub enum End<F> {
     },
     /// No point is feasible.
     Infeasible {
-        /// A factor for each row: so combined, the rows ask what no point gives.
+        /// A factor for each row: so combined, the rows ask what no point gives; 0 for each where the bounds of a column cross.
         duals: Sequence<F>,
         /// The first column whose lower bound passes its upper one, where there is one.
         crossed: Option<u32>,

@@ -48,7 +48,7 @@ pub fn crossed_bounds<F: ExactField>()
         ProvesCrossed F.value lp j duals → ¬ (Feasible F.value lp x) }
 {}
 
-/// From the point, each multiple of the ray is feasible; and the objective passes every number on the way.
+/// From the point, each multiple of the ray by a number of at least 0 is feasible; and the objective passes every number on the way.
 pub fn unbounded_ray<F: ExactField>()
     ensures feasible { (lp : Lp F) (levels row_levels ray : List Number) (t : Number) →
         IsWellFormed F.value lp → ProvesUnbounded F.value lp levels row_levels ray →

@@ -15,7 +15,7 @@ use std::alloc::{AllocError, Global};
 use std::marker::Model;
 
 /// Dantzig's solver: the variable that improves with the greatest coefficient enters, and of the tied ones the least leaves; where
-/// pivots gain nothing for long it turns to Bland's rule, so that it does not cycle.
+/// pivots gain nothing for long it turns to Bland's rule, which does not cycle.
 #[derive(Drop)]
 pub struct Dantzig {
     taken: Vec<Sequence<Pivot>>,

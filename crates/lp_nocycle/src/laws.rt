@@ -16,8 +16,8 @@ pub fn no_basis_repeats<F: ExactField>()
     ensures none_repeats { NoneRepeats F.value }
 {}
 
-/// Each answer of a program under Bland's rule has fewer pivots than twice the sets of its variables, and with a limit of at
-/// least that many it is no interrupted one: Chvatal, Linear Programming, chapter 3.
+/// Each answer of a program under Bland's rule has fewer pivots than twice the sets of the variables of its standard form, slacks and
+/// variable 0 included, and with a limit of at least that many it is no interrupted one: Chvatal, Linear Programming, chapter 3.
 pub fn pivots_end<F: ExactField>()
     ensures few { (lp : Lp F) (limit iterlim : ℕ) (answer : Answer F) → IsWellFormed F.value lp →
         IsAnswer F.value limit lp iterlim Bland answer → HasFewPivots F.value lp answer }

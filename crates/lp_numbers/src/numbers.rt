@@ -111,7 +111,7 @@ impl Numbers {
         )
     }
 
-    /// The places at which there is a number other than 0, in order. The error is want of memory.
+    /// The places at which there is a number other than 0, each once. The error is want of memory.
     pub fn places(&self, alloc: Global) -> Result<Vec<usize>, AllocError>
         ensures { IfOk result (λ places. ArePlaces self.now (length self.now) places.items) }
     {

@@ -96,7 +96,7 @@ fn fill(
     Ok(Some(numbers))
 }
 
-/// The line of so many columns that has these parts, and 0 elsewhere; none exactly where over each common multiple of the
+/// The line of so many columns that has these parts, and 0 elsewhere; or none, and then over each common multiple of the
 /// denominators that has at most 127 bits the whole number of some part has more. The error is want of memory.
 pub fn line_of_parts(
     alloc: Global,
