@@ -1,4 +1,5 @@
-"""The runs that memory and system calls are taken from: models, one source for each error, the ways a solve ends, the words."""
+"""The runs that memory and system calls are taken from: models, a source for each error that a source alone can have, the ways a solve ends,
+words, saves."""
 import os
 
 from hostile import FILE, TOP, Run, read
