@@ -3,55 +3,78 @@ ghost use Rattle.std.specs.Prelude.{◌≡◌, Some};
 ghost use Rattle.gms_check.specs.Errors.{comes_first, earlier, error_code, error_name};
 
 use gms_labels::Place;
+use thiserror::Error;
 
 /// A compile error. Each example is a source that has it, after `set i /a,b/, s(i); parameter p(i); variables x, z; equation e;`.
-#[derive(Clone, Copy)]
+#[derive(Clone, Copy, Debug, Error)]
 pub enum ErrorKind {
     /// A name that no statement before declares, as `q = 1;`, or a word that is no option, as `option foo = 1;`.
+    #[error("an unknown name")]
     UnknownName,
     /// A name that is declared again, as `set i;`. A variable may be given a type once more, with the same domain or none,
     /// while its type is free.
+    #[error("a name declared twice")]
     Redeclared,
     /// A symbol, a suffix, `yes`, `no` or an infinity where its kind does not stand, as `p("a") = yes;`.
+    #[error("a symbol, suffix or value of a kind that cannot occur here")]
     WrongKind,
     /// Another number of indices than declared, or over 10, as `p = 1;`.
+    #[error("a wrong number of indices")]
     WrongArity,
     /// An index set that is not below the set of its position, as `p(j) = 1;` after `set j /a/;`.
+    #[error("an index set outside its position's set")]
     DomainOfSet,
     /// A label that the set of its position does not have, as `p("c") = 1;`.
+    #[error("a label outside its position's set")]
     DomainOfLabel,
     /// An index set that nothing controls, as `p("a") = p(i);`.
+    #[error("an index set that nothing controls")]
     Uncontrolled,
     /// A control of a set that is controlled already, as `p(i) = sum(i, 1);`.
+    #[error("a set controlled twice")]
     ControlledTwice,
     /// `ord` or a lag of a set that is not ordered, as `p(s) = ord(s); s(i) = yes;`.
+    #[error("`ord` or a lag of a set that is not ordered")]
     NotOrdered,
     /// A set that some statement assigns, as a domain: `parameter q(s); s(i) = yes;`.
+    #[error("an assigned set as a domain")]
     DynamicDomain,
     /// A step of an equation that is not linear, as `e.. x*z =e= 1;`.
+    #[error("a nonlinear step in an equation")]
     Nonlinear,
     /// A variable whose values are not continuous, as `binary variable b;`.
+    #[error("a discrete variable")]
     Discrete,
     /// A kind of model other than `lp`, as `solve m using nlp minimizing z;`.
+    #[error("a model type other than `lp`")]
     ModelType,
     /// A solve of a model with an equation that no statement before defines, as `model m /e/; solve m using lp minimizing z;`.
+    #[error("an equation without a definition")]
     NotDefined,
     /// A second definition of an equation, as `e.. x =e= 1; e.. z =e= 2;`.
+    #[error("an equation defined twice")]
     DefinedTwice,
     /// An objective that is no variable of type free without indices.
+    #[error("an objective that is not a free variable without indices")]
     Objective,
     /// A name that no solver has, as `option lp = nobody;`.
+    #[error("an unknown solver")]
     UnknownSolver,
     /// A value of an option that is outside its range, as `option decimals = 9;`.
+    #[error("an option's value out of range")]
     OptionRange,
     /// A variable without suffix where it is no unknown of an equation, as `p("a") = x;`.
+    #[error("a variable without suffix outside an equation")]
     Endogenous,
     /// A function that this language leaves out, or a wrong number of arguments, as `p("a") = exp(1);`.
+    #[error("an unsupported function or a wrong number of arguments")]
     Function,
     /// A range that is none, an element that is given twice, or too many of them, as `set k /a3*a1/;`.
+    #[error("not a range, an element given twice or over 1,048,576 elements")]
     DataFault,
     /// In a restarted run, a statement of the new file that gives a type to a saved variable, or that assigns a saved set
     /// which the saved source does not assign.
+    #[error("a saved variable or set that a restarted run cannot change")]
     Restart,
 }
 
@@ -118,7 +141,8 @@ impl ErrorKind {
 }
 
 /// A compile error and its place: that of the smallest part of the statement around it that has one.
-#[derive(Clone, Copy)]
+#[derive(Clone, Copy, Debug, Error)]
+#[error("{at}: {code} {name}: {kind}", code = .kind.code(), name = .kind.name())]
 pub struct CompileError {
     /// The error.
     pub kind: ErrorKind,

@@ -7,19 +7,25 @@ ghost use Rattle.gms_expressions.specs.Faults.{error_code, error_name, not_enter
 
 use gms_labels::{LabelFault, Place};
 use std::alloc::{AllocError, AllocFailed};
+use thiserror::Error;
 
 /// A syntax error, by its cause.
-#[derive(Clone, Copy)]
+#[derive(Clone, Copy, Debug, Error)]
 pub enum SyntaxError {
-    /// The tokens before it begin a part, and with it they begin none.
+    /// An unexpected token: the tokens before it begin a part, and with it they begin none.
+    #[error("unexpected token")]
     Expected,
-    /// It opens a parenthesis, and 100 are open.
+    /// A parenthesis that opens where 100 are open.
+    #[error("over 100 open parentheses")]
     Depth,
-    /// It is a number out of range.
+    /// A number out of range.
+    #[error("a number out of range")]
     Number,
-    /// It is a word of a statement or a value that the language leaves out.
+    /// A word outside this profile of the language: of a statement or a value that it leaves out.
+    #[error("a word outside this profile of the language")]
     NotInProfile,
-    /// It is a new name or label, and its table is full.
+    /// A name or a label after the 65,536th, the most that its table may have.
+    #[error("over 65,536 labels")]
     TooManyLabels,
 }
 
@@ -52,20 +58,23 @@ impl SyntaxError {
 }
 
 /// A syntax error and its place.
-#[derive(Clone, Copy)]
+#[derive(Clone, Copy, Debug, Error)]
+#[error("{at}: {code} {name}: {error}", code = .error.code(), name = .error.name())]
 pub struct SyntaxFault {
     /// The error.
     pub error: SyntaxError,
-    /// Where the token stands.
+    /// Where the token is.
     pub at: Place,
 }
 
-/// A syntax fault, or want of memory.
-#[derive(Clone, Copy)]
+/// A syntax fault, or out of memory.
+#[derive(Clone, Copy, Debug, Error)]
 pub enum SyntaxFaultOrMemory {
-    /// A growth found no memory.
+    /// Out of memory.
+    #[error("out of memory")]
     Memory,
     /// The tokens have this fault.
+    #[error(transparent)]
     Fault(SyntaxFault),
 }
 

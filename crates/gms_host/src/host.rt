@@ -5,13 +5,16 @@ ghost use Rattle.gms_host.specs.Meaning.{Meaning};
 ghost use Rattle.gms_host.specs.Rules.{TellsWhole, IsThere, OpensInput, Reads, OpensOutput, Writes, ClosesOutput, Says, CountsReading, CountsWriting, CountsNothing};
 
 use std::alloc::{AllocError, AllocFailed};
+use thiserror::Error;
 
 /// Why a call of a host did not do its work.
-#[derive(Clone, Copy, Debug, PartialEq, Eq)]
+#[derive(Clone, Copy, Debug, PartialEq, Eq, Error)]
 pub enum Failed {
-    /// The outside failed: the count of faults of that kind rose in the call.
+    /// An input or output operation failed: the count of faults of that kind rose in the call.
+    #[error("an input or output operation failed")]
     Fault,
-    /// A growth found no memory. No count of faults rose.
+    /// Out of memory. No count of faults rose.
+    #[error("out of memory")]
     Memory,
 }
 

@@ -1,42 +1,47 @@
--- A table's tree and the texts that it keeps: what one more text adds to both.
-use Rattle.std.proofs.Common.{◌≡◌, ℕ, ◌+◌, ◌<◌, ◌≤◌, Bool, true, false, List, [], ◌∷◌, ◌++◌, length, map, get_or, Some, None, refl, sym, ap, ◌∙◌, arith, String, Vec, string_bytes}
+-- A table's entries: what a look-up by a key finds of the texts, and what one more entry adds.
+use Rattle.std.proofs.Common.{◌≡◌, ℕ, ◌+◌, ◌<◌, ◌≤◌, Bool, true, false, cond, not, ltb, List, [], ◌∷◌, ◌++◌, length, map, get_or, Some, None, position, slice_get, refl, sym, ap, ◌∙◌, arith, String, string_bytes}
 use Rattle.std.specs.declared.alloc.Global.{Global}
+use Rattle.std.specs.List.{position_or_len}
+use Rattle.std.specs.Map.{keys_of, values_of}
+use Rattle.std.specs.Option.{option_map}
 use Rattle.std.specs.Str.{bytes_eq}
-use Rattle.std.specs.BTreeMap.{BTreeMap, Updates}
-use Rattle.std.specs.Cmp.{eq_by_cmp_equiv}
-use Rattle.std.specs.Cmp.Lexicographic.{slice_cmp, nat_list_cmp_total, nat_list_eq_equiv}
-use Rattle.std.specs.Map.{KeepsOthers, lookup}
-use Rattle.std.specs.Ordering.{nat_cmp, is_eq, eq_by_cmp}
-use Rattle.std.proofs.lemmas.List.{length-map, length_push, get_or-map}
+use Rattle.std.proofs.lemmas.List.{length-map, length_push, map_push}
 use Rattle.std.proofs.lemmas.List.Elements.{All-push}
 use Rattle.std.proofs.lemmas.List.Quantifiers.{all_pairs_push}
-use Rattle.std.proofs.lemmas.Map.Text.{is_eq-slice_cmp}
-use Rattle.std.proofs.lemmas.Slice.Eq.{bytes_eq-Decides}
-use Rattle.gms_labels.specs.Labels.{folded, is_same, place_of}
-use Rattle.gms_labels.specs.Table.{at_bytes, place_by, IsKept}
-use Rattle.gms_labels.proofs.Places.{position-push_new, position-push_other, position_misses, is_same_sym}
+use Rattle.std.proofs.lemmas.Option.{slice_get-map}
+use Rattle.std.proofs.lemmas.Simd.{map-map}
+use Rattle.indexmap.specs.IndexMap.{insert_entry}
+use Rattle.indexmap.proofs.MapLemmas.{insert_entry-absent, Missing-position}
+use Rattle.gms_labels.specs.Labels.{folded, is_same, place_of, AreLabels}
+use Rattle.gms_labels.specs.Table.{Entry, texts_of, IsKept}
+use Rattle.gms_labels.proofs.Places.{position_misses, is_same_sym}
 
--- where a key is other bytes than the one that a change was made at, its test fails there
-apart : (bytes other key : List ℕ) → bytes_eq bytes other ≡ false → is_eq (slice_cmp nat_cmp bytes key) ≡ true → is_eq (slice_cmp nat_cmp other key) ≡ false
-apart bytes other key differ same =
-    let at : bytes_eq bytes key ≡ true = sym (is_eq-slice_cmp bytes key) ∙ same in
-    is_eq-slice_cmp other key ∙ nat_list_eq_equiv.symm other key ∙ sym (nat_list_eq_equiv.congr bytes key other at) ∙ differ
+module _ {X Y : Type 0} (p : Y → Bool) (f : X → Y) where
+  passed-map : (xs : List X) → position_or_len p (map f xs) ≡ position_or_len (λ x. p (f x)) xs
+  passed-map [] = refl
+  passed-map (x ∷ xs) = ap (λ n. cond (not (p (f x))) (1 + n) 0) (passed-map xs)
 
--- what is found by another key stays
-others-stay : (key : Vec ℕ Global) (old new : List (Vec ℕ Global × ℕ)) (other : List ℕ) → KeepsOthers (eq_by_cmp (λ (x y : Vec ℕ Global). slice_cmp nat_cmp x.items y.items)) (λ k. is_eq (slice_cmp nat_cmp key.items k.items)) old new → bytes_eq key.items other ≡ false → lookup (λ k. is_eq (slice_cmp nat_cmp other k.items)) new ≡ lookup (λ k. is_eq (slice_cmp nat_cmp other k.items)) old
-unfolding KeepsOthers
-others-stay key old new other keeps differ =
-    keeps (λ k. is_eq (slice_cmp nat_cmp other k.items)) (λ x y. (eq_by_cmp_equiv nat_list_cmp_total).congr other x.items y.items) (λ k. apart key.items other k.items differ)
+  -- the first image that passes has the place of the first element whose image passes
+  pub position-map : (xs : List X) → position p (map f xs) ≡ position (λ x. p (f x)) xs
+  position-map xs =
+      ap (λ n. cond (ltb n (length (map f xs))) (Some n) None) (passed-map xs) ∙ ap (λ n. cond (ltb (position_or_len (λ x. p (f x)) xs) n) (Some (position_or_len (λ x. p (f x)) xs)) None) (length-map xs f)
 
--- one more text, with its place in the tree
-pub IsKept-push : (texts : List (List ℕ)) (old new : BTreeMap (Vec ℕ Global) ℕ) (key : Vec ℕ Global) (text : List ℕ) (place : ℕ) → IsKept texts old → place_of texts text ≡ None → length texts < 65536 → length text ≤ 63 → key.items ≡ folded text → place ≡ length texts → Updates (λ (x y : Vec ℕ Global). slice_cmp nat_cmp x.items y.items) old new key (Some place) → IsKept (texts ++ text ∷ []) new
-IsKept-push texts old new key text place kept none room short is last updates = record {
-  labels = record {
-    distinct = all_pairs_push (λ a b. is_same a b ≡ false) texts text kept.labels.distinct (λ k d l. unlike k d l (is_same (get_or texts k d) text) refl);
-    few = omega (arith, length_push texts text);
-    short = All-push (λ t. length t ≤ 63) texts text kept.labels.short short;
-  };
-  placed = λ bytes. by bytes (bytes_eq key.items bytes) refl;
+-- the key of a text has the text's place
+pub position-keys : (entries : List Entry) (text : List ℕ) → IsKept entries → position (bytes_eq (folded text)) (keys_of entries) ≡ place_of (texts_of entries) text
+position-keys entries text kept =
+    ap (position (bytes_eq (folded text))) kept.keyed ∙ position-map (bytes_eq (folded text)) folded (texts_of entries)
+
+-- an entry with a new text goes last
+pub insert-new : (entries : List Entry) (text : List ℕ) (written : String Global) → IsKept entries → place_of (texts_of entries) text ≡ None → insert_entry bytes_eq entries (folded text) written ≡ entries ++ (folded text, written) ∷ []
+insert-new entries text written kept none =
+    insert_entry-absent bytes_eq (folded text) written entries (Missing-position (bytes_eq (folded text)) entries (position-keys entries text kept ∙ none)).absent
+
+-- one more text
+pub AreLabels-push : (texts : List (List ℕ)) (text : List ℕ) → AreLabels texts → place_of texts text ≡ None → length texts < 65536 → length text ≤ 63 → AreLabels (texts ++ text ∷ [])
+AreLabels-push texts text labels none room short = record {
+  distinct = all_pairs_push (λ a b. is_same a b ≡ false) texts text labels.distinct (λ k d l. unlike k d l (is_same (get_or texts k d) text) refl);
+  few = omega (arith, length_push texts text);
+  short = All-push (λ t. length t ≤ 63) texts text labels.short short;
 }
   where
     unlike : (k : ℕ) (d : List ℕ) → k < length texts → (b : Bool) → is_same (get_or texts k d) text ≡ b → b ≡ false
@@ -46,15 +51,21 @@ IsKept-push texts old new key text place kept none room short is last updates = 
         let meets : is_same text (get_or texts k d) ≡ true = is_same_sym (get_or texts k d) text same in
         absurd cc
 
-    by : (bytes : List ℕ) (b : Bool) → bytes_eq key.items bytes ≡ b → at_bytes new bytes ≡ place_by (texts ++ text ∷ []) bytes
-    by bytes true same =
-        let e : folded text ≡ bytes = sym is ∙ (bytes_eq-Decides key.items bytes).0 same in
-        rw (← e) (ap (at_bytes new) (sym is) ∙ updates.1 ∙ ap Some last ∙ sym (position-push_new (is_same text) texts text none ((bytes_eq-Decides (folded text) (folded text)).1 refl)))
-    by bytes false differ =
-        let other : bytes_eq bytes (folded text) ≡ false = ap (bytes_eq bytes) (sym is) ∙ nat_list_eq_equiv.symm bytes key.items ∙ differ in
-        others-stay key old.entries new.entries bytes updates.3 differ ∙ kept.placed bytes ∙ sym (position-push_other (λ t. bytes_eq bytes (folded t)) texts text other)
+-- the texts after one more entry
+pub texts_of-push : (entries : List Entry) (key : List ℕ) (written : String Global) (text : List ℕ) → string_bytes written ≡ text → texts_of (entries ++ (key, written) ∷ []) ≡ texts_of entries ++ text ∷ []
+texts_of-push entries key written text is =
+    map_push (λ (entry : Entry). string_bytes entry.1) entries (key, written) ∙ ap (λ t. texts_of entries ++ t ∷ []) is
 
--- the text at a place, as it is kept there
-pub read-at : (texts : List (String Global)) (n : ℕ) (written : String Global) (text : List ℕ) → n < length (map string_bytes texts) → written ≡ get_or texts n written → text ≡ string_bytes written → get_or (map string_bytes texts) n [] ≡ text
-read-at texts n written text l is at =
-    get_or-map string_bytes texts n written [] (omega (arith, length-map texts string_bytes)) ∙ ap string_bytes (sym is) ∙ sym at
+-- one more entry, with a new text
+pub IsKept-push : (entries : List Entry) (written : String Global) (text : List ℕ) → IsKept entries → place_of (texts_of entries) text ≡ None → length (texts_of entries) < 65536 → length text ≤ 63 → string_bytes written ≡ text → IsKept (entries ++ (folded text, written) ∷ [])
+IsKept-push entries written text kept none room short is =
+    let shows : texts_of (entries ++ (folded text, written) ∷ []) ≡ texts_of entries ++ text ∷ [] = texts_of-push entries (folded text) written text is in
+    record {
+      labels = rw shows (AreLabels-push (texts_of entries) text kept.labels none room short);
+      keyed = map_push (λ (entry : Entry). entry.0) entries (folded text, written) ∙ ap (λ keys. keys ++ folded text ∷ []) kept.keyed ∙ sym (map_push folded (texts_of entries) text) ∙ ap (map folded) (sym shows);
+    }
+
+-- the text at a place, as it was first written
+pub text-at : (entries : List Entry) (n : ℕ) (written : String Global) (text : List ℕ) → slice_get (values_of entries) n ≡ Some written → text ≡ string_bytes written → slice_get (texts_of entries) n ≡ Some text
+text-at entries n written text at is =
+    ap (λ texts. slice_get texts n) (sym (map-map string_bytes (λ (entry : Entry). entry.1) entries)) ∙ slice_get-map string_bytes (values_of entries) n ∙ ap (option_map string_bytes) at ∙ ap Some (sym is)

@@ -1,23 +1,19 @@
--- How a table of labels is kept: the texts as first written, and a tree from each text in lower case to its place.
-use Rattle.std.specs.Prelude.{◌≡◌, ℕ, List, Option, position, Vec}
+-- How a table of labels is kept: entries from each text in lower case to the text as first written, in the order of the places.
+use Rattle.std.specs.Prelude.{◌≡◌, ℕ, List, map, String, string_bytes}
 use Rattle.std.specs.declared.alloc.Global.{Global}
-use Rattle.std.specs.BTreeMap.{BTreeMap, get_by}
-use Rattle.std.specs.Cmp.Lexicographic.{slice_cmp}
-use Rattle.std.specs.Ordering.{nat_cmp}
-use Rattle.std.specs.Str.{bytes_eq}
 use Rattle.gms_labels.specs.Labels.{folded, AreLabels}
 
--- what a tree has at some bytes
-abbrev pub at_bytes : BTreeMap (Vec ℕ Global) ℕ → List ℕ → Option ℕ
-at_bytes places bytes = get_by (λ key. slice_cmp nat_cmp bytes key.items) places
+-- one entry: the text in lower case, and as first written
+abbrev pub Entry : Type 0
+Entry = List ℕ × String Global
 
--- the place of the text that has these bytes in lower case
-abbrev pub place_by : List (List ℕ) → List ℕ → Option ℕ
-place_by texts bytes = position (λ text. bytes_eq bytes (folded text)) texts
+-- the texts as first written
+abbrev pub texts_of : List Entry → List (List ℕ)
+texts_of entries = map (λ entry. string_bytes entry.1) entries
 
--- What a table keeps of its texts and of its tree.
-pub record IsKept (texts : List (List ℕ)) (places : BTreeMap (Vec ℕ Global) ℕ) : Type 0 where
+-- What a table keeps of its entries.
+pub record IsKept (entries : List Entry) : Type 0 where
   -- the texts are labels
-  pub labels : AreLabels texts
-  -- the tree has the place of each text at its bytes in lower case, and nothing else
-  pub placed : (bytes : List ℕ) → at_bytes places bytes ≡ place_by texts bytes
+  pub labels : AreLabels (texts_of entries)
+  -- each key is its text in lower case
+  pub keyed : map (λ entry. entry.0) entries ≡ map folded (texts_of entries)

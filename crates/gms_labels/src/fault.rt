@@ -3,13 +3,16 @@ ghost use Rattle.std.specs.Prelude.{◌≡◌};
 ghost use Rattle.gms_labels.specs.declared.fault.LabelFault.TheVariants.{Memory};
 
 use std::alloc::{AllocError, AllocFailed};
+use thiserror::Error;
 
 /// Why a text was not entered in a table of labels.
-#[derive(Clone, Copy)]
+#[derive(Clone, Copy, Debug, Error)]
 pub enum LabelFault {
-    /// The text is new, and the table has as many labels as a table may have.
+    /// The text is new, and the table has 65,536 labels, as many as a table may have.
+    #[error("over 65,536 labels")]
     Full,
-    /// A growth found no memory.
+    /// Out of memory: a growth found none.
+    #[error("out of memory")]
     Memory,
 }
 

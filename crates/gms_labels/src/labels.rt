@@ -4,8 +4,9 @@ ghost use Rattle.gms_labels.specs.Labels.{longest, most_labels, place_of, entere
 
 use crate::fault::LabelFault;
 use crate::folded::Folded;
+use crate::seeded::Seeded;
+use indexmap::IndexMap;
 use std::alloc::Global;
-use std::collections::BTreeMap;
 use std::marker::Model;
 
 /// How many labels a table has at most.
@@ -17,42 +18,45 @@ pub const MOST_BYTES: usize = 63;
 /// A table of labels: texts that differ when letter case is ignored, each named by its place, in the order in
 /// which they were entered.
 ///
-/// A text keeps the case in which it was first written. Only the case of ASCII letters is ignored. A search goes down
-/// a tree, so its time grows with the logarithm of the number of labels, whatever the labels are.
+/// A text keeps the case in which it was first written. Only the case of ASCII letters is ignored. A search looks a hash
+/// up, which depends on the table's seed.
 pub struct Labels {
-    texts: Vec<String>,
-    places: BTreeMap<Vec<u8>, u32>,
+    // from each text in lower case to the text as first written
+    texts: IndexMap<Folded, String, Seeded>,
 }
 
 // Written out, so that it is proved here alone, and not in each crate that lets one go.
 impl Drop for Labels {
     fn drop(self) {
-        let Self {
-            texts: _,
-            places: _,
-        } = self;
+        let Self { texts: _ } = self;
     }
 }
 
 impl Model for Labels {
-    ghost use Rattle.std.specs.Prelude.{List, ℕ, map, string_bytes};
-    ghost use Rattle.gms_labels.specs.Table.{IsKept};
+    ghost use Rattle.std.specs.Prelude.{List, ℕ};
+    ghost use Rattle.gms_labels.specs.Table.{texts_of, IsKept};
 
     ghost Value = { List (List ℕ) };
 
-    ghost view = { λ l. map string_bytes l.texts.items };
+    ghost view = { λ l. texts_of l.texts.entries };
 
-    ghost invariant = { λ l. IsKept (map string_bytes l.texts.items) l.places };
+    ghost invariant = { λ l. IsKept l.texts.entries };
 }
 
 impl Labels {
-    /// An empty table.
+    /// An empty table, whose seed is 0.
     pub fn new(alloc: Global) -> Labels
         ensures { result ≡ [] }
     {
+        Labels::with_seed(alloc, 0)
+    }
+
+    /// An empty table with a seed: `source_seed` of a source, where others choose the labels.
+    pub fn with_seed(alloc: Global, seed: u64) -> Labels
+        ensures { result ≡ [] }
+    {
         Labels {
-            texts: Vec::new(alloc),
-            places: BTreeMap::new(alloc),
+            texts: IndexMap::with_hasher(alloc, Seeded::new(seed)),
         }
     }
 
@@ -111,14 +115,8 @@ impl Labels {
         ensures memory { IsOkUnless result LabelFault.Memory }
         ensures labels { OnOk result (AreLabels self.new) }
     {
-        let place = self.len();
-        let folded = Folded::new(text);
-        let key = Vec::from_slice(alloc, folded.as_slice())?;
         let written = String::from_str(alloc, text)?;
-        // room first, so that nothing can fail once the tree has the key
-        self.texts.reserve(1)?;
-        self.places.insert(key, place)?;
-        self.texts.push(written)?;
+        self.texts.insert(Folded::new(text), written)?;
         Ok(())
     }
 
@@ -130,7 +128,8 @@ impl Labels {
         ensures labels { AreLabels self.now }
     {
         let folded = Folded::new(text);
-        self.places.get(folded.as_slice()).copied()
+        let place = self.texts.get_index_of(&folded)?;
+        Some(place as u32)
     }
 
     /// The text at a place that has one, as it was first written.

@@ -6,8 +6,10 @@ mod folded;
 mod labels;
 mod laws;
 mod place;
+mod seeded;
 
 pub use fault::LabelFault;
 pub use labels::{Labels, MOST_BYTES, MOST_LABELS};
 pub use laws::limit_laws;
 pub use place::Place;
+pub use seeded::source_seed;

@@ -5,22 +5,26 @@ ghost use Rattle.gms_lex.specs.declared.fault.LexFaultOrMemory.TheVariants.{Memo
 use gms_labels::Place;
 use gms_lines::LexError;
 use std::alloc::{AllocError, AllocFailed};
+use thiserror::Error;
 
 /// A lexical error and its place.
-#[derive(Clone, Copy)]
+#[derive(Clone, Copy, Debug, Error)]
+#[error("{at}: {code} {name}: {error}", code = .error.code(), name = .error.name())]
 pub struct LexFault {
     /// The error.
     pub error: LexError,
-    /// Where it stands.
+    /// Where it occurs.
     pub at: Place,
 }
 
-/// A lexical fault of a source, or want of memory.
-#[derive(Clone, Copy)]
+/// A lexical fault of a source, or out of memory.
+#[derive(Clone, Copy, Debug, Error)]
 pub enum LexFaultOrMemory {
-    /// A growth found no memory.
+    /// Out of memory.
+    #[error("out of memory")]
     Memory,
     /// The source has this fault.
+    #[error(transparent)]
     Fault(LexFault),
 }
 

@@ -2,21 +2,29 @@
 ghost use Rattle.std.specs.Prelude.{◌≡◌};
 ghost use Rattle.gms_lines.specs.Errors.{error_code, error_name};
 
+use thiserror::Error;
+
 /// A lexical error, by its cause.
-#[derive(Clone, Copy)]
+#[derive(Clone, Copy, Debug, Error)]
 pub enum LexError {
-    /// A byte that may not stand where it stands: a control character other than tab; a byte above 127 outside comments
-    /// and unquoted descriptive texts; in code, a character that begins no token.
+    /// A byte that cannot occur here: a control character other than tab; a byte above 127 outside comments and
+    /// unquoted descriptive texts; in code, a character that begins no token.
+    #[error("a byte that cannot occur here")]
     BadByte,
-    /// A quotation mark that does not come again on its line.
+    /// A quotation mark that is not closed on its line.
+    #[error("a quotation mark not closed on its line")]
     OpenQuote,
     /// An `$ontext` without `$offtext`.
+    #[error("`$ontext` without `$offtext`")]
     OpenText,
     /// A name or a label of over 63 bytes.
+    #[error("a name or label of over 63 bytes")]
     LongLabel,
     /// A line of over 32,768 bytes.
+    #[error("a line of over 32,768 bytes")]
     LongLine,
-    /// A control line whose first word is not accepted.
+    /// A control line whose first word is no control word of this language.
+    #[error("an unknown control word")]
     UnknownControl,
 }
 
@@ -50,10 +58,11 @@ impl LexError {
     }
 }
 
-/// A lexical error and the byte of the source at which it stands, counted from 0.
-#[derive(Clone, Copy)]
+/// A lexical error and the byte of the source at which it occurs, counted from 0.
+#[derive(Clone, Copy, Debug, Error)]
+#[error("byte {at}: {code} {name}: {error}", code = .error.code(), name = .error.name())]
 pub struct ByteFault {
-    /// How many bytes stand before it.
+    /// How many bytes precede it.
     pub at: usize,
     /// The error.
     pub error: LexError,

@@ -6,15 +6,19 @@ ghost use Rattle.gms_save.specs.Faults.{fault_code, fault_name, fault_of_reading
 use gms_parse::SourceFaultOrMemory;
 use gms_saved::ReadFault;
 use std::alloc::{AllocError, AllocFailed};
+use thiserror::Error;
 
 /// Why a save was not restored.
-#[derive(Clone, Copy)]
+#[derive(Clone, Copy, Debug, Error)]
 pub enum SaveFault {
-    /// The save has over 67,108,864 bytes.
+    /// A save of over 67,108,864 bytes.
+    #[error("a save of over 67,108,864 bytes")]
     SaveTooLong,
-    /// The bytes are no save.
+    /// Bytes that are not a save.
+    #[error("not a save")]
     SaveShape,
-    /// There is no solver of the name that the save has.
+    /// The save names a solver that does not exist here.
+    #[error("the saved solver does not exist here")]
     SaveSolver,
 }
 
@@ -42,12 +46,14 @@ impl SaveFault {
     }
 }
 
-/// A fault of a save, or want of memory.
-#[derive(Clone, Copy)]
+/// A fault of a save, or out of memory.
+#[derive(Clone, Copy, Debug, Error)]
 pub enum SaveFaultOrMemory {
-    /// A growth found no memory.
+    /// Out of memory.
+    #[error("out of memory")]
     Memory,
-    /// The save has this fault.
+    /// A fault of the save.
+    #[error(transparent)]
     Fault(SaveFault),
 }
 

@@ -3,13 +3,16 @@ ghost use Rattle.std.specs.Prelude.{◌≡◌};
 ghost use Rattle.gms_saved.specs.declared.fault.ReadFault.TheVariants.{Memory};
 
 use std::alloc::{AllocError, AllocFailed};
+use thiserror::Error;
 
 /// Why a text was not read as a part of a saved state.
-#[derive(Clone, Copy)]
+#[derive(Clone, Copy, Debug, Error)]
 pub enum ReadFault {
-    /// A growth found no memory.
+    /// Out of memory.
+    #[error("out of memory")]
     Memory,
-    /// The text is none that a state has.
+    /// The text is not that of a saved state.
+    #[error("not a saved state's text")]
     Shape,
 }
 

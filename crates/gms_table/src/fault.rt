@@ -5,22 +5,29 @@ ghost use Rattle.gms_table.specs.declared.fault.TableFaultOrMemory.TheVariants.{
 
 use gms_labels::Place;
 use std::alloc::{AllocError, AllocFailed};
+use thiserror::Error;
 
 /// An error of a table.
-#[derive(Clone, Copy)]
+#[derive(Clone, Copy, Debug, Error)]
 pub enum TableError {
-    /// A number that stands under no heading.
+    /// A number under no heading.
+    #[error("a number under no heading")]
     NoColumn,
-    /// A number that stands under two headings or more.
+    /// A number under two headings or more.
+    #[error("a number under two headings")]
     TwoColumns,
     /// A second number for the same row label and the same heading.
+    #[error("a second number for the same row and heading")]
     RepeatedEntry,
-    /// A heading or a row label that is not made of labels joined by dots, or a later word of a row that is no number within the
-    /// limit.
+    /// A malformed heading, row label or number: a heading or a row label that is not made of labels joined by dots, or a
+    /// later word of a row that is no number within the limit.
+    #[error("malformed heading, row label or number")]
     BadRow,
     /// A table without a line of headings.
+    #[error("a table without headings")]
     NoHeading,
-    /// A label that is one more than a table of labels may have.
+    /// A label after the 65,536th, the most that a table of labels may have.
+    #[error("over 65,536 labels")]
     Labels,
 }
 
@@ -55,20 +62,23 @@ impl TableError {
 }
 
 /// An error of a table and the place of its word.
-#[derive(Clone, Copy)]
+#[derive(Clone, Copy, Debug, Error)]
+#[error("{at}: {code} {name}: {error}", code = .error.code(), name = .error.name())]
 pub struct TableFault {
     /// The error.
     pub error: TableError,
-    /// Where the word stands; line 0 and column 0 for a table without headings.
+    /// Where the word is; line 0 and column 0 for a table without headings.
     pub at: Place,
 }
 
-/// A fault of a table, or want of memory.
-#[derive(Clone, Copy)]
+/// A fault of a table, or out of memory.
+#[derive(Clone, Copy, Debug, Error)]
 pub enum TableFaultOrMemory {
-    /// A growth found no memory.
+    /// Out of memory.
+    #[error("out of memory")]
     Memory,
     /// The table has this fault.
+    #[error(transparent)]
     Fault(TableFault),
 }
 

@@ -2,17 +2,22 @@
 ghost use Rattle.std.specs.Prelude.{◌≡◌};
 
 use gq_field::Limit;
+use thiserror::Error;
 
 /// The fault that a step on extended numbers has.
-#[derive(Clone, Copy, Debug, PartialEq, Eq)]
+#[derive(Clone, Copy, Debug, PartialEq, Eq, Error)]
 pub enum ExtendedFault {
-    /// A number of the step does not fit under the field's limit.
+    /// A number of the step exceeds the field's limit.
+    #[error("beyond the field's limit")]
     Limit,
-    /// The divisor is 0, or 0 is to be raised to a power below 0.
+    /// The divisor is 0, or 0 is raised to a negative power.
+    #[error("division by zero")]
     Divide,
-    /// The step has no meaning, as an infinity less itself, or an infinity times 0.
+    /// The step is undefined, such as an infinity minus itself or times 0.
+    #[error("an undefined step")]
     Undefined,
-    /// The exponent is no number, is not whole, or is above 1,024 in magnitude.
+    /// The exponent is infinite or NA, is not whole, or exceeds 1,024 in magnitude.
+    #[error("an exponent that is not whole or exceeds 1,024")]
     Exponent,
 }
 

@@ -9,9 +9,11 @@ use crate::product::{product, quotient, reduced};
 use crate::rounding::{down, to_nearest, towards_zero, up};
 use crate::sum::{difference, sum};
 use std::cmp::Ordering;
+use thiserror::Error;
 
 /// The answer of a step of which a number does not fit under the limit.
-#[derive(Clone, Copy, Debug, PartialEq, Eq)]
+#[derive(Clone, Copy, Debug, PartialEq, Eq, Error)]
+#[error("beyond the field's limit")]
 pub struct Limit;
 
 /// A field of exact numbers whose parts are at most a limit in magnitude.

@@ -3,13 +3,16 @@ ghost use Rattle.std.specs.Prelude.{◌≡◌};
 ghost use Rattle.gq_text.specs.Faults.{fault_code};
 
 use gq_field::Limit;
+use thiserror::Error;
 
 /// Why a text was not read as a number.
-#[derive(Clone, Copy)]
+#[derive(Clone, Copy, Debug, Error)]
 pub enum NumberFault {
-    /// The text is no number.
+    /// The text is not a number.
+    #[error("not a number")]
     Shape,
-    /// The text is a number that is not within the limit.
+    /// The number's parts exceed the field's limit.
+    #[error("beyond the field's limit")]
     Limit,
 }
 

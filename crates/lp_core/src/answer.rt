@@ -1,5 +1,6 @@
 //! The answer of a linear program, and the steps that can keep it from being found.
 use crate::sequence::Sequence;
+use thiserror::Error;
 
 /// One pivot of the simplex method: the variables that enter and leave the basis, by their numbers in the standard form.
 #[derive(Clone, Copy)]
@@ -22,9 +23,10 @@ pub enum Rule {
 /// A step of the way from a program to its answer that may not fit under the limit of the numbers.
 ///
 /// Part 0 of a step is a product or a quotient, part 1 a sum or a difference.
-#[derive(Clone, Copy)]
+#[derive(Clone, Copy, Debug, Error)]
 pub enum StepName {
     /// In the standard form: a bound is taken out of a row, or from a column's other bound. Rows are standard rows and columns the program's, from 1.
+    #[error("beyond the field's limit in the standard form: row {row}, column {column}, part {part}")]
     Standard {
         /// The standard row.
         row: u32,
@@ -34,6 +36,7 @@ pub enum StepName {
         part: u8,
     },
     /// In the ratio test of a pivot: the quotient of a row. Pivots and rows count from 1.
+    #[error("beyond the field's limit in a ratio: pivot {pivot}, row {row}")]
     Ratio {
         /// The pivot.
         pivot: u64,
@@ -41,6 +44,7 @@ pub enum StepName {
         row: u32,
     },
     /// In the exchange of a pivot: an entry of a row. Column 0 is the constant, and variable v is column v + 1.
+    #[error("beyond the field's limit in an exchange: pivot {pivot}, row {row}, column {column}, part {part}")]
     Exchange {
         /// The pivot.
         pivot: u64,
@@ -52,6 +56,7 @@ pub enum StepName {
         part: u8,
     },
     /// On the way back from a dictionary: 0 levels, 1 row levels, 2 duals, 3 reduced costs, 4 the ray.
+    #[error("beyond the field's limit in the recovery: list {what}, index {index}, entry {entry}, part {part}")]
     Recover {
         /// Which list.
         what: u8,
@@ -63,6 +68,7 @@ pub enum StepName {
         part: u8,
     },
     /// In a check of a point or of duals: the steps count from 0.
+    #[error("beyond the field's limit in a check: part {part}")]
     Check {
         /// The number of the step.
         part: u64,

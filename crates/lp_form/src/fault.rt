@@ -5,13 +5,16 @@ ghost use Rattle.lp_form.specs.declared.fault.FormFault.TheVariants.{Memory};
 use crate::key::Key;
 use std::alloc::{AllocError, AllocFailed};
 use std::fmt;
+use thiserror::Error;
 
 /// Why a form was not made.
-#[derive(Debug, Drop)]
+#[derive(Debug, Drop, Error)]
 pub enum FormFault {
-    /// A step does not fit under the limit of the field: that of the constant, or that of this key, the first such one.
+    /// The first step that exceeds the field's limit: that of the constant, or that of this key.
+    #[error("beyond the field's limit")]
     Limit(Option<Key>),
-    /// A growth found no memory.
+    /// Out of memory.
+    #[error("out of memory")]
     Memory,
 }
 

@@ -4,15 +4,19 @@ ghost use Rattle.lp_std.specs.declared.stop.Stop.TheVariants.{Limit, Memory};
 
 use lp_core::StepName;
 use std::alloc::{AllocError, AllocFailed};
+use thiserror::Error;
 
 /// Why there is no standard form, or no way back.
-#[derive(Clone, Copy)]
+#[derive(Clone, Copy, Debug, Error)]
 pub enum Stop {
-    /// This step does not fit under the limit of the field, and all before it fit.
+    /// The first step that exceeds the field's limit.
+    #[error(transparent)]
     Limit(StepName),
-    /// The lower bound of this column passes its upper one, and that of no earlier column does.
+    /// The first column, from 0, whose lower bound exceeds its upper bound.
+    #[error("the lower bound of column {0} exceeds its upper bound")]
     Crossed(u32),
-    /// A growth found no memory.
+    /// Out of memory.
+    #[error("out of memory")]
     Memory,
 }
 

@@ -1,15 +1,28 @@
-use Rattle.std.proofs.Common.{◌≡◌, ◌∙◌, ◌∷◌, ◌++◌, [], List, ℕ, map, string_bytes, ap}
-use Rattle.std.proofs.lemmas.List.{map_push}
-use Rattle.gms_labels.proofs.Entries.{IsKept-push}
+use Rattle.std.proofs.Common.{◌≡◌, ◌∙◌, ◌∷◌, ◌++◌, ◌<◌, [], List, None, length, ap}
+use Rattle.std.specs.Str.{bytes_eq}
+use Rattle.indexmap.specs.IndexMap.{insert_entry}
+use Rattle.gms_labels.specs.Labels.{folded, place_of}
+use Rattle.gms_labels.specs.Table.{Entry, texts_of}
+use Rattle.gms_labels.proofs.Entries.{insert-new, texts_of-push, IsKept-push}
 use Rattle.gms_labels.proofs.labels.Labels.append.Goals as goal
+
+-- the entries after the call
+entries-are : (c : goal.Joined-branch-3) → c.insert.new.self.entries ≡ c.self.inside.texts.entries ++ (folded c.args.text.now, c.in_ok-written.written) ∷ []
+entries-are c =
+    let entries : List Entry = c.self.inside.texts.entries in
+    let none : place_of (texts_of entries) c.args.text.now ≡ None = rw c.self.view_is c.requires.new in
+    c.in_ok-insert.ensures.entries ∙ ap (λ key. insert_entry bytes_eq entries key c.in_ok-written.written) c.new.ensures ∙ insert-new entries c.args.text.now c.in_ok-written.written c.self.invariant none
 
 pub invariant_of-self-2 : goal.invariant_of-self-2
 invariant_of-self-2 c =
-    let kept = c.self.inside.texts.items in
-    let texts : List (List ℕ) = map string_bytes kept in
-    let items : c.push.new.self.items ≡ kept ++ c.in_ok-written.written ∷ [] = c.in_ok-push.ensures.items ∙ ap (λ xs. xs ++ c.in_ok-written.written ∷ []) c.in_ok-reserve.ensures.items in
-    let shows : map string_bytes c.push.new.self.items ≡ texts ++ c.args.text.now ∷ [] = ap (map string_bytes) items ∙ map_push string_bytes kept c.in_ok-written.written ∙ ap (λ text. texts ++ text ∷ []) c.in_ok-written.ensures.ok in
-    rw shows (IsKept-push texts c.self.inside.places c.insert.new.self c.in_ok-key.key c.args.text.now c.len-place.result c.self.invariant (rw c.self.view_is c.requires.new) (rw c.self.view_is c.requires.room) c.requires.short (c.in_ok-key.ensures.items ∙ c.as_slice.ensures ∙ c.new-folded.ensures) (rw c.self.view_is c.len-place.ensures.len) c.in_ok-insert.ensures.updates)
+    let entries : List Entry = c.self.inside.texts.entries in
+    let none : place_of (texts_of entries) c.args.text.now ≡ None = rw c.self.view_is c.requires.new in
+    let room : length (texts_of entries) < 65536 = rw c.self.view_is c.requires.room in
+    rw (entries-are c) (IsKept-push entries c.in_ok-written.written c.args.text.now c.self.invariant none room c.requires.short c.in_ok-written.ensures.ok)
+
+pub returns-clause-ok : goal.returns-clause-ok
+returns-clause-ok c =
+    rw (entries-are c, ← c.self.view_is) (texts_of-push c.self.inside.texts.entries (folded c.args.text.now) c.in_ok-written.written c.args.text.now c.in_ok-written.ensures.ok)
 
 pub returns-clause-labels : goal.returns-clause-labels
 returns-clause-labels c = (invariant_of-self-2 c).labels
