@@ -10,6 +10,7 @@ use std::marker::Model;
 /// In `loop(i, s = sum(j, p(i,j)))` the entry `p(i,j)` is taken under a binding of `i` and of `j`, each to a label. Sets are
 /// named by the numbers of their names, so a set and an alias of it may stand for two labels. GAMS User's Guide, "Data
 /// Manipulations with Parameters".
+#[derive(Debug)]
 pub struct Binding {
     pairs: Vec<(u32, u32)>,
 }

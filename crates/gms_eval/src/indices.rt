@@ -1,5 +1,5 @@
 //! The labels of indices: where a set's label stands in the set, and which one a lag reaches.
-ghost use Rattle.std.specs.Prelude.{◌≡◌, ◌<◌, ◌^◌, ◌∷◌, [], map, pos, ◌+ℤ◌, length, nat_abs, slice_index, IfOk, IfSome};
+ghost use Rattle.std.specs.Prelude.{◌≡◌, ◌<◌, ◌^◌, ◌∷◌, [], map, pos, ◌+ℤ◌, length, nat_abs, slice_get, slice_index, Some, IsTrue, IfOk, IfSome};
 ghost use Rattle.std.specs.Int.{int_rem_euclid};
 ghost use Rattle.gq_extended.specs.Meaning.{extended};
 ghost use Rattle.gms_tuple.specs.TupleSet.{place_of};
@@ -30,11 +30,35 @@ pub(crate) fn label_at(members: &TupleSet, place: usize) -> u32
     }
 }
 
-/// The place of a label in a set of one dimension.
+/// Where a label of a set of one dimension is if the labels between the set's first and it are all in the set.
+fn likely_place(members: &TupleSet, label: u32) -> usize {
+    if members.is_empty() {
+        return 0;
+    }
+    label.saturating_sub(label_at(members, 0)) as usize
+}
+
+/// Whether the tuple at a place of a set is one label, and this one.
+fn is_at(members: &TupleSet, place: usize, label: u32) -> bool
+    ensures { IsTrue result → slice_get members.now place ≡ Some (label ∷ []) }
+{
+    if place >= members.len() {
+        return false;
+    }
+    let labels = members.get(place).as_slice();
+    labels.len() == 1 && labels[0] == label
+}
+
+/// The place of a label in a set of one dimension. The likely place is tried before the set is searched.
 fn place_in(alloc: Global, members: &TupleSet, label: u32) -> Result<Option<usize>, AllocError>
     ensures value { IfOk result (λ place. place ≡ place_of members.now (label ∷ [])) }
     ensures within { IfOk result (λ place. IfSome place (λ n. n < length members.now)) }
 {
+    let _count = members.len();
+    let likely = likely_place(members, label);
+    if is_at(members, likely, label) {
+        return Ok(Some(likely));
+    }
     let mut element = Tuple::new(alloc);
     element.push(alloc, label)?;
     match members.place(&element) {

@@ -12,31 +12,43 @@ use gms_labels::Place;
 use gq_extended::{Ext, ExtendedFault};
 use gq_field::ExactField;
 use std::alloc::{AllocError, AllocFailed, Global};
+use thiserror::Error;
 
 /// Why an execution stops. GAMS User's Guide, "GAMS Output", execution errors.
-#[derive(Clone, Copy)]
+#[derive(Clone, Copy, Debug, Error)]
 pub enum StopKind {
-    /// A number does not fit under the limit.
+    /// A number exceeds the field's limit.
+    #[error("beyond the field's limit")]
     Limit,
-    /// A division by 0, or 0 to a power below 0.
+    /// A division by 0, or 0 to a negative power.
+    #[error("division by zero")]
     Divide,
-    /// The amount of a lag is no whole number.
+    /// The amount of a lag is not a whole number.
+    #[error("a lag that is not whole")]
     LagNotWhole,
-    /// The least or the greatest of no values.
+    /// `smin` or `smax` of no values.
+    #[error("the smallest or largest of no values")]
     EmptyExtreme,
-    /// An exponent that is no whole number, or is above 1,024 in magnitude.
+    /// An exponent that is not a whole number, or exceeds 1,024 in magnitude.
+    #[error("an exponent that is not whole or exceeds 1,024")]
     Exponent,
-    /// The product of the sets of a domain has more than 16,777,216 elements.
+    /// The product of the sets of a domain has over 16,777,216 elements.
+    #[error("a domain of over 16,777,216 elements")]
     DomainSize,
-    /// A linear program has too many rows.
+    /// The standard form of a linear program has over 1,500 rows.
+    #[error("a linear program of over 1,500 rows")]
     TooManyRows,
-    /// A linear program has too many columns.
+    /// The standard form of a linear program has over 3,000 columns.
+    #[error("a linear program of over 3,000 columns")]
     TooManyColumns,
     /// A solve without a solver.
+    #[error("a solve without a solver")]
     NoSolver,
-    /// An `abort`.
+    /// An `abort` statement.
+    #[error("stopped by an `abort` statement")]
     Aborted,
-    /// A step that has no meaning, as an infinity less itself.
+    /// An undefined step, such as an infinity minus itself.
+    #[error("an undefined step")]
     Undefined,
 }
 
@@ -93,6 +105,8 @@ impl StopKind {
 }
 
 /// A stop: its kind and its place, and what is known of the step there.
+#[derive(Debug, Error)]
+#[error("{at}: {code} {name}: {kind}", code = .kind.code(), name = .kind.name())]
 pub struct ExecStop<F> {
     /// Why the execution stops.
     pub kind: StopKind,
@@ -123,12 +137,14 @@ impl<F: Drop> Drop for ExecStop<F> {
     }
 }
 
-/// A stop, or want of memory.
-#[derive(Drop)]
+/// A stop, or out of memory.
+#[derive(Debug, Drop, Error)]
 pub enum StopOrMemory<F> {
-    /// A growth found no memory.
+    /// Out of memory.
+    #[error("out of memory")]
     Memory,
-    /// The execution stops so. On the heap, so that what an expression answers stays small where expressions stand in each other.
+    /// The execution stops. The stop is stored on the heap, so that the result of a nested expression stays small.
+    #[error(transparent)]
     Stop(Box<ExecStop<F>>),
 }
 

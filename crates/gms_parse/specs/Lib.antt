@@ -7,6 +7,5 @@ pub mod Tables
 pub mod Walks
 pub mod Outcomes
 pub mod Readings
-pub mod Room
 pub mod Meanings
 pub mod TableReadings

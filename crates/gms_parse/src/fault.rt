@@ -8,17 +8,22 @@ use gms_labels::Place;
 use gms_lex::{LexError, LexFaultOrMemory};
 use gms_table::TableError;
 use std::alloc::{AllocError, AllocFailed};
+use thiserror::Error;
 
 /// A source error, by what finds it.
-#[derive(Clone, Copy)]
+#[derive(Clone, Copy, Debug, Error)]
 pub enum SourceError {
     /// A source of over 1,048,576 bytes.
+    #[error("a source of over 1,048,576 bytes")]
     TooLong,
-    /// An error of its tokens.
+    /// A lexical error.
+    #[error(transparent)]
     Lexical(LexError),
-    /// A token with which no program goes on, or a parenthesis, a number or a name that is too much.
+    /// A syntax error: an unexpected token, or a parenthesis, a number or a name beyond a limit.
+    #[error(transparent)]
     Syntax(SyntaxError),
     /// An error of a table.
+    #[error(transparent)]
     Table(TableError),
 }
 
@@ -48,8 +53,9 @@ impl SourceError {
     }
 }
 
-/// A source error and where it stands.
-#[derive(Clone, Copy)]
+/// A source error and its place.
+#[derive(Clone, Copy, Debug, Error)]
+#[error("{at}: {code} {name}: {error}", code = .error.code(), name = .error.name())]
 pub struct SourceFault {
     /// The error.
     pub error: SourceError,
@@ -58,12 +64,14 @@ pub struct SourceFault {
     pub at: Place,
 }
 
-/// A fault of a source, or want of memory.
-#[derive(Clone, Copy)]
+/// A fault of a source, or out of memory.
+#[derive(Clone, Copy, Debug, Error)]
 pub enum SourceFaultOrMemory {
-    /// A growth found no memory.
+    /// Out of memory.
+    #[error("out of memory")]
     Memory,
     /// The source has this fault.
+    #[error(transparent)]
     Fault(SourceFault),
 }
 

@@ -10,7 +10,6 @@ mod formula;
 mod laws;
 mod model;
 mod reader;
-mod room;
 mod source;
 mod spelling;
 mod statement;

@@ -4,11 +4,9 @@ ghost use Rattle.gms_parse.specs.Outcomes.{IsProgram, IsRefusal};
 
 use crate::fault::{SourceError, SourceFaultOrMemory};
 use crate::reader::{Reader, Tables};
-use crate::room::MOST_GIVEN;
 use gms_ast::Program;
-use gms_labels::{Labels, Place};
+use gms_labels::{Labels, Place, source_seed};
 use gms_lex::{MOST_BYTES, lex};
-use gms_set::elements_fit;
 use gq_field::ExactField;
 use std::alloc::Global;
 
@@ -23,9 +21,7 @@ const START: Place = Place { line: 1, column: 1 };
 /// statement or a value that the language leaves out), the end of the source where more has to come (`Expected`), a parenthesis that
 /// is opened where 100 are open (`Depth`), a number out of range (`Number`), the 65,537th name or label (`TooManyLabels`; of a range,
 /// at its upper label), a fault of a table at its word (`NoColumn`, `TwoColumns`, `RepeatedEntry`, `BadRow`), a table without
-/// headings, found where it ends and told at its name (`NoHeading`). `Memory` comes where memory was wanting: also, before any is taken
-/// for them, where the ranges of the source write out more than 2,097,152 labels, or its lists give more elements than that in all, each list
-/// up to the item with which it would give more than 1,048,576, which a check refuses.
+/// headings, found where it ends and told at its name (`NoHeading`). `Memory` comes where a growth finds no memory.
 pub fn parse<F: ExactField>(alloc: Global, source: &[u8]) -> Result<Program<F>, SourceFaultOrMemory>
     ensures { MatchResult result (λ program. IsProgram F.limit source.now F.value program) (λ e. IsRefusal F.limit source.now e) }
 {
@@ -33,9 +29,10 @@ pub fn parse<F: ExactField>(alloc: Global, source: &[u8]) -> Result<Program<F>, 
         return Err(SourceFaultOrMemory::at(SourceError::TooLong, START));
     }
     let tokens = lex(alloc, source)?;
+    let seed = source_seed(source);
     let mut tables = Tables {
-        names: Labels::new(alloc),
-        labels: Labels::new(alloc),
+        names: Labels::with_seed(alloc, seed),
+        labels: Labels::with_seed(alloc, seed),
     };
     let reader = Reader {
         alloc,
@@ -44,13 +41,7 @@ pub fn parse<F: ExactField>(alloc: Global, source: &[u8]) -> Result<Program<F>, 
         end: tokens[tokens.len() - 1].at,
         unclosed: 0,
     };
-    if !reader.has_room_for_ranges() {
-        return Err(SourceFaultOrMemory::Memory);
-    }
     let statements = reader.program(&mut tables)?;
-    if !elements_fit(&statements, MOST_GIVEN) {
-        return Err(SourceFaultOrMemory::Memory);
-    }
     Ok(Program {
         names: tables.names,
         labels: tables.labels,

@@ -1,6 +1,5 @@
 mod Behind
 mod Digits
-mod Left
 mod Numbers
 mod Products
 mod Repeats

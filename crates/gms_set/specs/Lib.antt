@@ -1,4 +1,3 @@
-pub mod Counts
 pub mod Expansion
 pub mod Faults
 pub mod Ranges

@@ -5,17 +5,22 @@ ghost use Rattle.gms_set.specs.declared.fault.SetFaultOrMemory.TheVariants.{Memo
 
 use gms_labels::Place;
 use std::alloc::{AllocError, AllocFailed};
+use thiserror::Error;
 
 /// An error of a data list.
-#[derive(Clone, Copy)]
+#[derive(Clone, Copy, Debug, Error)]
 pub enum SetError {
-    /// A range that is none, as `a3*a1`.
+    /// Two labels that are not a range, as `a3*a1`.
+    #[error("not a range")]
     BadRange,
-    /// A tuple that is given twice.
+    /// An element that is given twice.
+    #[error("an element given twice")]
     Repeated,
-    /// A label that the set of its position does not have.
+    /// A label outside the set of its position.
+    #[error("a label outside its position's set")]
     Outside,
-    /// The tuple after the 1,048,576th.
+    /// The element after the 1,048,576th.
+    #[error("over 1,048,576 elements")]
     Full,
 }
 
@@ -46,20 +51,23 @@ impl SetError {
 }
 
 /// An error of a data list and the place of its item.
-#[derive(Clone, Copy)]
+#[derive(Clone, Copy, Debug, Error)]
+#[error("{at}: {code} {name}: {error}", code = .error.code(), name = .error.name())]
 pub struct SetFault {
     /// The error.
     pub error: SetError,
-    /// Where the item stands; line 0 and column 0 for a range by itself.
+    /// Where the item is; line 0 and column 0 for a range by itself.
     pub at: Place,
 }
 
-/// A fault of a data list, or want of memory.
-#[derive(Clone, Copy)]
+/// A fault of a data list, or out of memory.
+#[derive(Clone, Copy, Debug, Error)]
 pub enum SetFaultOrMemory {
-    /// A growth found no memory.
+    /// Out of memory.
+    #[error("out of memory")]
     Memory,
     /// The list has this fault.
+    #[error(transparent)]
     Fault(SetFault),
 }
 

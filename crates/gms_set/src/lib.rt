@@ -1,18 +1,14 @@
 //! Floor 3, state and checks. Lists of data: ranges of labels, and the tuples that items give.
 #![tactic(auto)]
 
-mod count;
 mod expansion;
 mod fault;
 mod items;
 mod outside;
 mod product;
 mod ranges;
-mod room;
 mod seen;
 
-pub use count::element_count;
 pub use fault::{SetError, SetFault, SetFaultOrMemory};
 pub use items::expand;
-pub use ranges::{range, range_len};
-pub use room::elements_fit;
+pub use ranges::range;

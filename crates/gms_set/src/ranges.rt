@@ -35,16 +35,6 @@ pub fn range(alloc: Global, from: &str, to: &str) -> Result<Vec<String>, SetFaul
     }
 }
 
-/// How many members the range `from*to` has; none where it is none.
-pub fn range_len(from: &str, to: &str) -> usize
-    ensures { result ≡ (if is_range from.now to.now then length (members from.now to.now) else 0) }
-{
-    match numbers(from, to) {
-        Some((_, count)) => count as usize,
-        None => 0,
-    }
-}
-
 /// The first number of a range, and how many it has.
 fn numbers(from: &str, to: &str) -> Option<(u32, u32)>
     ensures value { result ≡ (if is_range from.now to.now then Some (number_of from.now, number_of to.now - number_of from.now + 1) else None) }

@@ -19,41 +19,42 @@ use Rattle.gms_tuple.proofs.Spans.{begins-not-before, begins-between, before-clo
 -- ---- places
 
 module _ {X : Type 0} (l : List X) (x : X) (r : List X) where
-  -- the tuples of a fork are those of its sides and its own
+  -- a list around one of its elements has as many as the parts
   pub length-fork : length (l ++ x ∷ r) ≡ length l + 1 + length r
   length-fork = length-append l (x ∷ r) ∙ omega arith
 
-  pub insert-left : (n : ℕ) (t : X) → n ≤ length l → insert (l ++ x ∷ r) n t ≡ insert l n t ++ x ∷ r
-  insert-left n t le = insert-append_left l (x ∷ r) n t le
+module _ {X : Type 0} (l m r : List X) where
+  -- the tuples of a fork are those of its sides and its own
+  pub length-block : length (l ++ (m ++ r)) ≡ length l + (length m + length r)
+  length-block = length-append l (m ++ r) ∙ ap (λ n. length l + n) (length-append m r)
 
-  pub insert-right : (n : ℕ) (t : X) → length l < n → insert (l ++ x ∷ r) n t ≡ l ++ x ∷ insert r (n - length l - 1) t
-  insert-right n t lt =
-      insert-append_right l (x ∷ r) (length l) n t refl (omega arith) ∙ ap (λ m. l ++ insert (x ∷ r) m t) (let e : n - length l ≡ suc (n - length l - 1) = omega arith in e)
+  pub insert-left : (n : ℕ) (t : X) → n ≤ length l → insert (l ++ (m ++ r)) n t ≡ insert l n t ++ (m ++ r)
+  insert-left n t le = insert-append_left l (m ++ r) n t le
 
-  pub remove-left : (n : ℕ) → n < length l → remove (l ++ x ∷ r) n ≡ remove l n ++ x ∷ r
-  remove-left n lt = remove-append_left l (x ∷ r) n lt
+  pub insert-own : (n : ℕ) (t : X) → length l ≤ n → n ≤ length l + length m → insert (l ++ (m ++ r)) n t ≡ l ++ (insert m (n - length l) t ++ r)
+  insert-own n t le within = insert-append_right l (m ++ r) (length l) n t refl le ∙ ap (λ xs. l ++ xs) (insert-append_left m r (n - length l) t (omega (arith, le, within)))
 
-  pub remove-own : (n : ℕ) → n ≡ length l → remove (l ++ x ∷ r) n ≡ l ++ r
-  remove-own n at =
-      remove-append_right l (x ∷ r) (length l) n refl (omega arith) ∙ ap (λ m. l ++ remove (x ∷ r) m) (let e : n - length l ≡ 0 = omega arith in e)
+  pub insert-right : (n : ℕ) (t : X) → length l + length m ≤ n → insert (l ++ (m ++ r)) n t ≡ l ++ (m ++ insert r (n - (length l + length m)) t)
+  insert-right n t le =
+      insert-append_right l (m ++ r) (length l) n t refl (omega (arith, le))
+      ∙ ap (λ xs. l ++ xs) (insert-append_right m r (length m) (n - length l) t refl (omega (arith, le)) ∙ ap (λ k. m ++ insert r k t) (let e : n - length l - length m ≡ n - (length l + length m) = omega arith in e))
 
-  pub remove-right : (n : ℕ) → length l < n → remove (l ++ x ∷ r) n ≡ l ++ x ∷ remove r (n - length l - 1)
-  remove-right n lt =
-      remove-append_right l (x ∷ r) (length l) n refl (omega arith) ∙ ap (λ m. l ++ remove (x ∷ r) m) (let e : n - length l ≡ suc (n - length l - 1) = omega arith in e)
+  pub remove-left : (n : ℕ) → n < length l → remove (l ++ (m ++ r)) n ≡ remove l n ++ (m ++ r)
+  remove-left n lt = remove-append_left l (m ++ r) n lt
 
-module _ {X : Type 0} where
-  pub slice_get-left : (l : List X) (x : X) (r : List X) (n : ℕ) → n < length l → slice_get (l ++ x ∷ r) n ≡ slice_get l n
-  slice_get-left [] x r n lt = absurd (omega arith)
-  slice_get-left (y ∷ l) x r zero lt = refl
-  slice_get-left (y ∷ l) x r (suc n) lt = slice_get-left l x r n (omega arith)
+  pub remove-own : (n : ℕ) → length l ≤ n → n < length l + length m → remove (l ++ (m ++ r)) n ≡ l ++ (remove m (n - length l) ++ r)
+  remove-own n le within = remove-append_right l (m ++ r) (length l) n refl le ∙ ap (λ xs. l ++ xs) (remove-append_left m r (n - length l) (omega (arith, le, within)))
 
-  pub slice_get-own : (l : List X) (x : X) (r : List X) → slice_get (l ++ x ∷ r) (length l) ≡ Some x
-  slice_get-own [] x r = refl
-  slice_get-own (y ∷ l) x r = slice_get-own l x r
+  pub remove-right : (n : ℕ) → length l + length m ≤ n → remove (l ++ (m ++ r)) n ≡ l ++ (m ++ remove r (n - (length l + length m)))
+  remove-right n le =
+      remove-append_right l (m ++ r) (length l) n refl (omega (arith, le))
+      ∙ ap (λ xs. l ++ xs) (remove-append_right m r (length m) (n - length l) refl (omega (arith, le)) ∙ ap (λ k. m ++ remove r k) (let e : n - length l - length m ≡ n - (length l + length m) = omega arith in e))
 
-  pub slice_get-right : (l : List X) (x : X) (r : List X) (n : ℕ) → slice_get (l ++ x ∷ r) (length l + 1 + n) ≡ slice_get r n
-  slice_get-right [] x r n = ap (slice_get (x ∷ r)) (let e : 0 + 1 + n ≡ suc n = omega arith in e)
-  slice_get-right (y ∷ l) x r n = ap (slice_get (y ∷ l ++ x ∷ r)) (let e : suc (length l) + 1 + n ≡ suc (length l + 1 + n) = omega arith in e) ∙ slice_get-right l x r n
+-- one of fewer tuples has fewer than the same bound
+pub length-removed : {X : Type 0} (xs : List X) (n : ℕ) → n < length xs → suc (length (remove xs n)) ≡ length xs
+length-removed (x ∷ xs) zero lt = refl
+length-removed (x ∷ xs) (suc n) lt = ap suc (length-removed xs n (omega (arith, lt)))
+length-removed [] n lt = absurd (omega (arith, lt))
 
 -- ---- order
 
@@ -85,6 +86,10 @@ right-after : (l : List (List ℕ)) (x : List ℕ) (r : List (List ℕ)) → IsO
 right-after [] x r ordered = first-before x r ordered
 right-after (y ∷ l) x r ordered = right-after l x r (rest-ordered y (l ++ x ∷ r) ordered)
 
+pub own-ordered : (l m : List (List ℕ)) → IsOrdered (l ++ m) → IsOrdered m
+own-ordered [] m ordered = ordered
+own-ordered (y ∷ l) m ordered = own-ordered l m (rest-ordered y (l ++ m) ordered)
+
 -- ---- counts
 
 -- a test that passes each tuple that comes before one which it passes
@@ -105,6 +110,55 @@ module _ (p : List ℕ → Bool) (closed : IsClosed p) (l : List (List ℕ)) (x 
       let right : filter p r ≡ [] = filter_none p r (All-weaker (λ z. tuple_cmp x z ≡ Less) (λ z. p z ≡ false) (λ z less. false_from_ne_true (p z) (λ passes. both_ways (p x) fails (closed x z less passes))) r (right-after l x r ordered)) in
       let whole : filter p (l ++ x ∷ r) ≡ filter p l = filter-append p l (x ∷ r) ∙ rw (fails, right) (append-nil (filter p l)) in
       sym (length-filter p (l ++ x ∷ r)) ∙ ap length whole ∙ length-filter p l
+
+module _ (p : List ℕ → Bool) (closed : IsClosed p) where
+  -- the tuples that pass are those of two parts that pass
+  pub count-parts : (l m : List (List ℕ)) → count_by p (l ++ m) ≡ count_by p l + count_by p m
+  count-parts l m =
+      sym (length-filter p (l ++ m)) ∙ ap length (filter-append p l m) ∙ length-append (filter p l) (filter p m) ∙ ap (λ n. n + length (filter p m)) (length-filter p l) ∙ ap (λ n. count_by p l + n) (length-filter p m)
+
+  -- where one of the second part passes, so do all of the first
+  pub count-some : (l m : List (List ℕ)) → IsOrdered (l ++ m) → 0 < count_by p m → count_by p (l ++ m) ≡ length l + count_by p m
+  count-some l [] ordered some = absurd (omega (arith, some))
+  count-some l (x ∷ m) ordered some = by (p x) refl
+    where
+      second : (l : List (List ℕ)) → IsOrdered (l ++ x ∷ m) → IsOrdered (x ∷ m)
+      second [] ordered = ordered
+      second (y ∷ l) ordered = second l (rest-ordered y (l ++ x ∷ m) ordered)
+
+      by : (b : Bool) → p x ≡ b → count_by p (l ++ x ∷ m) ≡ length l + count_by p (x ∷ m)
+      by true passes =
+          let whole = count-passes p closed l x m ordered passes in
+          let own = count-passes p closed [] x m (second l ordered) passes in
+          omega (arith, whole, own)
+      by false fails =
+          let none : count_by p (x ∷ m) ≡ 0 = count-fails p closed [] x m (second l ordered) fails in
+          absurd (omega (arith, none, some))
+
+-- how many pass in a fork, by the first of its own
+module _ (p : List ℕ → Bool) (closed : IsClosed p) (l m r : List (List ℕ)) (ordered : IsOrdered (l ++ (m ++ r))) (some : 0 < length m) where
+  pub first-fails : p (get_or m 0 []) ≡ false → count_by p (l ++ (m ++ r)) ≡ count_by p l
+  first-fails fails = by m ordered some fails
+    where
+      by : (m : List (List ℕ)) → IsOrdered (l ++ (m ++ r)) → 0 < length m → p (get_or m 0 []) ≡ false → count_by p (l ++ (m ++ r)) ≡ count_by p l
+      by [] ordered some fails = absurd (omega (arith, some))
+      by (x ∷ m) ordered some fails = count-fails p closed l x (m ++ r) ordered fails
+
+  first-passes : p (get_or m 0 []) ≡ true → count_by p (l ++ (m ++ r)) ≡ length l + count_by p (m ++ r)
+  first-passes passes = by m ordered some passes
+    where
+      by : (m : List (List ℕ)) → IsOrdered (l ++ (m ++ r)) → 0 < length m → p (get_or m 0 []) ≡ true → count_by p (l ++ (m ++ r)) ≡ length l + count_by p (m ++ r)
+      by [] ordered some passes = absurd (omega (arith, some))
+      by (x ∷ m) ordered some passes =
+          let whole = count-passes p closed l x (m ++ r) ordered passes in
+          let own = count-passes p closed [] x (m ++ r) (own-ordered l (x ∷ m ++ r) ordered) passes in
+          omega (arith, whole, own)
+
+  pub past-some : p (get_or m 0 []) ≡ true → 0 < count_by p r → count_by p (l ++ (m ++ r)) ≡ length l + length m + count_by p r
+  past-some passes after = let whole = first-passes passes in let own = count-some p closed m r (own-ordered l (m ++ r) ordered) after in omega (arith, whole, own)
+
+  pub past-none : p (get_or m 0 []) ≡ true → count_by p r ≡ 0 → count_by p (l ++ (m ++ r)) ≡ length l + count_by p m
+  past-none passes after = let whole = first-passes passes in let own = count-parts p closed m r in omega (arith, whole, own, after)
 
 -- coming before a prefix, or before the end of those that begin with it, is such a test
 pub is_within-closed : (through : Bool) (prefix : List ℕ) → IsClosed (is_within through prefix)

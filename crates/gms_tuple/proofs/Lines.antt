@@ -53,6 +53,11 @@ module _ (p : List ℕ → Bool) (closed : IsClosed p) where
       let rest = count-partitioned xs i (rest-ordered x xs ordered) (omega (arith, within)) (λ k d less. passes (suc k) d (omega (arith, less))) (λ k d from less. fails (suc k) d (omega (arith, from)) (omega (arith, less))) in
       omega (arith, own, rest)
 
+-- the place where a list in order parts counts those before it
+pub counted-point : (through : Bool) (prefix : List ℕ) (xs : List (List ℕ)) (i : ℕ) → IsOrdered xs → IsPartitionPoint (λ y. is_within through prefix y ≡ true) (λ y. is_within through prefix y ≡ false) xs i → i ≤ length xs → count_by (is_within through prefix) xs ≡ i
+counted-point through prefix xs i ordered point most =
+    count-partitioned (is_within through prefix) (is_within-closed through prefix) xs i ordered most (λ k d below. point.0 k d (omega arith) below) (λ k d from below. point.1 k d from below)
+
 -- ---- a list in two parts
 
 pub first-ordered : (l m : List (List ℕ)) → IsOrdered (l ++ m) → IsOrdered l

@@ -4,7 +4,7 @@ ghost use Rattle.std.specs.List.{insert, remove};
 ghost use Rattle.gms_tuple.specs.TupleOrder.{IsOrdered};
 ghost use Rattle.gms_tuple.specs.TupleSet.{is_within};
 
-use crate::tree::{Fork, Tree};
+use crate::tree::{Tree, push_copies};
 use crate::tuple::Tuple;
 use std::alloc::{AllocError, Global};
 use std::marker::Model;
@@ -94,10 +94,7 @@ impl Line {
         if self.behind.len() < MOST_BEHIND {
             return Ok(());
         }
-        let settled = Tree::copied(alloc, &self.behind)?;
-        self.tree.append(settled);
-        self.behind.clear();
-        Ok(())
+        self.tree.take_in(alloc, &mut self.behind)
     }
 
     /// Puts a tuple at a place. After want of memory all is as it was.
@@ -110,8 +107,7 @@ impl Line {
         self.settle(alloc)?;
         let before = self.tree.len();
         if place < before {
-            let fork = Fork::single(alloc, tuple)?;
-            self.tree.insert(place, fork);
+            self.tree.insert(alloc, place, tuple)?;
         } else {
             self.behind.insert(place - before, tuple)?;
         }
@@ -159,14 +155,4 @@ impl Line {
             behind: Vec::new(alloc),
         })
     }
-}
-
-/// Puts equal tuples at the end of a list.
-fn push_copies(alloc: Global, tuples: &[Tuple], list: &mut Vec<Tuple>) -> Result<(), AllocError>
-    ensures { OnOk result (list.new.items ≡ list.old.items ++ tuples.now) }
-{
-    for tuple in tuples {
-        list.push(tuple.copy(alloc)?)?;
-    }
-    Ok(())
 }

@@ -1,14 +1,19 @@
-//! Tuples in a list, kept in a balanced tree.
-ghost use Rattle.std.specs.Prelude.{◌≡◌, ◌<◌, ◌≤◌, ◌+◌, ◌^◌, ◌++◌, ◌∷◌, [], length, count_by, slice_get, Some, IfOk, IfSome, IfNone, OnOk};
+//! Tuples in a list, kept in a balanced tree of blocks.
+ghost use Rattle.std.specs.Prelude.{◌≡◌, ◌<◌, ◌≤◌, ◌+◌, ◌^◌, ◌++◌, ◌∷◌, [], length, count_by, get_or, slice_get, Some, true, IfOk, IfSome, IfNone, OnOk, OnErr};
+ghost use Rattle.std.specs.declared.cmp.Ordering.TheVariants.{Less, Equal, Greater};
 ghost use Rattle.std.specs.List.{insert, remove};
 ghost use Rattle.gms_tuple.specs.TupleOrder.{IsOrdered};
 ghost use Rattle.gms_tuple.specs.TupleSet.{is_within};
-ghost use Rattle.gms_tuple.specs.Trees.{tuples, listed, IsCounted, IsSingle};
+ghost use Rattle.gms_tuple.specs.Trees.{tuples, listed, IsFork, IsCounted, IsSingle};
 
 use crate::tuple::Tuple;
 use std::alloc::{AllocError, Global};
+use std::cmp::Ordering;
 use std::marker::Model;
 use std::mem;
+
+/// How many tuples a fork has in its block at most. It shares a longer block between two forks.
+const MOST_OWN: usize = 64;
 
 /// Tuples in a list. A tuple is reached, put in and taken out by its place, in as many steps as the tree is deep. No side of
 /// a fork is more than about three times as long as the other, so the depth grows as the logarithm of their number.
@@ -25,12 +30,12 @@ enum Node {
     Fork(Box<Fork>),
 }
 
-/// A tuple with those before it and those after it, and how many they are together.
+/// A block of tuples with those before it and those after it, and how many they are together.
 #[cycle(tree)]
 #[derive(Drop)]
 pub struct Fork {
     left: Tree,
-    tuple: Tuple,
+    own: Vec<Tuple>,
     right: Tree,
     size: usize,
 }
@@ -63,7 +68,7 @@ impl Tree {
 
     /// The tuples of a fork.
     fn of(fork: Box<Fork>) -> Tree
-        requires { fork.value.size ≡ length (listed fork.value) }
+        requires { IsFork fork.value }
         ensures { result ≡ listed fork.value }
     {
         Tree {
@@ -107,11 +112,13 @@ impl Tree {
         };
         let before = fork.left.len();
         if place < before {
-            fork.left.get(place)
-        } else if place == before {
-            &fork.tuple
+            return fork.left.get(place);
+        }
+        let rest = place - before;
+        if rest < fork.own.len() {
+            &fork.own[rest]
         } else {
-            fork.right.get(place - before - 1)
+            fork.right.get(rest - fork.own.len())
         }
     }
 
@@ -123,56 +130,96 @@ impl Tree {
         let Node::Fork(fork) = &self.node else {
             return 0;
         };
-        if fork.tuple.is_within(t, through) {
-            fork.size - fork.right.len() + fork.right.count(t, through)
-        } else {
-            fork.left.count(t, through)
+        if !fork.own[0].is_within(t, through) {
+            return fork.left.count(t, through);
         }
+        let after = fork.right.count(t, through);
+        fork.count_past(t, through, after)
     }
 
-    /// Puts the tuple of a fork that has no others at a place.
-    pub fn insert(&mut self, place: usize, new: Box<Fork>)
+    /// Puts a tuple at a place. Out of memory leaves all as it was.
+    pub fn insert(&mut self, alloc: Global, place: usize, tuple: Tuple) -> Result<(), AllocError>
         requires place { place ≤ length self.old }
         requires room { length self.old + 1 < 2 ^ 64 }
-        requires single { IsSingle new.value }
-        ensures { self.new ≡ insert self.old place new.value.tuple }
+        ensures ok { OnOk result (self.new ≡ insert self.old place tuple) }
+        ensures err { OnErr result (self.new ≡ self.old) }
     {
         let Node::Fork(mut fork) = self.take().into_node() else {
-            *self = Tree::of(new);
-            return;
+            *self = Tree::single(alloc, tuple)?;
+            return Ok(());
         };
-        let before = fork.left.len();
-        if place <= before {
-            fork.left.insert(place, new);
-        } else {
-            fork.right.insert(place - before - 1, new);
-        }
-        fork.size += 1;
-        fork.balance();
-        *self = Tree::of(fork);
+        let put = match fork.side(place) {
+            Ordering::Less => fork.left.insert(alloc, place, tuple),
+            Ordering::Equal => {
+                let before = fork.left.len();
+                fork.insert_own(alloc, place - before, tuple)
+            }
+            Ordering::Greater => {
+                let upto = fork.left.len() + fork.own.len();
+                fork.right.insert(alloc, place - upto, tuple)
+            }
+        };
+        *self = Tree::made(fork);
+        put
     }
 
     /// Takes the tuple at a place out.
     pub fn remove(&mut self, place: usize)
-        requires { place < length self.old }
+        requires place { place < length self.old }
+        requires room { length self.old < 2 ^ 64 }
         ensures { self.new ≡ remove self.old place }
     {
         let Node::Fork(mut fork) = self.take().into_node() else {
             unreachable!()
         };
         let before = fork.left.len();
-        if place == before {
-            *self = Tree::joined(fork.left.take(), fork.right.take(), fork.size - 1);
-            return;
-        }
+        let upto = before + fork.own.len();
         if place < before {
             fork.left.remove(place);
+        } else if place < upto {
+            let _taken = fork.own.remove(place - before);
         } else {
-            fork.right.remove(place - before - 1);
+            fork.right.remove(place - upto);
         }
-        fork.size -= 1;
+        *self = Tree::made(fork);
+    }
+
+    /// One tuple.
+    fn single(alloc: Global, tuple: Tuple) -> Result<Tree, AllocError>
+        ensures { IfOk result (λ tree. tree ≡ tuple ∷ []) }
+    {
+        let mut own = Vec::new(alloc);
+        own.push(tuple)?;
+        let fork = Fork::single(alloc, own)?;
+        Ok(Tree::of(fork))
+    }
+
+    /// The tuples of a fork, whose number it may have to count.
+    fn made(mut fork: Box<Fork>) -> Tree
+        requires { length (listed fork.value) < 2 ^ 64 }
+        ensures { result ≡ listed fork.value }
+    {
+        let size = fork.left.len() + fork.own.len() + fork.right.len();
+        if fork.own.is_empty() {
+            return Tree::joined(fork.left.take(), fork.right.take(), size);
+        }
+        fork.size = size;
         fork.balance();
-        *self = Tree::of(fork);
+        Tree::of(fork)
+    }
+
+    /// Puts the tuples of a fork that has no others in front of all others.
+    fn prepend(&mut self, new: Box<Fork>)
+        requires room { length new.value.own.items + length self.old < 2 ^ 64 }
+        requires single { IsSingle new.value }
+        ensures { self.new ≡ new.value.own.items ++ self.old }
+    {
+        let Node::Fork(mut fork) = self.take().into_node() else {
+            *self = Tree::made(new);
+            return;
+        };
+        fork.left.prepend(new);
+        *self = Tree::made(fork);
     }
 
     /// The tuples of two trees, one after another, which are so many.
@@ -190,9 +237,10 @@ impl Tree {
         Tree::of(fork)
     }
 
-    /// Takes the first tuple out, in a fork in which it is the only one that counts.
+    /// Takes the first block out, in a fork in which only it counts.
     fn take_first(&mut self) -> Option<Box<Fork>>
-        ensures first { IfSome result (λ fork. self.old ≡ fork.value.tuple ∷ self.new) }
+        ensures first { IfSome result (λ fork. self.old ≡ fork.value.own.items ++ self.new) }
+        ensures some { IfSome result (λ fork. 0 < length fork.value.own.items) }
         ensures none { IfNone result (self.old ≡ []) }
     {
         let Node::Fork(mut fork) = self.take().into_node() else {
@@ -202,7 +250,7 @@ impl Tree {
             *self = fork.right.take();
             return Some(fork);
         };
-        fork.size -= 1;
+        fork.size -= first.own.len();
         fork.balance();
         *self = Tree::of(fork);
         Some(first)
@@ -215,9 +263,11 @@ impl Tree {
         let Node::Fork(fork) = &self.node else {
             return Ok(Tree::new());
         };
+        let mut own = Vec::with_capacity(alloc, fork.own.len())?;
+        push_copies(alloc, &fork.own, &mut own)?;
         let copy = Fork {
             left: fork.left.copy(alloc)?,
-            tuple: fork.tuple.copy(alloc)?,
+            own,
             right: fork.right.copy(alloc)?,
             size: fork.size,
         };
@@ -232,7 +282,7 @@ impl Tree {
             return Ok(());
         };
         fork.left.push_all(alloc, list)?;
-        list.push(fork.tuple.copy(alloc)?)?;
+        push_copies(alloc, &fork.own, list)?;
         fork.right.push_all(alloc, list)
     }
 
@@ -244,37 +294,31 @@ impl Tree {
         if size == 0 {
             return Ok(Tree::new());
         }
-        let before = size / 2;
-        let right = Tree::build(alloc, tuples, size - before - 1)?;
-        let Some(tuple) = tuples.pop() else {
-            unreachable!()
-        };
+        let most = size.min(MOST_OWN);
+        let before = (size - most) / 2;
+        let right = Tree::build(alloc, tuples, size - most - before)?;
+        let own = tuples.split_off(tuples.len() - most)?;
         let left = Tree::build(alloc, tuples, before)?;
         let fork = Fork {
             left,
-            tuple,
+            own,
             right,
             size,
         };
         Ok(Tree::of(Box::new(alloc, fork)?))
     }
 
-    /// Equal tuples in a tree.
-    pub fn copied(alloc: Global, tuples: &[Tuple]) -> Result<Tree, AllocError>
-        ensures { IfOk result (λ tree. tree ≡ tuples.now) }
+    /// Puts the tuples of a list, which gives them up, behind all others. Out of memory leaves all as it was.
+    pub fn take_in(&mut self, alloc: Global, behind: &mut Vec<Tuple>) -> Result<(), AllocError>
+        requires { length self.old + length behind.old.items < 2 ^ 64 }
+        ensures ok { OnOk result ((self.new ≡ self.old ++ behind.old.items) × (behind.new.items ≡ [])) }
+        ensures err { OnErr result ((self.new ≡ self.old) × (behind.new.items ≡ behind.old.items)) }
     {
-        let size = tuples.len();
-        if size == 0 {
-            return Ok(Tree::new());
-        }
-        let before = size / 2;
-        let fork = Fork {
-            left: Tree::copied(alloc, &tuples[..before])?,
-            tuple: tuples[before].copy(alloc)?,
-            right: Tree::copied(alloc, &tuples[before + 1..])?,
-            size,
-        };
-        Ok(Tree::of(Box::new(alloc, fork)?))
+        let mut fork = Fork::single(alloc, Vec::new(alloc))?;
+        fork.size = behind.len();
+        mem::swap(&mut fork.own, behind);
+        self.append(Tree::made(fork));
+        Ok(())
     }
 
     /// Puts the tuples of another tree behind all others.
@@ -315,31 +359,97 @@ impl Tree {
 }
 
 impl Fork {
-    /// A fork of one tuple.
-    pub fn single(alloc: Global, tuple: Tuple) -> Result<Box<Fork>, AllocError>
-        ensures { IfOk result (λ fork. IsSingle fork.value × (fork.value.tuple ≡ tuple)) }
+    /// A fork of one block.
+    fn single(alloc: Global, own: Vec<Tuple>) -> Result<Box<Fork>, AllocError>
+        ensures { IfOk result (λ fork. IsSingle fork.value × (fork.value.own.items ≡ own.items)) }
     {
+        let size = own.len();
         let fork = Fork {
             left: Tree::new(),
-            tuple,
+            own,
             right: Tree::new(),
-            size: 1,
+            size,
         };
         Ok(Box::new(alloc, fork)?)
     }
 
-    /// Turns the longer side up where it is more than about three times as long as the other.
+    /// How many tuples come within a prefix, where the fork's own first does, and so many do on the right.
+    fn count_past(&self, t: &Tuple, through: bool, after: usize) -> usize
+        requires fork { IsFork self.now }
+        requires ordered { IsOrdered (listed self.now) }
+        requires first { is_within through t.now (get_or self.now.own.items 0 []) ≡ true }
+        requires after { after ≡ count_by (is_within through t.now) self.now.right }
+        ensures { result ≡ count_by (is_within through t.now) (listed self.now) }
+    {
+        let upto = self.size - self.right.len();
+        if after > 0 {
+            return upto + after;
+        }
+        upto - self.own.len() + count_in(&self.own, t, through)
+    }
+
+    /// Where a tuple is put that comes to a place: on the left, among the fork's own, or on the right.
+    fn side(&self, place: usize) -> Ordering
+        requires { length (listed self.now) < 2 ^ 64 }
+        ensures left { result ≡ Less → place ≤ length self.now.left }
+        ensures own { result ≡ Equal → (length self.now.left ≤ place) × (place ≤ length self.now.left + length self.now.own.items) }
+        ensures right { result ≡ Greater → length self.now.left + length self.now.own.items ≤ place }
+    {
+        let before = self.left.len();
+        let upto = before + self.own.len();
+        let is_full = self.own.len() >= MOST_OWN;
+        if place < before || is_full && place == before {
+            Ordering::Less
+        } else if upto < place || is_full && place == upto {
+            Ordering::Greater
+        } else {
+            Ordering::Equal
+        }
+    }
+
+    /// Puts a tuple among the fork's own, at a place counted from the first of them.
+    fn insert_own(&mut self, alloc: Global, at: usize, tuple: Tuple) -> Result<(), AllocError>
+        requires at { at ≤ length self.old.own.items }
+        requires room { length (listed self.old) + 1 < 2 ^ 64 }
+        ensures ok { OnOk result (listed self.new ≡ self.old.left ++ (insert self.old.own.items at tuple ++ self.old.right)) }
+        ensures err { OnErr result (listed self.new ≡ listed self.old) }
+    {
+        if self.own.len() >= MOST_OWN {
+            return self.halve(alloc, at, tuple);
+        }
+        self.own.insert(at, tuple)?;
+        Ok(())
+    }
+
+    /// Puts a tuple among the fork's own, the second half of which become a fork on the right.
+    fn halve(&mut self, alloc: Global, at: usize, tuple: Tuple) -> Result<(), AllocError>
+        requires at { at ≤ length self.old.own.items }
+        requires room { length (listed self.old) + 1 < 2 ^ 64 }
+        ensures ok { OnOk result (listed self.new ≡ self.old.left ++ (insert self.old.own.items at tuple ++ self.old.right)) }
+        ensures err { OnErr result (listed self.new ≡ listed self.old) }
+    {
+        let mut fork = Fork::single(alloc, Vec::new(alloc))?;
+        let half = self.own.len() / 2;
+        let mut rest = self.own.split_off(half)?;
+        let put = insert_in(&mut self.own, &mut rest, at, tuple);
+        fork.size = rest.len();
+        fork.own = rest;
+        self.right.prepend(fork);
+        put
+    }
+
+    /// Turns the longer side up where it is more than about three times as long as the other and some blocks.
     fn balance(&mut self)
-        requires { self.old.size ≡ length (listed self.old) }
+        requires { IsFork self.old }
         ensures tuples { listed self.new ≡ listed self.old }
-        ensures counted { self.new.size ≡ length (listed self.new) }
+        ensures counted { IsFork self.new }
     {
         let left = self.left.len();
         let right = self.right.len();
-        if right / 3 > left {
+        if (right / 3).saturating_sub(MOST_OWN) > left {
             self.right.lean(false);
             self.turn_left();
-        } else if left / 3 > right {
+        } else if (left / 3).saturating_sub(MOST_OWN) > right {
             self.left.lean(true);
             self.turn_right();
         }
@@ -347,35 +457,35 @@ impl Fork {
 
     /// Turns `(a, x, (b, y, c))` into `((a, x, b), y, c)`.
     fn turn_left(&mut self)
-        requires { self.old.size ≡ length (listed self.old) }
+        requires { IsFork self.old }
         ensures tuples { listed self.new ≡ listed self.old }
-        ensures size { self.new.size ≡ self.old.size }
+        ensures counted { IsFork self.new }
     {
         let Node::Fork(mut other) = self.right.take().into_node() else {
             return;
         };
-        mem::swap(&mut self.tuple, &mut other.tuple);
+        mem::swap(&mut self.own, &mut other.own);
         self.right = other.right.take();
         other.right = other.left.take();
         other.left = self.left.take();
-        other.size = other.left.len() + 1 + other.right.len();
+        other.size = other.left.len() + other.own.len() + other.right.len();
         self.left = Tree::of(other);
     }
 
     /// Turns `((a, x, b), y, c)` into `(a, x, (b, y, c))`.
     fn turn_right(&mut self)
-        requires { self.old.size ≡ length (listed self.old) }
+        requires { IsFork self.old }
         ensures tuples { listed self.new ≡ listed self.old }
-        ensures size { self.new.size ≡ self.old.size }
+        ensures counted { IsFork self.new }
     {
         let Node::Fork(mut other) = self.left.take().into_node() else {
             return;
         };
-        mem::swap(&mut self.tuple, &mut other.tuple);
+        mem::swap(&mut self.own, &mut other.own);
         self.left = other.left.take();
         other.left = other.right.take();
         other.right = self.right.take();
-        other.size = other.left.len() + 1 + other.right.len();
+        other.size = other.left.len() + other.own.len() + other.right.len();
         self.right = Tree::of(other);
     }
 }
@@ -383,4 +493,43 @@ impl Fork {
 /// Whether a side is more than twice as long as the other.
 fn is_longer(side: usize, other: usize) -> bool {
     side > other.saturating_mul(2)
+}
+
+/// Puts a tuple at a place of two lists, one after the other. Out of memory leaves both as they were.
+fn insert_in(
+    first: &mut Vec<Tuple>,
+    second: &mut Vec<Tuple>,
+    at: usize,
+    tuple: Tuple,
+) -> Result<(), AllocError>
+    requires { at ≤ length first.old.items + length second.old.items }
+    ensures ok { OnOk result (first.new.items ++ second.new.items ≡ insert (first.old.items ++ second.old.items) at tuple) }
+    ensures err { OnErr result ((first.new.items ≡ first.old.items) × (second.new.items ≡ second.old.items)) }
+    ensures most { length second.new.items ≤ length second.old.items + 1 }
+{
+    let before = first.len();
+    if at <= before {
+        first.insert(at, tuple)?;
+    } else {
+        second.insert(at - before, tuple)?;
+    }
+    Ok(())
+}
+
+/// How many tuples of a list in order come before one, or where `through` is so begin with it.
+fn count_in(tuples: &[Tuple], t: &Tuple, through: bool) -> usize
+    requires { IsOrdered tuples.now }
+    ensures { result ≡ count_by (is_within through t.now) tuples.now }
+{
+    tuples.partition_point(|other| other.is_within(t, through))
+}
+
+/// Puts equal tuples at the end of a list.
+pub fn push_copies(alloc: Global, tuples: &[Tuple], list: &mut Vec<Tuple>) -> Result<(), AllocError>
+    ensures { OnOk result (list.new.items ≡ list.old.items ++ tuples.now) }
+{
+    for tuple in tuples {
+        list.push(tuple.copy(alloc)?)?;
+    }
+    Ok(())
 }

@@ -11,7 +11,10 @@ use std::marker::Model;
 /// How many labels a tuple has at most.
 pub const MOST_LABELS: usize = 10;
 
-/// A tuple of labels, each by its number: at most 10, of which up to four need no memory.
+/// How many labels a tuple holds in itself.
+const MOST_INSIDE: usize = 4;
+
+/// A tuple of labels, each by its number: at most 10. It takes 32 bytes, and more than four labels take up to 40 more.
 ///
 /// Tuples are ordered label by label, and a proper prefix comes before the longer tuple. In
 /// `parameter c(i,j) /seattle.chicago 1.7/` the element is a tuple of two labels.
@@ -52,6 +55,9 @@ impl Tuple {
         ensures ok { OnOk result (self.new ≡ self.old ++ label ∷ []) }
         ensures err { OnErr result (self.new ≡ self.old) }
     {
+        if self.labels.len() == MOST_INSIDE {
+            self.labels.reserve_exact(MOST_LABELS - MOST_INSIDE)?;
+        }
         self.labels.push(label)?;
         Ok(())
     }
@@ -76,7 +82,7 @@ impl Tuple {
     pub fn order(&self, o: &Tuple) -> Ordering
         ensures { result ≡ tuple_cmp self.now o.now }
     {
-        self.labels.as_slice().cmp(o.labels.as_slice())
+        compared(self.labels.as_slice(), o.labels.as_slice())
     }
 
     /// Whether the tuple begins with all labels of `prefix`.
@@ -90,7 +96,45 @@ impl Tuple {
     pub(crate) fn is_within(&self, prefix: &Tuple, through: bool) -> bool
         ensures { result ≡ is_within through prefix.now self.now }
     {
-        self.order(prefix) == Ordering::Less || through && self.begins_with(prefix)
+        comes_within(self.labels.as_slice(), prefix.labels.as_slice(), through)
+    }
+}
+
+/// How two lists of labels compare: label by label, a proper prefix first.
+fn compared(labels: &[u32], others: &[u32]) -> Ordering
+    ensures { result ≡ tuple_cmp labels.now others.now }
+{
+    let Some((label, rest)) = labels.split_first() else {
+        return if others.is_empty() {
+            Ordering::Equal
+        } else {
+            Ordering::Less
+        };
+    };
+    let Some((other, others)) = others.split_first() else {
+        return Ordering::Greater;
+    };
+    if label == other {
+        compared(rest, others)
+    } else {
+        label.cmp(other)
+    }
+}
+
+/// Whether a list of labels comes before a prefix, or where `through` is so begins with it.
+fn comes_within(labels: &[u32], prefix: &[u32], through: bool) -> bool
+    ensures { result ≡ is_within through prefix.now labels.now }
+{
+    let Some((first, prefix)) = prefix.split_first() else {
+        return through;
+    };
+    let Some((label, rest)) = labels.split_first() else {
+        return true;
+    };
+    if label == first {
+        comes_within(rest, prefix, through)
+    } else {
+        label < first
     }
 }
 

@@ -1,7 +1,16 @@
 use Rattle.std.proofs.Common.{◌≡◌, ap, sym, ◌∙◌, [], ◌∷◌, ◌++◌}
+use Rattle.std.proofs.lemmas.Option.{slice_get_within}
 use Rattle.gms_tuple.specs.TupleSet.{place_of}
-use Rattle.gms_eval.proofs.Places.{place-below, place-none}
+use Rattle.gms_eval.proofs.Places.{place-below, place-none, place-at}
 use Rattle.gms_eval.proofs.indices.place_in.Goals as goal
+
+pub returns-then-is_at-clause-value : goal.returns-then-is_at-clause-value
+returns-then-is_at-clause-value c =
+    sym (place-at c.args.members.now (c.args.label ∷ []) c.likely_place-likely.result c.len-count.ensures.ordered (c.is_at.ensures c.if-is_at.true))
+
+pub returns-then-is_at-clause-within : goal.returns-then-is_at-clause-within
+returns-then-is_at-clause-within c =
+    slice_get_within c.args.members.now c.likely_place-likely.result (c.args.label ∷ []) (c.is_at.ensures c.if-is_at.true)
 
 pub returns-in-Ok-clause-value : goal.returns-in-Ok-clause-value
 returns-in-Ok-clause-value c =

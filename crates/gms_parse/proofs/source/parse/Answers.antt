@@ -3,10 +3,6 @@ use Rattle.gms_expressions.proofs.Signs.{handed_on}
 use Rattle.gms_parse.proofs.Sources.{ready_of, refusal_of, program_of}
 use Rattle.gms_parse.proofs.source.parse.Goals as goal
 
-pub has_room_for_ranges-requires : goal.has_room_for_ranges-requires
-has_room_for_ranges-requires g c =
-    ready_of _ c.in_ok-tokens.tokens.items c.len.result c.index.result.now c.in_ok-tokens.ensures c.as_slice.ensures.value (c.len.ensures ∙ sym c.as_slice.ensures.len ∙ ap length c.as_slice.ensures.value) c.index.ensures refl (omega arith)
-
 pub program-requires-clause-ready : goal.program-requires-clause-ready
 program-requires-clause-ready g c =
     ready_of _ c.in_ok-tokens.tokens.items c.len.result c.index.result.now c.in_ok-tokens.ensures c.as_slice.ensures.value (c.len.ensures ∙ sym c.as_slice.ensures.len ∙ ap length c.as_slice.ensures.value) c.index.ensures refl (omega arith)

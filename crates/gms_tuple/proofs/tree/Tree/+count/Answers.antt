@@ -1,10 +1,11 @@
-use Rattle.std.proofs.Common.{◌≡◌, ◌∙◌, ◌+◌, ◌-◌, true, false, sym, ap, subst, length, arith}
+use Rattle.std.proofs.Common.{◌≡◌, ◌∙◌, ◌<◌, [], false, refl, sym, ap, subst, length, get_or, arith}
 use Rattle.std.specs.List.{count_by}
+use Rattle.std.proofs.lemmas.Option.{slice_get_read, get_or_from_slice_get}
 use Rattle.gms_tuple.specs.declared.tree.Fork.{Fork}
 use Rattle.gms_tuple.specs.TupleOrder.{IsOrdered}
 use Rattle.gms_tuple.specs.TupleSet.{is_within}
-use Rattle.gms_tuple.specs.Trees.{listed, tuples, IsCounted}
-use Rattle.gms_tuple.proofs.Forks.{length-fork, ordered-left, ordered-right, is_within-closed, count-passes, count-fails}
+use Rattle.gms_tuple.specs.Trees.{listed, tuples, IsFork, IsCounted}
+use Rattle.gms_tuple.proofs.Forks.{length-block, own-ordered, ordered-left, is_within-closed, first-fails}
 use Rattle.gms_tuple.proofs.tree.Tree.+count.Goals as goal
 
 pub count-requires : goal.count-requires
@@ -12,35 +13,26 @@ count-requires t c =
     let f = c.in-Fork.fork.value in
     let is : listed f ≡ c.args.self.now = sym (ap tuples c.in-Fork.is) ∙ c.self.view_is in
     let ordered : IsOrdered (listed f) = subst IsOrdered (sym is) c.requires in
-    (omega (arith, c.decreases, ap length is, length-fork f.left f.tuple f.right, ap (λ (g : Fork). length g.right) c.deref-then-is_within-3.ensures), subst (λ (g : Fork). IsOrdered g.right) (sym c.deref-then-is_within-3.ensures) (ordered-right f.left f.tuple f.right ordered))
+    let fork : IsFork f = subst IsCounted c.in-Fork.is c.self.invariant in
+    (omega (arith, c.decreases, ap length is, length-block f.left f.own.items f.right, fork.1, ap (λ (g : Fork). length g.left) c.deref-then-not-is_within.ensures), subst (λ (g : Fork). IsOrdered g.left) (sym c.deref-then-not-is_within.ensures) (ordered-left f.left _ ordered))
 
-pub count-requires-else-is_within : goal.count-requires-else-is_within
-count-requires-else-is_within t c =
-    let f = c.in-Fork.fork.value in
-    let is : listed f ≡ c.args.self.now = sym (ap tuples c.in-Fork.is) ∙ c.self.view_is in
-    let ordered : IsOrdered (listed f) = subst IsOrdered (sym is) c.requires in
-    (omega (arith, c.decreases, ap length is, length-fork f.left f.tuple f.right, ap (λ (g : Fork). length g.left) c.deref-else-is_within.ensures), subst (λ (g : Fork). IsOrdered g.left) (sym c.deref-else-is_within.ensures) (ordered-left f.left _ ordered))
-
-pub returns-then-is_within : goal.returns-then-is_within
-returns-then-is_within t c =
+pub returns-then-not-is_within : goal.returns-then-not-is_within
+returns-then-not-is_within t c =
     let f = c.in-Fork.fork.value in
     let p = is_within c.args.through c.args.t.now in
     let is : listed f ≡ c.args.self.now = sym (ap tuples c.in-Fork.is) ∙ c.self.view_is in
     let ordered : IsOrdered (listed f) = subst IsOrdered (sym is) c.requires in
-    let passes : p f.tuple ≡ true = sym (c.if-is_within.ensures ∙ ap (λ (g : Fork). p g.tuple) c.deref.ensures) in
-    let all = count-passes p (is_within-closed c.args.through c.args.t.now) f.left f.tuple f.right ordered passes in
-    let size : c.deref-then-is_within.result.now.size ≡ length (listed f) = ap (λ (g : Fork). g.size) c.deref-then-is_within.ensures ∙ subst IsCounted c.in-Fork.is c.self.invariant in
-    let right : c.len.result ≡ length f.right = c.len.ensures ∙ ap (λ (g : Fork). length g.right) c.deref-then-is_within-2.ensures in
-    let below : c.count.result ≡ count_by p f.right = c.count.ensures ∙ ap (λ (g : Fork). count_by p g.right) c.deref-then-is_within-3.ensures in
-    let counted : c.deref-then-is_within.result.now.size - c.len.result + c.count.result ≡ count_by p (listed f) = omega (arith, size, right, below, all, length-fork f.left f.tuple f.right) in
-    counted ∙ ap (count_by p) is
+    let fork : IsFork f = subst IsCounted c.in-Fork.is c.self.invariant in
+    let some : 0 < length c.deref.result.now.own.items = subst (λ (g : Fork). 0 < length g.own.items) (sym c.deref.ensures) fork.1 in
+    let first : get_or c.deref.result.now.own.items 0 [] ≡ c.index.result.now = get_or_from_slice_get c.deref.result.now.own.items 0 c.index.result.now [] (slice_get_read c.deref.result.now.own.items _ 0 c.index.result.now refl some c.index.ensures) in
+    let fails : p (get_or f.own.items 0 []) ≡ false = ap (λ (g : Fork). p (get_or g.own.items 0 [])) (sym c.deref.ensures) ∙ ap p first ∙ sym c.is_within.ensures ∙ c.if-not-is_within.true in
+    c.count.ensures ∙ ap (λ (g : Fork). count_by p g.left) c.deref-then-not-is_within.ensures
+    ∙ sym (first-fails p (is_within-closed c.args.through c.args.t.now) f.left f.own.items f.right ordered fork.1 fails) ∙ ap (count_by p) is
 
-pub returns-else-is_within : goal.returns-else-is_within
-returns-else-is_within t c =
+pub count-after-requires : goal.count-after-requires
+count-after-requires t c =
     let f = c.in-Fork.fork.value in
-    let p = is_within c.args.through c.args.t.now in
     let is : listed f ≡ c.args.self.now = sym (ap tuples c.in-Fork.is) ∙ c.self.view_is in
     let ordered : IsOrdered (listed f) = subst IsOrdered (sym is) c.requires in
-    let fails : p f.tuple ≡ false = sym (c.if-is_within.ensures ∙ ap (λ (g : Fork). p g.tuple) c.deref.ensures) in
-    c.count-else-is_within.ensures ∙ ap (λ (g : Fork). count_by p g.left) c.deref-else-is_within.ensures
-    ∙ sym (count-fails p (is_within-closed c.args.through c.args.t.now) f.left f.tuple f.right ordered fails) ∙ ap (count_by p) is
+    let fork : IsFork f = subst IsCounted c.in-Fork.is c.self.invariant in
+    (omega (arith, c.decreases, ap length is, length-block f.left f.own.items f.right, fork.1, ap (λ (g : Fork). length g.right) c.deref-2.ensures), subst (λ (g : Fork). IsOrdered g.right) (sym c.deref-2.ensures) (own-ordered f.own.items f.right (own-ordered f.left _ ordered)))
