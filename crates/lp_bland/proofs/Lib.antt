@@ -11,3 +11,4 @@ pub mod FittingTurn
 pub mod FittingBack
 pub mod Deciding
 pub mod Existing
+pub mod Narrowed

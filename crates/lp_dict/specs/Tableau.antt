@@ -1,7 +1,7 @@
 -- A dictionary as its callers see it, and the two ways in which it is kept (Chvatal, Linear Programming, chapter 2).
-use Rattle.std.specs.Prelude.{ℕ, ◌≤◌, List, length}
+use Rattle.std.specs.Prelude.{◌≢◌, ℕ, ◌≤◌, List, length}
 use Rattle.gq_number.specs.Number.{Number}
-use Rattle.lp_core.specs.Dictionary.{Dictionary}
+use Rattle.lp_core.specs.Dictionary.{Dictionary, OpeningIsDue}
 use Rattle.lp_exact.specs.Pivots.{IsProper}
 use Rattle.lp_exact.specs.Tableau as exact
 use Rattle.lp_whole.specs.Whole.{dictionary as dictionary_of}
@@ -40,8 +40,10 @@ abbrev pub IsBounded : {F : Type 0} → ℕ → Body F → Type 0
 IsBounded limit (body.Whole w upcoming) = w.bound ≤ limit
 IsBounded limit (body.Exact t) = Unit {0}
 
--- What each dictionary keeps: it is one of a program, and its whole numbers are numbers of the field.
+-- What each dictionary keeps: it is one of a program, its whole numbers are numbers of the field, and after a pivot the
+-- opening pivot is not due.
 pub record IsKept {F : Type 0} (value : F → Number) (limit : ℕ) (b : Body F) : Type 0 where
   pub proper : IsProper (kept value b)
   pub few : length (kept value b).basic ≤ (kept value b).variables
   pub bounded : IsBounded limit b
+  pub opened : upcoming_of b ≢ 1 → ¬ (OpeningIsDue (kept value b))

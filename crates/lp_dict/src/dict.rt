@@ -20,6 +20,7 @@ ghost use Rattle.lp_dict.specs.Tableau.{dictionary};
 
 use crate::body::Body;
 use crate::number::number_at;
+use crate::reading::opening_of;
 use crate::turning::{begun, pivoted};
 use crate::{last, reading};
 use gq_field::ExactField;
@@ -201,7 +202,7 @@ impl<F: ExactField> Dict<F> {
             (λ p. ((k : ℕ) × IsOpening (dictionary F.value self.now) p k) × ((i : ℕ) → IsLeast (dictionary F.value self.now) i → p.leave ≤ basic_at (dictionary F.value self.now) i)) }
     {
         match &self.body {
-            Body::Whole(rows, _) => rows.opening(),
+            Body::Whole(rows, upcoming) => opening_of(rows, *upcoming),
             Body::Exact(dict) => dict.opening(),
         }
     }

@@ -1,7 +1,7 @@
 //! What is read from rows of whole numbers, and from those of fractions.
-ghost use Rattle.std.specs.Prelude.{◌≡◌, ◌+◌, ◌≤◌, ◌<◌, ◌↔◌, ℕ, pos, length, slice_get, Some, Contains, IsTrue};
+ghost use Rattle.std.specs.Prelude.{◌≡◌, ◌≢◌, ◌+◌, ◌≤◌, ◌<◌, ◌↔◌, ℕ, pos, length, slice_get, Some, Contains, IsTrue, MatchOption};
 ghost use Rattle.gq_number.specs.Number.{whole};
-ghost use Rattle.lp_core.specs.Dictionary.{constant_at, entry_at, IsPriced};
+ghost use Rattle.lp_core.specs.Dictionary.{constant_at, entry_at, basic_at, IsPriced, OpeningIsDue, IsOpening, IsLeast};
 ghost use Rattle.lp_core.specs.Pivots.{priced_row};
 ghost use Rattle.lp_exact.specs.Rows.{IsRow, number_in};
 ghost use Rattle.lp_exact.specs.Tableau as exact;
@@ -10,9 +10,22 @@ ghost use Rattle.lp_whole.specs.Whole.{dictionary as dictionary_of};
 
 use crate::number::number_at;
 use gq_field::ExactField;
+use lp_core::Pivot;
 use lp_exact::{Entry, ExactDict};
 use lp_whole::Whole;
 use std::cmp::Ordering;
+
+/// The opening pivot of rows of whole numbers. It can be due at the first dictionary alone, before the pivot with the number 1.
+pub(crate) fn opening_of(rows: &Whole, upcoming: u64) -> Option<Pivot>
+    requires { upcoming ≢ 1 → ¬ (OpeningIsDue (dictionary_of rows.now)) }
+    ensures { MatchOption result (¬ (OpeningIsDue (dictionary_of rows.now)))
+        (λ p. ((k : ℕ) × IsOpening (dictionary_of rows.now) p k) × ((i : ℕ) → IsLeast (dictionary_of rows.now) i → p.leave ≤ basic_at (dictionary_of rows.now) i)) }
+{
+    if upcoming != 1 {
+        return None;
+    }
+    rows.opening()
+}
 
 /// The place of a variable among the basic ones.
 pub(crate) fn place_among(basic: &[u32], variable: u32) -> Option<usize>

@@ -11,6 +11,7 @@ mod wide;
 
 pub use common::gcd;
 pub use compare::compare_ratios;
+pub use narrow::zero_words;
 pub use numbers::Numbers;
 pub use products::{product_within, sum_within};
 pub use wide::{cross_difference, greatest};

@@ -1,9 +1,10 @@
 //! The loops over whole numbers of one word each.
-ghost use Rattle.std.specs.Prelude.{◌≡◌, ◌⊎◌, ℕ, ◌+◌, ◌*◌, ◌<◌, ◌≤◌, ◌^◌, ◌-◌, pos, ◌-ℤ◌, ◌*ℤ◌, neg_ℤ, nat_abs, length};
+ghost use Rattle.std.specs.Prelude.{◌≡◌, ◌⊎◌, ℕ, ◌+◌, ◌*◌, ◌<◌, ◌≤◌, ◌^◌, ◌-◌, pos, ◌-ℤ◌, ◌*ℤ◌, neg_ℤ, nat_abs, length, IfOk};
 ghost use Rattle.std.specs.Int.{◌∣◌};
 ghost use Rattle.lp_numbers.specs.Lines.{whole_at, AreWithin, AreDivided, HaveRoom, AreLessened, ArePlaces, AreLessenedFrom, AreOver, AreNegated};
 
 use crate::common::shared_by;
+use std::alloc::{AllocError, Global};
 
 /// The product of two whole numbers.
 #[inline(always)]
@@ -31,6 +32,35 @@ fn greater(most: u64, n: i64) -> u64
 {
     let magnitude = n.unsigned_abs();
     if magnitude > most { magnitude } else { most }
+}
+
+/// The capacity of a list of so many words: lists of one length then lie an odd number of a cache's lines apart, and the
+/// numbers at one place of many lists are spread over the cache.
+pub(crate) fn spread(len: usize) -> usize {
+    let lines = (len / 8).saturating_add(2) | 1;
+    lines.saturating_mul(8).saturating_sub(2)
+}
+
+/// Zeros of one word each. The error is out of memory.
+pub fn zero_words(alloc: Global, count: usize) -> Result<Vec<i64>, AllocError>
+    ensures sized { IfOk result (λ list. length list.items ≡ count) }
+    ensures zeros { IfOk result (λ list. (c : ℕ) → whole_at list.items c ≡ pos 0) }
+{
+    let mut list = Vec::with_capacity(alloc, spread(count))?;
+    list.resize(count, 0)?;
+    Ok(list)
+}
+
+/// The greatest magnitude of the numbers; 0 where there is none.
+pub(crate) fn greatest(numbers: &[i64]) -> u64
+    ensures within { AreWithin numbers.now result }
+    ensures small { (m : ℕ) → AreWithin numbers.now m → result ≤ m }
+{
+    let mut most = 0;
+    for n in numbers {
+        most = greater(most, *n);
+    }
+    most
 }
 
 /// Turns each number into `a` times it less `b` times the other list's; answers a magnitude that none of them passes.

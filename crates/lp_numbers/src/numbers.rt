@@ -67,6 +67,27 @@ impl Numbers {
         })
     }
 
+    /// These numbers, of one word each.
+    pub fn of_words(words: Vec<i64>) -> Numbers
+        requires { AreWithin words.items (2 ^ 63 - 1) }
+        ensures { result ≡ words.items }
+    {
+        Numbers {
+            kept: Kept::Narrow(words),
+        }
+    }
+
+    /// The greatest magnitude of the numbers; 0 where there is none.
+    pub fn greatest(&self) -> u128
+        ensures within { AreWithin self.now result }
+        ensures small { (m : ℕ) → AreWithin self.now m → result ≤ m }
+    {
+        match &self.kept {
+            Kept::Narrow(list) => narrow::greatest(list.as_slice()) as u128,
+            Kept::Wide(list) => wide::greatest(list.as_slice(), 0),
+        }
+    }
+
     /// How many there are.
     pub fn len(&self) -> usize
         ensures { result ≡ length self.now }

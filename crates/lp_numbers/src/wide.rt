@@ -3,6 +3,7 @@ ghost use Rattle.std.specs.Prelude.{◌≡◌, ◌⊎◌, ℕ, ◌+◌, ◌*◌,
 ghost use Rattle.std.specs.Int.{◌∣◌};
 ghost use Rattle.lp_numbers.specs.Lines.{whole_at, AreWithin, AreDivided, HaveRoom, AreLessened, AreOver, AreNegated};
 
+use crate::narrow::spread;
 use std::alloc::{AllocError, Global};
 
 /// The product of two whole numbers.
@@ -107,13 +108,6 @@ pub(crate) fn widened(alloc: Global, numbers: &[i64]) -> Result<Vec<i128>, Alloc
         list.push(*n as i128)?;
     }
     Ok(list)
-}
-
-/// How many numbers there is to be place for in a list of so many words, so that lists of one length lie an odd number of a cache's
-/// lines apart: then the numbers at one place of many lists are spread over the cache.
-fn spread(len: usize) -> usize {
-    let lines = (len / 8).saturating_add(2) | 1;
-    lines.saturating_mul(8).saturating_sub(2)
 }
 
 /// The same numbers in one word each.

@@ -7,4 +7,3 @@ pub mod Ending
 pub mod Answering
 pub mod Formless
 pub mod Unique
-pub mod Narrowed

@@ -3,11 +3,7 @@
 
 mod answer;
 mod choosing;
-mod narrow;
 mod walk;
-mod widen;
 
 pub use answer::solve_by;
 pub use choosing::Choosing;
-pub use narrow::narrow_lp;
-pub use widen::widen_answer;

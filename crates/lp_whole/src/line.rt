@@ -226,12 +226,13 @@ fn lessen(
 /// The magnitude past which a line is divided by what its parts have in common: half the bits of a word, and a little less.
 const DUE: u128 = 1 << 30;
 
-/// Divides a line by what its numbers and its denominator have in common, where it is due. The error is want of memory.
-fn reduce_past(alloc: Global, line: &mut Line) -> Result<(), AllocError>
+/// Divides a line by what its numbers and its denominator have in common, where it is due: where it was multiplied by a
+/// factor other than 1, which then divides many of its parts, and where its parts are great. The error is out of memory.
+fn reduce_due(alloc: Global, line: &mut Line, factor: i128) -> Result<(), AllocError>
     requires { IsLine line.old }
     ensures { IfOk result (λ _. IsSameLine line.old line.new) }
 {
-    if line.most <= DUE {
+    if factor == 1 && line.most <= DUE {
         return Ok(());
     }
     reduce(alloc, line)
@@ -257,7 +258,7 @@ pub(crate) fn apply(
         return Ok(());
     }
     lessen(alloc, line, factors, pivot, places)?;
-    reduce_past(alloc, line)
+    reduce_due(alloc, line, factors.line)
 }
 
 /// Divides a line by what its numbers and its denominator have in common. The error is want of memory.

@@ -1,4 +1,4 @@
-use Rattle.std.proofs.Common.{◌≡◌, ◌≤◌, length, sym, subst}
+use Rattle.std.proofs.Common.{◌≡◌, ◌≤◌, length, refl, sym, subst}
 use Rattle.std.specs.Prelude.{IfSome}
 use Rattle.lp_core.specs.Dictionary.{Dictionary}
 use Rattle.lp_exact.specs.Pivots.{IsProper}
@@ -13,4 +13,5 @@ returns-in-Some-clause-is_kept g c =
       proper = subst IsProper (sym same) c.keeps.ensures.proper;
       few = subst (λ (d : Dictionary). length d.basic ≤ d.variables) (sym same) c.keeps.ensures.few;
       bounded = subst (λ o. IfSome o (λ (w : WholeTableau). w.bound ≤ g.F.ExactField.limit)) c.in-Some.is c.in_ok-rows.ensures.bounded;
+      opened = λ later. absurd (later refl);
     }

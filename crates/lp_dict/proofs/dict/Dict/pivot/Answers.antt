@@ -21,6 +21,7 @@ invariant_of-result g c =
       proper = stays_proper (kept g.F.ExactField.value c.self.inside.body) c.args.p c.self.invariant.proper legal (kept g.F.ExactField.value c.in_ok-body.body) follows.is_exchanged;
       few = stays_few (kept g.F.ExactField.value c.self.inside.body) c.args.p c.self.invariant.proper legal (kept g.F.ExactField.value c.in_ok-body.body) follows.is_exchanged c.self.invariant.few;
       bounded = follows.bounded;
+      opened = λ _. is_not_due (kept g.F.ExactField.value c.self.inside.body) c.args.p c.self.invariant.proper legal (kept g.F.ExactField.value c.in_ok-body.body) follows.is_exchanged;
     }
 
 pub returns-clause-exchanged : goal.returns-clause-exchanged

@@ -1,7 +1,7 @@
 -- What the pieces of the way from 127 bits to 63 promise each other.
 use Rattle.std.specs.Prelude.{Result, Ok, Err}
-use Rattle.lp_walk.specs.declared.narrow.Wide.{Wide}
-use Rattle.lp_walk.specs.declared.narrow.Wide.TheVariants as wide
+use Rattle.lp_bland.specs.declared.narrow.Wide.{Wide}
+use Rattle.lp_bland.specs.declared.narrow.Wide.TheVariants as wide
 
 -- why something is not made narrow: its numbers are not within the limit; or memory was wanting
 abbrev pub IsWide : Type 0 → Wide → Type 0

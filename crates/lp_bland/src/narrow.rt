@@ -5,9 +5,10 @@ ghost use Rattle.gq_field.specs.Values.{half_value};
 ghost use Rattle.gq_frac.specs.Frac.{frac_value};
 ghost use Rattle.gq_field.specs.Fits.{fits};
 ghost use Rattle.lp_core.specs.Feasible.{bound_value};
-ghost use Rattle.lp_walk.specs.declared.narrow.Wide.TheVariants as kinds;
+ghost use Rattle.lp_bland.specs.declared.narrow.Wide.TheVariants as kinds;
+ghost use Rattle.lp_core.specs.WellFormed.{IsWellFormed};
 ghost use Rattle.lp_core.specs.Numbers.{entries_numbers, column_numbers, row_numbers, lp_numbers, ColumnIsWithin, RowIsWithin, IsWithin};
-ghost use Rattle.lp_walk.specs.Narrowing.{Narrows};
+ghost use Rattle.lp_bland.specs.Narrowing.{Narrows};
 
 use gq_field::Half;
 use gq_frac::{Frac, narrow};
@@ -138,11 +139,12 @@ fn narrowed(alloc: Global, lp: &Lp<Frac>) -> Result<Lp<Half>, Wide>
     })
 }
 
-/// The same program over numbers of 63 bits; `None` exactly where a part of one of its numbers is over 2^63 - 1 in magnitude.
-/// The error is want of memory.
+/// The same program over numbers of 63 bits, well formed where the program is; `None` exactly where a part of one of its numbers
+/// is over 2^63 - 1 in magnitude. The error is out of memory.
 pub fn narrow_lp(alloc: Global, lp: &Lp<Frac>) -> Result<Option<Lp<Half>>, AllocError>
     ensures same { IfOk result (λ found. IfSome found (λ narrow. lp_numbers half_value narrow ≡ lp_numbers frac_value lp.now)) }
     ensures within { IfOk result (λ found. IsSome found ↔ IsWithin (2 ^ 63 - 1) (lp_numbers frac_value lp.now)) }
+    ensures well_formed { IfOk result (λ found. IfSome found (λ narrow. IsWellFormed frac_value lp.now → IsWellFormed half_value narrow)) }
 {
     match narrowed(alloc, lp) {
         Ok(narrow) => Ok(Some(narrow)),
