@@ -207,20 +207,25 @@ module _ (names labels : List (List ℕ)) where
 abbrev pub end_text : ℕ → ℕ → List ℕ
 end_text status made = line_of (codes "END status " ++ decimal status ++ codes " solves " ++ decimal made)
 
--- the listing of a source whose run shows these events: the echo, what is shown, and the last line
-abbrev pub run_listing : List (List ℕ) → List (List ℕ) → ℕ → List ℕ → List (Answer Number) → List Event → ℕ → List ℕ
-run_listing names labels limit source answers events status =
-    echo_text 1 source ++ events_text names labels limit answers events ++ end_text status (length answers)
+-- the listing of a file whose run shows these events: the echo, what is shown, and the last line; the first line of the file
+-- has this number
+abbrev pub run_listing : List (List ℕ) → List (List ℕ) → ℕ → ℕ → List ℕ → List (Answer Number) → List Event → ℕ → List ℕ
+run_listing names labels limit line file answers events status =
+    echo_text line file ++ events_text names labels limit answers events ++ end_text status (length answers)
 
--- the echo of a source that is refused for an error: one that is too long has none
-abbrev pub refused_echo : SourceError → List ℕ → List ℕ
-refused_echo TooLong source = []
-refused_echo error source = echo_text 1 source
+-- whether a source that is refused for an error has an echo: one that is too long has none
+abbrev pub has_echo : SourceError → Bool
+has_echo TooLong = false
+has_echo error = true
 
--- the listing of a source that is no program: the echo, the fault, and the last line
-abbrev pub refused_listing : List ℕ → SourceFault → List ℕ
-refused_listing source fault = refused_echo fault.error source ++ source_error_text fault ++ end_text 2 0
+-- the echo of a file whose source is refused for an error
+abbrev pub refused_echo : SourceError → ℕ → List ℕ → List ℕ
+refused_echo error line file = if has_echo error then echo_text line file else []
 
--- the listing of a program that has errors: the echo, the errors, and the last line
-abbrev pub errors_listing : List ℕ → List CompileError → List ℕ
-errors_listing source errors = echo_text 1 source ++ compile_errors_text errors ++ end_text 2 0
+-- the listing of a file whose source is no program: the echo, the fault, and the last line
+abbrev pub refused_listing : ℕ → List ℕ → SourceFault → List ℕ
+refused_listing line file fault = refused_echo fault.error line file ++ source_error_text fault ++ end_text 2 0
+
+-- the listing of a file whose program has errors: the echo, the errors, and the last line
+abbrev pub errors_listing : ℕ → List ℕ → List CompileError → List ℕ
+errors_listing line file errors = echo_text line file ++ compile_errors_text errors ++ end_text 2 0

@@ -1,8 +1,8 @@
 -- A program that the host has is run, where no fault is met.
-use Rattle.std.proofs.Common.{◌≡◌, ℕ, ◌≤◌, true, List, length, Result, Err, Option, Some, None, IfSome, is_some, refl, sym, ap, ap₂, ◌∙◌, subst, ◌⊎◌, inl, inr, arith}
+use Rattle.std.proofs.Common.{◌≡◌, ℕ, ◌≤◌, true, List, length, Result, Ok, Err, Option, Some, None, IfSome, is_some, refl, sym, ap, ap₂, ◌∙◌, subst, ◌⊎◌, inl, inr, arith}
 use Rattle.std.specs.FinMap as files_map
 use Rattle.std.specs.Prelude.{◌↔◌}
-use Rattle.gms_host.specs.Meaning.{Meaning, Files, Outside}
+use Rattle.gms_host.specs.Meaning.{Meaning, Files, Outside, Rose}
 use Rattle.gq_frac.specs.Frac.{frac_value}
 use Rattle.gms_run.specs.declared.status.Status.{Status}
 use Rattle.gms_run.specs.declared.status.Status.TheVariants.{Done, Usage, Compile, Execution, ReadFault, WriteFault}
@@ -12,7 +12,7 @@ use Rattle.gms_save.specs.declared.fault.SaveFault.TheVariants.{SaveTooLong, Sav
 use Rattle.gms_save.specs.declared.fault.SaveFaultOrMemory.{SaveFaultOrMemory}
 use Rattle.gms_save.specs.declared.fault.SaveFaultOrMemory.TheVariants.{Fault}
 use Rattle.gms_save.specs.declared.saved.Saved.{Saved}
-use Rattle.gms_save.specs.Saves.{most_bytes as most_save_bytes, AnswersSave}
+use Rattle.gms_save.specs.Saves.{most_bytes as most_save_bytes, AnswersSave, GivesBack, IsRestored, with_solver}
 use Rattle.gms_save.proofs.SeenJoints.{same-joint-errors}
 use Rattle.gms_save.proofs.SeenPrograms.{same-errors}
 use Rattle.gq_frac.specs.declared.frac.Frac.{Frac}
@@ -20,9 +20,10 @@ use Rattle.gms_ast.specs.declared.program.Program.{Program}
 use Rattle.gms_store.specs.State.{State}
 use Rattle.gms_words.specs.CommandLine.{Asked, Origin, in_file, restarted, generated, request_of}
 use Rattle.gms_run.specs.Solving.{Solving, number_limit}
-use Rattle.gms_run.specs.Scripts.{Script, Matter, scripted, unrestored, Taken, from_start, from_save, IsMatter, IsUnrestored, errors_of}
-use Rattle.gms_run.specs.Listings.{ShowsWhy}
-use Rattle.gms_run.specs.Statuses.{CanRun, CountsSo, EndsByNoFault, Gives, HasFile, HasOrigin, IsFileOf, IsGood, IsGoodSave, IsReadyFor, IsRun, IsRunOf, IsTaken, MeetsNoFault, NamesProgram}
+use Rattle.gms_run.specs.Jobs.{Job}
+use Rattle.gms_run.specs.Scripts.{Script, joint_script, Matter, scripted, unrestored, Taken, from_start, from_save, IsMatter, IsUnrestored, errors_of}
+use Rattle.gms_run.specs.Listings.{IsExecuted, IsJob, ShowsWhy}
+use Rattle.gms_run.specs.Statuses.{CanRun, CountsSo, EndsByNoFault, Gives, HasFile, HasOrigin, IsFileOf, IsGood, IsGoodSave, IsReadyFor, IsRun, IsRunOf, IsTaken, MeetsNoFault, NamesProgram, NamesSource}
 use Rattle.gms_parse.specs.Outcomes.{program_view}
 use Rattle.gms_parse.proofs.OneReading.{one_program, program_or_fault}
 
@@ -31,8 +32,8 @@ pub one_value : {A : Type 0} {o : Option A} {x y : A} → o ≡ Some x → o ≡
 one_value p q = cc
 
 -- A reliable host is ready for words that name what can be run.
-ready_for : (solvers : List (List ℕ)) (old : Meaning) (words : List (List ℕ)) → NamesProgram solvers old.outside words → old.counts.reliable ≡ true → IsReadyFor old words
-ready_for solvers old words n reliable =
+ready_for : (old : Meaning) (words : List (List ℕ)) → NamesSource old.outside words → old.counts.reliable ≡ true → IsReadyFor old words
+ready_for old words n reliable =
     record { reliable = reliable; there = subst (λ (o : Option Asked). IfSome o (λ request. HasOrigin old.outside request.source)) (sym n.named) (found n.request.source n.taken n.found) }
   where
     has : (file bytes : List ℕ) → HasFile old.outside file bytes → IsThere old.outside file
@@ -63,6 +64,23 @@ the_taken old (generated size) (from_start told) (from_start source) f is = ap f
 the_taken old (generated size) (from_save a b) taken f is = absurd f
 the_taken old (generated size) (from_start told) (from_save a b) f is = absurd is
 
+-- what was taken is what the words name
+named_taken : (status : Status) (solving : Solving) (old new : Outside) (words : List (List ℕ)) (request : Asked) (run : IsRunOf status solving old new request) (n : NamesSource old words) → n.request ≡ request → run.taken ≡ n.taken
+named_taken status solving old new words request run n same =
+    the_taken old n.request.source n.taken run.taken n.found (subst (λ (r : Asked). IsTaken old r.source run.taken) (sym same) run.is_taken)
+
+-- words that name a source are not refused
+names_some : (words : List (List ℕ)) (old : Outside) → NamesSource old words → request_of words ≡ None → ⊥
+names_some words old n none = let e : None ≡ Some n.request = sym none ∙ n.named in cc
+
+-- a status of a fault comes with a fault
+fault_met : (status : Status) (words : List (List ℕ)) (old new : Meaning) → NamesSource old.outside words → MeetsNoFault old.counts new.counts → (((Rose old.counts.read_faults new.counts.read_faults → ⊥) × (Rose old.counts.write_faults new.counts.write_faults → ⊥)) → ⊥) → (IsReadyFor old words → EndsByNoFault status) → EndsByNoFault status
+fault_met status words old new n (inl reliable) met unmet = unmet (ready_for old words n reliable)
+fault_met status words old new n (inr none) met unmet = absurd (met none)
+
+one_script : {x y : Script} → scripted x ≡ scripted y → x ≡ y
+one_script e = cc
+
 -- two programs that are seen alike have the same errors
 same_errors_of : (saved : Option State) (line : ℕ) (solvers : List (List ℕ)) (one other : Program Frac) → program_view frac_value one ≡ program_view frac_value other → errors_of saved line one solvers ≡ errors_of saved line other solvers
 same_errors_of None line solvers one other alike = same-errors one other alike solvers
@@ -91,21 +109,62 @@ good_matter solvers (from_start source) (unrestored fault) text can is why = abs
 good_matter solvers (from_save save file) (scripted script) text can is why = good_script solvers script text (subst (IsGood solvers) (sym is.joint) (can.1 is.saved is.restored)) why
 good_matter solvers (from_save save file) (unrestored fault) text can is why = good_save solvers save fault can.0 is
 
-not_refused : (solving : Solving) (old new : Outside) (words : List (List ℕ)) (request : Asked) → IsRunOf Compile solving old new request → (n : NamesProgram solving.before.names old words) → n.request ≡ request → ⊥
-not_refused solving old new words request run n same =
-    let is : run.taken ≡ n.taken = the_taken old n.request.source n.taken run.taken n.found (subst (λ (r : Asked). IsTaken old r.source run.taken) (sym same) run.is_taken) in
-    good_matter solving.before.names run.taken run.matter run.ran.text (subst (CanRun solving.before.names) (sym is) n.can_run) run.is_matter run.ran.listing.0
+not_refused : (solving : Solving) (old new : Outside) (words : List (List ℕ)) (request : Asked) → IsRunOf Compile solving old new request → (n : NamesSource old words) → n.request ≡ request → CanRun solving.before.names n.taken → ⊥
+not_refused solving old new words request run n same can =
+    let is : run.taken ≡ n.taken = named_taken Compile solving old new words request run n same in
+    good_matter solving.before.names run.taken run.matter run.ran.text (subst (CanRun solving.before.names) (sym is) can) run.is_matter run.ran.listing.0
 
 -- What a run did that met no fault, for words that name a program: it is done, or an execution error stopped it.
 pub completes : (status : Status) (solving : Solving) (words : List (List ℕ)) (old new : Meaning) → IsRun status solving words old new → CountsSo status old.counts new.counts → (IsReadyFor old words → EndsByNoFault status) → NamesProgram solving.before.names old.outside words → MeetsNoFault old.counts new.counts → (status ≡ Done) ⊎ (status ≡ Execution)
-completes Done solving words old new run counts unmet n none = inl refl
-completes Execution solving words old new run counts unmet n none = inr refl
-completes Usage solving words old new run counts unmet n none = let z : ⊥ = (let e : None ≡ Some n.request = sym run.0 ∙ n.named in cc) in absurd z
-completes Compile solving words old new run counts unmet n none = absurd (not_refused solving old.outside new.outside words run.0 run.1.1 n (one_value n.named run.1.0))
-completes ReadFault solving words old new run counts unmet n (inl reliable) = absurd (unmet (ready_for solving.before.names old words n reliable))
-completes ReadFault solving words old new run counts unmet n (inr none) = absurd (none.0 counts)
-completes WriteFault solving words old new run counts unmet n (inl reliable) = absurd (unmet (ready_for solving.before.names old words n reliable))
-completes WriteFault solving words old new run counts unmet n (inr none) = absurd (none.1 counts)
+completes status solving words old new run counts unmet n none = by status run counts unmet
+  where
+    by : (s : Status) → IsRun s solving words old new → CountsSo s old.counts new.counts → (IsReadyFor old words → EndsByNoFault s) → (s ≡ Done) ⊎ (s ≡ Execution)
+    by Done run counts unmet = inl refl
+    by Execution run counts unmet = inr refl
+    by Usage run counts unmet = absurd (names_some words old.outside n.source run.0)
+    by Compile run counts unmet = absurd (not_refused solving old.outside new.outside words run.0 run.1.1 n.source (one_value n.source.named run.1.0) n.can_run)
+    by ReadFault run counts unmet = absurd (fault_met ReadFault words old new n.source none (λ met. met.0 counts) unmet)
+    by WriteFault run counts unmet = absurd (fault_met WriteFault words old new n.source none (λ met. met.1 counts) unmet)
+
+-- ---- exactly what cannot be run is refused
+
+-- what was restored is whatever is restored of the same bytes
+same_restored : (solvers : List (List ℕ)) (save : List ℕ) (a b : Saved) → GivesBack solvers save (Ok a) → IsRestored solvers save b → (a.source.items ≡ b.source.items) × (a.store ≡ b.store)
+same_restored solvers save a b back is =
+    let h = back b.source.items b.program b.store is.solver is.is_save in
+    (h.source_is, h.state_is ∙ ap (with_solver b.store) (one_value h.placed is.placed))
+
+-- a job is one of what can be run
+can_run_of : (solvers : List (List ℕ)) (taken : Taken) (matter : Matter) (job : Job) → IsMatter solvers taken matter → IsJob solvers matter job → CanRun solvers taken
+can_run_of solvers (from_start source) (scripted script) job is j = subst (IsGood solvers) (sym (one_script j.to_run) ∙ is) (job.program, j.accepted)
+can_run_of solvers (from_start source) (unrestored fault) job is j = absurd is
+can_run_of solvers (from_save save file) (unrestored fault) job is j = absurd (let z : ⊥ = (let e = j.to_run in cc) in z)
+can_run_of solvers (from_save save file) (scripted script) job is j = (
+  record { short = is.short; source = is.saved.source.items; program = is.saved.program; state = is.saved.store; solver = is.restored.solver; is_save = is.restored.is_save; placed = λ none. let z : ⊥ = (let e = sym none ∙ is.restored.placed in cc) in z },
+  λ saved restored.
+      let same = same_restored solvers save is.saved saved is.back restored in
+      subst (IsGood solvers) (sym (one_script j.to_run) ∙ is.joint ∙ ap₂ (λ source store. joint_script source store file) same.0 same.1) (job.program, j.accepted),
+)
+
+-- what was executed can be run
+executed_can : (status : Status) (solving : Solving) (old new : Outside) (words : List (List ℕ)) (request : Asked) (run : IsRunOf status solving old new request) (n : NamesSource old words) → n.request ≡ request → (text : List ℕ) → IsExecuted solving run.matter text → CanRun solving.before.names n.taken
+executed_can status solving old new words request run n same text executed =
+    subst (CanRun solving.before.names) (named_taken status solving old new words request run n same) (can_run_of solving.before.names run.taken run.matter executed.job run.is_matter executed.is_job)
+
+-- What a run did that met no fault, for words that name a source: it is refused exactly where it cannot be run.
+pub refuses : (status : Status) (solving : Solving) (words : List (List ℕ)) (old new : Meaning) → IsRun status solving words old new → CountsSo status old.counts new.counts → (IsReadyFor old words → EndsByNoFault status) → (n : NamesSource old.outside words) → MeetsNoFault old.counts new.counts → (status ≡ Compile) ↔ ¬ (CanRun solving.before.names n.taken)
+refuses status solving words old new run counts unmet n none = (λ is. forth (subst (λ s. IsRun s solving words old new) is run), back status run counts unmet)
+  where
+    forth : IsRun Compile solving words old new → ¬ (CanRun solving.before.names n.taken)
+    forth run = not_refused solving old.outside new.outside words run.0 run.1.1 n (one_value n.named run.1.0)
+
+    back : (s : Status) → IsRun s solving words old new → CountsSo s old.counts new.counts → (IsReadyFor old words → EndsByNoFault s) → ¬ (CanRun solving.before.names n.taken) → s ≡ Compile
+    back Compile run counts unmet cannot = refl
+    back Done run counts unmet cannot = absurd (cannot (executed_can Done solving old.outside new.outside words run.0 run.1.1 n (one_value n.named run.1.0) run.1.1.ran.text run.1.1.ran.listing.0))
+    back Execution run counts unmet cannot = absurd (cannot (executed_can Execution solving old.outside new.outside words run.0 run.1.1 n (one_value n.named run.1.0) run.1.1.ran.text run.1.1.ran.listing.0))
+    back Usage run counts unmet cannot = absurd (names_some words old.outside n run.0)
+    back ReadFault run counts unmet cannot = absurd (fault_met ReadFault words old new n none (λ met. met.0 counts) unmet)
+    back WriteFault run counts unmet cannot = absurd (fault_met WriteFault words old new n none (λ met. met.1 counts) unmet)
 
 -- the words are refused exactly where the status says so
 pub refused_so : (status : Status) (solving : Solving) (words : List (List ℕ)) (old new : Meaning) → IsRun status solving words old new → (status ≡ Usage) ↔ (request_of words ≡ None)

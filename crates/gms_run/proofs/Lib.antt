@@ -5,6 +5,7 @@ pub mod Executed
 pub mod Executing
 pub mod FirstSettings
 pub mod Going
+pub mod Headlined
 pub mod Joined
 pub mod Kept
 pub mod Listed

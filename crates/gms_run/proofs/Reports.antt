@@ -30,7 +30,7 @@ use Rattle.lp_core.specs.Numbers.{lp_numbers}
 use Rattle.lp_slot.specs.SolverNames.{IsSolverName}
 use Rattle.gms_ranges.specs.Answered.{AreAnswered, IsAnswered}
 use Rattle.gms_ranges.specs.RangeTexts.{SaysRanges}
-use Rattle.gms_list.specs.ListingText.{echo_text, end_text}
+use Rattle.gms_list.specs.ListingText.{echo_text, end_text, has_echo, refused_echo}
 use Rattle.gms_run.specs.declared.status.Status.{Status}
 use Rattle.gms_run.specs.declared.status.Status.TheVariants.{Done, Usage, Compile, Execution, ReadFault, WriteFault}
 use Rattle.gms_store.specs.State.{State, fits_at, symbol_of}
@@ -39,7 +39,7 @@ use Rattle.gms_run.specs.Solving.{Solving, SolvesNothing, number_limit, numbers_
 use Rattle.gms_saved.specs.SavedState.{saved_text}
 use Rattle.gms_run.specs.Scripts.{Matter, Script, scripted, errors_of}
 use Rattle.gms_run.specs.Jobs.{HaltsSo, IsCutOff, IsSolved, Job, body_of, course_of, first_of, job_of, job_text, last_line, save_text, solver_name, status_code}
-use Rattle.gms_run.specs.Listings.{AreClosing, AreRemarks, IsAccepted, IsExecuted, IsFront, IsJob, IsListing, IsModelLine, SavesLast, SavesSo, ShowsErrors, ShowsWhy, TellsModel, TellsRanges, TellsRun, TellsSpans, echo_with, errors_text, has_echo, refused_text, save_file, unrestored_text}
+use Rattle.gms_run.specs.Listings.{AreClosing, AreRemarks, IsAccepted, IsExecuted, IsFront, IsJob, IsListing, IsModelLine, SavesLast, SavesSo, ShowsErrors, ShowsWhy, TellsModel, TellsRanges, TellsRun, TellsSpans, errors_text, refused_text, save_file, unrestored_text}
 use Rattle.gms_run.specs.Statuses.{IsUnwritten}
 use Rattle.gms_save.specs.declared.fault.SaveFault.{SaveFault}
 use Rattle.gms_run.specs.declared.script.Matter.{Matter as OwnMatter}
@@ -60,11 +60,11 @@ all_pending status solving now matter body pending is same compile = record { bo
 -- ---- refusals
 
 -- a script that has an echo
-pub echo_there : (error : SourceError) (script : Script) → has_echo error ≡ true → echo_with error script ≡ echo_text script.line script.file
+pub echo_there : (error : SourceError) (script : Script) → has_echo error ≡ true → refused_echo error script.line script.file ≡ echo_text script.line script.file
 echo_there error script has = ap (λ (b : Bool). cond b (echo_text script.line script.file) []) has
 
 -- and one that has none
-pub echo_nowhere : (error : SourceError) (script : Script) → has_echo error ≡ false → echo_with error script ≡ []
+pub echo_nowhere : (error : SourceError) (script : Script) → has_echo error ≡ false → refused_echo error script.line script.file ≡ []
 echo_nowhere error script has = ap (λ (b : Bool). cond b (echo_text script.line script.file) []) has
 
 -- two texts behind another
@@ -326,9 +326,9 @@ listed_front status solving matter body written room is = by status room is
     by Execution (inr few) is = executed Execution is.0 is.1 few
     by Done (inl e) is = absurd (let z : ⊥ = cc in z)
     by Execution (inl e) is = absurd (let z : ⊥ = cc in z)
-    by Usage room is = absurd is.1
-    by ReadFault room is = absurd is.1
-    by WriteFault room is = absurd is.1
+    by Usage room is = absurd is
+    by ReadFault room is = absurd is
+    by WriteFault room is = absurd is
 
 -- The listing was written as far as its front.
 pub front_ended : (status : Status) (solving : Solving) (old mid new : Outside) (matter : Matter) (pending : List ℕ) (solves : ℕ) → solves ≡ length solving.answers → Prepares status solving old mid matter pending →

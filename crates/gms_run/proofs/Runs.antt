@@ -17,7 +17,7 @@ use Rattle.gms_parse.specs.Outcomes.{IsFault}
 use Rattle.gms_save.specs.declared.saved.Saved.{Saved}
 use Rattle.gms_save.specs.declared.fault.SaveFault.{SaveFault}
 use Rattle.gms_save.specs.declared.fault.SaveFault.TheVariants.{SaveTooLong, SaveShape, SaveSolver}
-use Rattle.gms_save.specs.Saves.{most_bytes as most_save_bytes, IsRestored}
+use Rattle.gms_save.specs.Saves.{GivesBack, most_bytes as most_save_bytes, IsRestored}
 use Rattle.gms_run.specs.declared.status.Status.{Status}
 use Rattle.gms_run.specs.declared.status.Status.TheVariants.{Done, Usage, Compile, Execution, ReadFault, WriteFault}
 use Rattle.gms_gen.specs.Generator.{model_text}
@@ -74,9 +74,9 @@ module _ (solving : Solving) (a b : Script) (long : most_bytes < length a.source
   long_listing Compile text is = long_refused text is
   long_listing Done text is = absurd (no_run text is.0)
   long_listing Execution text is = absurd (no_run text is.0)
-  long_listing Usage text is = absurd is.1
-  long_listing ReadFault text is = absurd is.1
-  long_listing WriteFault text is = absurd is.1
+  long_listing Usage text is = absurd is
+  long_listing ReadFault text is = absurd is
+  long_listing WriteFault text is = absurd is
 
   -- and the same is due
   long_front : (text : List ℕ) (written : ℕ) → IsFront solving (scripted a) text written → IsFront solving (scripted b) text written
@@ -176,7 +176,7 @@ module _ (status : Status) (solving : Solving) (old new : Outside) (request : As
       by (scripted script) is ran =
           record {
             matter = scripted (joint_script is.saved.source.items is.saved.store whole);
-            is_matter = record { saved = is.saved; short = is.short; restored = is.restored; joint = refl };
+            is_matter = record { saved = is.saved; short = is.short; restored = is.restored; back = is.back; joint = refl };
             ran = joint_whole is.saved.source.items is.saved.store whole (subst (λ (s : Script). RanSo status solving old new request (scripted s)) is.joint ran);
           }
 
@@ -236,11 +236,11 @@ of_generated (Ok status) solving old new request size source e is ran =
 of_generated (Err x) solving old new request size source e is ran = tt
 
 -- What was restored of a save goes on.
-pub of_joint : (r : Result Status AllocError) (solving : Solving) (old new : Outside) (request : Asked) (save file : List ℕ) (saved : Saved) → length save ≤ most_save_bytes → IsRestored solving.before.names save saved →
+pub of_joint : (r : Result Status AllocError) (solving : Solving) (old new : Outside) (request : Asked) (save file : List ℕ) (saved : Saved) → length save ≤ most_save_bytes → IsRestored solving.before.names save saved → GivesBack solving.before.names save (Ok saved) →
     IfOk r (λ status. RanSo status solving old new request (scripted (joint_script saved.source.items saved.store file))) → IfOk r (λ status. RanOf status solving old new request (from_save save file))
-of_joint (Ok status) solving old new request save file saved short restored ran =
-    record { matter = scripted (joint_script saved.source.items saved.store file); is_matter = record { saved = saved; short = short; restored = restored; joint = refl }; ran = ran }
-of_joint (Err e) solving old new request save file saved short restored ran = tt
+of_joint (Ok status) solving old new request save file saved short restored back ran =
+    record { matter = scripted (joint_script saved.source.items saved.store file); is_matter = record { saved = saved; short = short; restored = restored; back = back; joint = refl }; ran = ran }
+of_joint (Err e) solving old new request save file saved short restored back ran = tt
 
 -- A joint script is that of the saved source, the saved state and the file.
 pub ran_joint : (r : Result Status AllocError) (solving : Solving) (old new : Outside) (request : Asked) (source file before : List ℕ) (line : ℕ) (state saved : State) → source ≡ joint_source before file → line ≡ first_line before → state ≡ saved →
@@ -348,9 +348,9 @@ pub reports_so : (status : Status) (solving : Solving) (old new : Outside) (requ
 reports_so Done solving old new request matter r = r
 reports_so Compile solving old new request matter r = r
 reports_so Execution solving old new request matter r = r
-reports_so Usage solving old new request matter r = absurd r.listing.1
-reports_so ReadFault solving old new request matter r = absurd r.listing.1
-reports_so WriteFault solving old new request matter r = absurd r.listing.1
+reports_so Usage solving old new request matter r = absurd r.listing
+reports_so ReadFault solving old new request matter r = absurd r.listing
+reports_so WriteFault solving old new request matter r = absurd r.listing
 
 -- a run of a matter did what its report came to
 pub ran_so : (reported : Result Status Failed) (r : Result Status AllocError) (solving : Solving) (old new : Outside) (request : Asked) (matter : Matter) → EndsAs reported r →
@@ -507,9 +507,9 @@ pub reported_status : (status : Status) (solving : Solving) (old new : Outside) 
 reported_status Done solving old new request matter r = inl refl
 reported_status Compile solving old new request matter r = inr (inl refl)
 reported_status Execution solving old new request matter r = inr (inr refl)
-reported_status Usage solving old new request matter r = absurd r.listing.1
-reported_status ReadFault solving old new request matter r = absurd r.listing.1
-reported_status WriteFault solving old new request matter r = absurd r.listing.1
+reported_status Usage solving old new request matter r = absurd r.listing
+reported_status ReadFault solving old new request matter r = absurd r.listing
+reported_status WriteFault solving old new request matter r = absurd r.listing
 
 -- what a report counts that a fault ended
 pub counts_fault : (old new : Counts) → CountsWriting (let r : Result Status Failed = Err Fault in r) old new → CountsRun (let r : Result Status AllocError = Ok WriteFault in r) (old.reliable ≡ true) old new

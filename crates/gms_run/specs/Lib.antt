@@ -1,3 +1,4 @@
+pub mod Headline
 pub mod Solving
 pub mod Searches
 pub mod Scripts

@@ -15,14 +15,14 @@ use Rattle.gms_store.specs.State.{State, symbol_of, statuses_in, attributes_of}
 use Rattle.gms_event.specs.Events.{Solved}
 use Rattle.lp_core.specs.declared.answer.Answer.{Answer}
 use Rattle.gq_text.specs.Shown.{IsRoundedText}
-use Rattle.gms_list.specs.ListingText.{compile_errors_text, echo_text, end_text, save_error_text, source_error_text}
+use Rattle.gms_list.specs.ListingText.{compile_errors_text, echo_text, end_text, errors_listing, refused_echo, refused_listing, save_error_text, source_error_text}
 use Rattle.gms_save.specs.Saves.{IsSaveOf, place_of_solver}
 use Rattle.gms_save.specs.declared.fault.SaveFault.{SaveFault}
 use Rattle.gms_save.specs.Faults.{fault_code, fault_name}
 use Rattle.gms_words.specs.CommandLine.{Asked, Origin, in_file, restarted, generated, generated_line, closing_line}
 use Rattle.gms_ranges.specs.RangeTexts.{SaysRanges}
 use Rattle.gms_run.specs.declared.status.Status.{Status}
-use Rattle.gms_run.specs.declared.status.Status.TheVariants.{Done, Compile, Execution}
+use Rattle.gms_run.specs.declared.status.Status.TheVariants.{Done, Usage, Compile, Execution, ReadFault, WriteFault}
 use Rattle.gms_run.specs.Solving.{Solving, SolvesNothing, number_limit, numbers_of, places_of, programs_of, solves_in}
 use Rattle.gms_run.specs.Scripts.{Script, Matter, scripted, unrestored, errors_of}
 use Rattle.gms_run.specs.Jobs.{Job, job_of, course_of, job_text, save_text, solver_name, IsSolved, IsCutOff, HaltsSo, status_code}
@@ -43,18 +43,9 @@ pub record IsJob (solvers : List (List ℕ)) (matter : Matter) (job : Job) : Typ
 
 -- ---- what is refused
 
--- whether a script that is refused for an error has an echo: one whose source is too long has none
-abbrev pub has_echo : SourceError → Bool
-has_echo TooLong = false
-has_echo error = true
-
--- the echo of a script that is refused for an error
-abbrev pub echo_with : SourceError → Script → List ℕ
-echo_with error script = if has_echo error then echo_text script.line script.file else []
-
 -- what is listed of a script whose source is no program
 abbrev pub refusal_text : Script → SourceFault → List ℕ
-refusal_text script fault = echo_with fault.error script ++ source_error_text fault
+refusal_text script fault = refused_echo fault.error script.line script.file ++ source_error_text fault
 
 -- what is listed of a script whose program has errors
 abbrev pub errors_text : Script → List CompileError → List ℕ
@@ -72,14 +63,14 @@ refused_text listed = listed ++ end_text 2 0
 pub record ShowsRefusal (script : Script) (text : List ℕ) : Type 0 where
   pub fault : SourceFault
   pub refused : IsFault number_limit script.source fault
-  pub listing : text ≡ refused_text (refusal_text script fault)
+  pub listing : text ≡ refused_listing script.line script.file fault
 
 -- The source is a program with errors, and the text is the listing that has them.
 pub record ShowsErrors (solvers : List (List ℕ)) (script : Script) (text : List ℕ) : Type 0 where
   pub program : Program Frac
   pub is_program : IsProgram number_limit script.source frac_value program
   pub some : errors_of script.saved script.line program solvers ≢ []
-  pub listing : text ≡ refused_text (errors_text script (errors_of script.saved script.line program solvers))
+  pub listing : text ≡ errors_listing script.line script.file (errors_of script.saved script.line program solvers)
 
 -- the text is the listing that says why there is nothing to run
 abbrev pub ShowsWhy : List (List ℕ) → Matter → List ℕ → Type 0
@@ -103,10 +94,14 @@ pub record IsExecuted (solving : Solving) (matter : Matter) (text : List ℕ) : 
 abbrev pub EndsSo : (status : Status) (solving : Solving) (matter : Matter) (text : List ℕ) → IsExecuted solving matter text → Type 0
 EndsSo status solving matter text run = HaltsSo status (course_of run.job solving).halted
 
--- the text is the listing of what there is to run, where a run ends with this status
+-- the text is the listing of what there is to run, where a run ends with this status; the other statuses have none
 abbrev pub IsListing : Status → Solving → Matter → List ℕ → Type 0
 IsListing Compile solving matter text = IsRefused solving matter text
-IsListing status solving matter text = (run : IsExecuted solving matter text) × EndsSo status solving matter text run
+IsListing Done solving matter text = (run : IsExecuted solving matter text) × EndsSo Done solving matter text run
+IsListing Execution solving matter text = (run : IsExecuted solving matter text) × EndsSo Execution solving matter text run
+IsListing Usage solving matter text = ⊥
+IsListing ReadFault solving matter text = ⊥
+IsListing WriteFault solving matter text = ⊥
 
 -- The text is due for what there is to run, and so many bytes of it were written and no more.
 abbrev pub IsFront : Solving → Matter → List ℕ → ℕ → Type 0

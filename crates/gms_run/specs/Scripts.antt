@@ -1,5 +1,5 @@
 -- What there is to run: a source that is run from its start, or a file that goes on from a saved state (GAMS User's Guide, "Save and Restart").
-use Rattle.std.specs.Prelude.{◌≡◌, ℕ, ◌≤◌, List, length, drop, Option, Some, None, Result, Err}
+use Rattle.std.specs.Prelude.{◌≡◌, ℕ, ◌≤◌, List, length, drop, Option, Some, None, Result, Ok, Err}
 use Rattle.gq_frac.specs.declared.frac.Frac.{Frac}
 use Rattle.gq_frac.specs.Frac.{frac_value}
 use Rattle.gms_ast.specs.declared.program.Program.{Program}
@@ -51,6 +51,8 @@ pub record IsJoint (solvers : List (List ℕ)) (save file : List ℕ) (script : 
   pub saved : Saved
   pub short : length save ≤ most_save_bytes
   pub restored : IsRestored solvers save saved
+  -- whatever state has this save is what was restored
+  pub back : GivesBack solvers save (let r : Result Saved SaveFaultOrMemory = Ok saved in r)
   pub joint : script ≡ joint_script saved.source.items saved.store file
 
 -- A save is not restored, for a fault: of which bytes that is said, and of which states' saves it is not.

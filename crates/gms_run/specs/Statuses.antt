@@ -252,13 +252,17 @@ CanRun solvers (from_start source) = IsGood solvers (script_of source)
 CanRun solvers (from_save save file) =
     IsGoodSave solvers save × ((saved : Saved) → IsRestored solvers save saved → IsGood solvers (joint_script saved.source.items saved.store file))
 
--- The words name what can be run.
-pub record NamesProgram (solvers : List (List ℕ)) (old : Outside) (words : List (List ℕ)) : Type 0 where
+-- The words name a source that the host has, or a generated model.
+pub record NamesSource (old : Outside) (words : List (List ℕ)) : Type 0 where
   pub request : Asked
   pub named : request_of words ≡ Some request
   pub taken : Taken
   pub found : Gives old request.source taken
-  pub can_run : CanRun solvers taken
+
+-- The words name what can be run.
+pub record NamesProgram (solvers : List (List ℕ)) (old : Outside) (words : List (List ℕ)) : Type 0 where
+  pub source : NamesSource old words
+  pub can_run : CanRun solvers source.taken
 
 -- no fault was met: the host is reliable, or neither count of faults rose
 abbrev pub MeetsNoFault : Counts → Counts → Type 0

@@ -1,14 +1,15 @@
 //! The top call: from the words of the command line to the bytes of the listing and of the save.
-ghost use Rattle.std.specs.Prelude.{◌≡◌, ◌<◌, ◌≤◌, ◌^◌, ◌↔◌, ◌⊎◌, [], true, length, map, IfOk, OnOk, string_bytes};
+ghost use Rattle.std.specs.Prelude.{◌≡◌, ◌<◌, ◌≤◌, ◌^◌, ◌↔◌, ◌⊎◌, ℕ, List, [], true, length, map, Some, IfOk, OnOk, string_bytes};
 ghost use Rattle.gms_host.specs.Rules.{CountsWriting, IsThere};
 ghost use Rattle.gms_store.specs.State.{State};
 ghost use Rattle.gms_lex.specs.Tokens.{most_bytes};
 ghost use Rattle.gms_words.specs.CommandLine.{texts, request_of, asked_by, in_file, restarted, generated, read_fault_line};
+ghost use Rattle.gms_run.specs.Headline.{HasListing, WritesListing, file_alone};
 ghost use Rattle.gms_run.specs.InnerReports.{CanGoOn, CountsMention, CountsRun, EndsAs, IsSoundMatter, RanBehind, RanOf, matter_in};
 ghost use Rattle.gms_run.specs.InnerSteps.{ComesTo};
 ghost use Rattle.gms_run.specs.Scripts.{first_line, from_save, joint_script, joint_source, script_of, scripted};
 ghost use Rattle.gms_run.specs.Solving.{solving};
-ghost use Rattle.gms_run.specs.Statuses.{CountsSo, EndsByNoFault, HasOrigin, IsReadyFor, IsReported, IsRun, IsWriteFault, MeetsNoFault, NamesProgram, OfRequest, RanSo, SaysLine};
+ghost use Rattle.gms_run.specs.Statuses.{CanRun, CountsSo, EndsByNoFault, HasOrigin, IsReadyFor, IsReported, IsRun, IsWriteFault, MeetsNoFault, NamesProgram, NamesSource, OfRequest, RanSo, SaysLine};
 
 use crate::closing::{push_closing, write_save};
 use crate::execution::Run;
@@ -365,28 +366,31 @@ fn run_words<H: Host>(
     }
 }
 
-/// Runs `gams25` on the words of its command line, without the program's name, over a host.
+/// Runs `gams25` on the arguments of its command line, without the program's name, over a host.
 ///
-/// The words are those of a command of `clap` with an optional FILE, `--out` with the name of the output, `--generate` with a number from 1
-/// to 30, `--save` and `--restart` with the name of a file each, and the flag `--ranges`; exactly one of FILE and `--generate` is there, and
-/// `--restart` goes with FILE alone. The source is read, whole or one byte more than it may have, or generated, before the output is
-/// opened; its listing is written there, statement by statement, and behind the closed output the closing lines are said
-/// (docs/LISTING.md), first, with `--ranges`, how far each right side and each cost of each optimum may move. `AllocError` comes where memory was
-/// wanting, here or in the host, or where the ranges or the lists of the source ask for more room than a program has (docs/LANGUAGE.md, "Limits"); the
-/// output may then hold the front of a listing.
+/// The arguments are those of a `clap` command: an optional FILE, `--out` with the name of the listing, `--generate` with
+/// a number from 1 to 30, `--save` and `--restart` with the name of a file each, and the flag `--ranges`. Exactly one of FILE
+/// and `--generate` is given, and `--restart` goes with FILE alone. The source is read, or generated, before the output is
+/// opened. The listing is written there statement by statement. After the output is closed the closing lines are printed
+/// (docs/LISTING.md); with `--ranges` they begin with how far each right side and each cost of each optimum may move.
 ///
-/// With `--restart` that file is read before FILE, and FILE goes on from the state that was saved in it: the source is the saved source with FILE
-/// behind it, of which FILE is echoed and its statements are executed. With `--save`, where every statement was executed, the last state is
-/// written to that file, behind the closed output and before the closing lines (docs/SAVES.md; GAMS User's Guide, "Save and Restart"): a save by the
-/// definition that `restore` goes by, so that it gives this state back, unless memory is wanting or the save is too long.
+/// With `--restart` that file is read before FILE, and FILE resumes from the state that was saved in it: the source is the
+/// saved source followed by FILE; the lines of FILE are echoed, and its statements are executed. With `--save`, where every
+/// statement was executed, the last state is written to that file, after the output is closed and before the closing lines
+/// (docs/SAVES.md; GAMS User's Guide, "Save and Restart"). `restore` gives this state back, unless the save is too long.
 ///
-/// What a run did is one statement, by its status, and holds over every host, whatever it tells: there is a source, which is what the
-/// host has at the name where it tells its files, and what the answers are to it, and what stands outside. Done and Execution: the source is
-/// accepted, its run takes all answers, each of which is one of its linear program, and the listing is the text of that run. Compile: it is
-/// refused, or the save cannot be restored, and the listing says why. Usage: the words ask for no source. ReadFault: a file was not read.
-/// WriteFault: how far the run came; and where something was solved, all answers are taken by one statement more than those whose listing is at
-/// most 4,096 bytes longer than what was written. The solvers stay, with their names and rules, and the pivots of each answer stand behind the
-/// paths of the one that gave it; with Usage, Compile and ReadFault nothing is solved. There are fewer than 2^32 solvers.
+/// `headline` is the promise for a FILE alone: the listing is that of its source, and nothing else changes outside.
+/// `run` says the same of every request, and what the other statuses mean. Done and Execution: the source is accepted, its run
+/// takes all answers, each of which answers its linear program, and the listing is the text of that run. Compile: the source
+/// is refused, or the save cannot be restored, and the listing says why. Usage: the arguments request no source. ReadFault: a
+/// file was not read. WriteFault: how far the run came; where something was solved, all answers are used by the statements
+/// whose text was written and at most one statement more, except for the last 4,096 bytes. The solvers keep their
+/// names and rules, and the pivots of each answer are appended to the paths of the solver that gave it; with Usage, Compile and
+/// ReadFault nothing is solved. There are fewer than 2^32 solvers.
+///
+/// What the clauses leave open: `AllocError` comes where a growth finds no memory, here or in the host. Then only `steady`
+/// holds, and the output may hold a prefix of a listing. Where the host hides its files, the source is some source.
+/// Of a solver whose rule is Legal they promise legal pivots, and not which of them.
 pub fn run<H: Host>(
     alloc: Global,
     words: &[String],
@@ -394,6 +398,11 @@ pub fn run<H: Host>(
     solvers: &mut Vec<Box<dyn LpSolver>>,
 ) -> Result<Ended, AllocError>
     requires { length solvers.old.items < 2 ^ 32 }
+    // Where the words request a FILE alone: its source, the listing of that source by the status, and nothing else outside.
+    ensures headline { IfOk result (λ ended. (file output : List ℕ) → request_of (texts words.now) ≡ Some (file_alone file output) → HasListing ended.status →
+        WritesListing ended.status (solving name rule paths solvers.old.items solvers.new.items ended.answers.items) (H.meaning host.old).outside (H.meaning host.new).outside file output) }
+
+    // The same for all words, saves and restarts, and what the other statuses mean.
     ensures run { IfOk result (λ ended. IsRun ended.status (solving name rule paths solvers.old.items solvers.new.items ended.answers.items) (texts words.now) (H.meaning host.old) (H.meaning host.new)) }
 
     // A fault is answered only where one of its kind was counted, and a ready host counts none and ends by none.
@@ -401,8 +410,10 @@ pub fn run<H: Host>(
     ensures steady { IsReadyFor (H.meaning host.old) (texts words.now) → (H.meaning host.new).counts ≡ (H.meaning host.old).counts }
     ensures no_fault { IsReadyFor (H.meaning host.old) (texts words.now) → IfOk result (λ ended. EndsByNoFault ended.status) }
 
-    // The words are refused exactly where they ask for no source, and where no fault is met a program is run.
+    // The words are refused exactly where they request no source. Where no fault is met, a source of a host that exposes its
+    // files is refused exactly where it cannot be run, and a program is run.
     ensures usage { IfOk result (λ ended. (ended.status ≡ Status.Usage) ↔ (request_of (texts words.now) ≡ None)) }
+    ensures compile { (source : NamesSource (H.meaning host.old).outside (texts words.now)) → MeetsNoFault (H.meaning host.old).counts (H.meaning host.new).counts → IfOk result (λ ended. (ended.status ≡ Status.Compile) ↔ ¬ (CanRun (map name solvers.old.items) source.taken)) }
     ensures complete { NamesProgram (map name solvers.old.items) (H.meaning host.old).outside (texts words.now) → MeetsNoFault (H.meaning host.old).counts (H.meaning host.new).counts → IfOk result (λ ended. (ended.status ≡ Status.Done) ⊎ (ended.status ≡ Status.Execution)) }
 {
     let mut answers = Vec::new(alloc);

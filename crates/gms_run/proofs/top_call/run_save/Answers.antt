@@ -1,7 +1,8 @@
 -- What was restored goes on, and of what was not it is listed why.
 use Rattle.std.proofs.Common.{◌≡◌, ◌<◌, ◌^◌, length, map, List, ℕ, ap, refl, subst, sym}
 use Rattle.std.proofs.lemmas.List.{length-map}
-use Rattle.gms_save.specs.Saves.{IsRestored}
+use Rattle.std.specs.Prelude.{Ok}
+use Rattle.gms_save.specs.Saves.{GivesBack, IsRestored}
 use Rattle.gms_words.specs.CommandLine.{asked_by}
 use Rattle.gms_run.specs.declared.script.Matter.TheVariants.{Unrestored}
 use Rattle.gms_run.specs.InnerReports.{matter_in}
@@ -25,7 +26,7 @@ run_joint-requires-clause-sound g c =
 pub returns-in-Ok-clause-ran : goal.returns-in-Ok-clause-ran
 returns-in-Ok-clause-ran g c =
     let names : map (λ b. (goal.LpSolver-dyn g (b.vtable, b.value)).name b.value) c.as_slice.result.now ≡ map (λ b. (goal.LpSolver-dyn g (b.vtable, b.value)).name b.value) c.args.solvers.now.items = ap (map (λ b. (goal.LpSolver-dyn g (b.vtable, b.value)).name b.value)) c.as_slice.ensures.value in
-    of_joint c.run_joint.result (solving (λ b. (goal.LpSolver-dyn g (b.vtable, b.value)).name b.value) (λ b. (goal.LpSolver-dyn g (b.vtable, b.value)).rule b.value) (λ b. (goal.LpSolver-dyn g (b.vtable, b.value)).paths b.value) c.args.solvers.now.items c.run_joint.new.solvers.items c.run_joint.new.answers.items) (g.H.Host.meaning c.args.host.now).outside (g.H.Host.meaning c.run_joint.new.host).outside (asked_by c.args.request) c.args.save.items c.args.file.now c.in-Ok.saved c.in-Ok.ensures.answer.0 (subst (λ (ns : List (List ℕ)). IsRestored ns c.args.save.items c.in-Ok.saved) names c.in-Ok.ensures.answer.1) c.run_joint.ensures.ran
+    of_joint c.run_joint.result (solving (λ b. (goal.LpSolver-dyn g (b.vtable, b.value)).name b.value) (λ b. (goal.LpSolver-dyn g (b.vtable, b.value)).rule b.value) (λ b. (goal.LpSolver-dyn g (b.vtable, b.value)).paths b.value) c.args.solvers.now.items c.run_joint.new.solvers.items c.run_joint.new.answers.items) (g.H.Host.meaning c.args.host.now).outside (g.H.Host.meaning c.run_joint.new.host).outside (asked_by c.args.request) c.args.save.items c.args.file.now c.in-Ok.saved c.in-Ok.ensures.answer.0 (subst (λ (ns : List (List ℕ)). IsRestored ns c.args.save.items c.in-Ok.saved) names c.in-Ok.ensures.answer.1) (subst (λ (ns : List (List ℕ)). GivesBack ns c.args.save.items (Ok c.in-Ok.saved)) names c.in-Ok.ensures.back) c.run_joint.ensures.ran
 
 pub run_anew-requires-clause-sound : goal.run_anew-requires-clause-sound
 run_anew-requires-clause-sound g c = λ state. tt

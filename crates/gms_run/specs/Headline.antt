@@ -1,0 +1,89 @@
+-- Begin here: what `run` promises of a FILE, from the text of a source to the text of its listing (GAMS User's Guide,
+-- "GAMS Programs" and "GAMS Output"). Restarts, saves, ranges and generated models are additions to it, in the modules after
+-- this one.
+use Rattle.std.specs.Prelude.{◌≡◌, ◌≢◌, ℕ, ◌⊎◌, false, List, [], length, Option, Some, None}
+use Rattle.gq_frac.specs.declared.frac.Frac.{Frac}
+use Rattle.gq_frac.specs.Frac.{frac_value}
+use Rattle.gms_ast.specs.declared.program.Program.{Program}
+use Rattle.gms_parse.specs.declared.fault.SourceFault.{SourceFault}
+use Rattle.gms_parse.specs.Outcomes.{IsProgram, IsFault}
+use Rattle.gms_check.specs.CompileErrors.{compile_errors}
+use Rattle.gms_check.specs.Loaded.{loaded}
+use Rattle.gms_exec.specs.Answering.{AreAnswered}
+use Rattle.gms_exec.specs.Run.{Course, run_from, all_events}
+use Rattle.gms_list.specs.ListingText.{run_listing, errors_listing, refused_listing}
+use Rattle.gms_host.specs.Meaning.{Outside}
+use Rattle.gms_host.specs.Rules.{with_said}
+use Rattle.gms_words.specs.CommandLine.{Asked, in_file, closing_line}
+use Rattle.gms_run.specs.declared.status.Status.{Status}
+use Rattle.gms_run.specs.declared.status.Status.TheVariants.{Done, Usage, Compile, Execution, ReadFault, WriteFault}
+use Rattle.gms_run.specs.Solving.{Solving, SolvesNothing, number_limit, numbers_of}
+use Rattle.gms_run.specs.Jobs.{HaltsSo, status_code}
+use Rattle.gms_run.specs.Statuses.{IsFileOf, with_source, with_file}
+
+-- ---- runs
+
+-- the run of a program: its statements one after another, from the state that its declarations give, with the solvers' answers
+abbrev pub run_of : Program Frac → Solving → Course
+run_of program solving =
+    run_from frac_value number_limit (record { program = program; solvers = solving.before.names }) (loaded frac_value program) (numbers_of solving.answers) program.statements.items
+
+-- ---- listings
+
+-- The source is no program: the listing names its first fault.
+pub record IsFaultListing (source text : List ℕ) : Type 0 where
+  pub fault : SourceFault
+  pub is_first : IsFault number_limit source fault
+  pub listing : text ≡ refused_listing 1 source fault
+
+-- The source is a program with errors: the listing has each of them.
+pub record IsErrorListing (solvers : List (List ℕ)) (source text : List ℕ) : Type 0 where
+  pub program : Program Frac
+  pub is_program : IsProgram number_limit source frac_value program
+  pub some : compile_errors frac_value program solvers ≢ []
+  pub listing : text ≡ errors_listing 1 source (compile_errors frac_value program solvers)
+
+-- The source is a program without errors: its run takes all answers, each solve has an answer of the linear program that its
+-- model means at that point, the run ends as the status says, and the listing has what it shows.
+pub record IsRunListing (status : Status) (solving : Solving) (source text : List ℕ) : Type 0 where
+  pub program : Program Frac
+  pub is_program : IsProgram number_limit source frac_value program
+  pub no_error : compile_errors frac_value program solving.before.names ≡ []
+  pub all_taken : (run_of program solving).left ≡ []
+  pub answered : AreAnswered frac_value number_limit solving.before.rules solving.answers (run_of program solving).events
+  pub ends : HaltsSo status (run_of program solving).halted
+  pub listing : text ≡ run_listing program.names program.labels number_limit 1 source (numbers_of solving.answers) (all_events (run_of program solving)) (status_code status)
+
+-- the listing of a source with which a run ends so; the other statuses have none
+abbrev pub IsListingOf : Status → Solving → List ℕ → List ℕ → Type 0
+IsListingOf Done solving source text = IsRunListing Done solving source text
+IsListingOf Execution solving source text = IsRunListing Execution solving source text
+IsListingOf Compile solving source text =
+    (IsFaultListing source text ⊎ IsErrorListing solving.before.names source text) × SolvesNothing solving
+IsListingOf Usage solving source text = ⊥
+IsListingOf ReadFault solving source text = ⊥
+IsListingOf WriteFault solving source text = ⊥
+
+-- a listing is written whole with this status
+abbrev pub HasListing : Status → Type 0
+HasListing Done = Unit {0}
+HasListing Compile = Unit {0}
+HasListing Execution = Unit {0}
+HasListing Usage = ⊥
+HasListing ReadFault = ⊥
+HasListing WriteFault = ⊥
+
+-- ---- the headline
+
+-- the request for a FILE alone, whose listing goes to an output of this name
+abbrev pub file_alone : List ℕ → List ℕ → Asked
+file_alone file output = record { source = in_file file; output = output; save = None; ranges = false }
+
+-- The listing of the source in a file is written to the output, which is kept, and then the closing line is printed. Nothing
+-- else is done outside.
+pub record WritesListing (status : Status) (solving : Solving) (old new : Outside) (file output : List ℕ) : Type 0 where
+  pub source : List ℕ
+  pub is_source : IsFileOf old file source
+  pub text : List ℕ
+  pub listing : IsListingOf status solving source text
+  pub outside : new ≡ with_said (with_file (with_source old file source) output text) (closing_line (status_code status) (length solving.answers) output)
