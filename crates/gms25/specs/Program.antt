@@ -1,5 +1,5 @@
 -- What the program does with what the process gives it.
-use Rattle.std.specs.Prelude.{◌≡◌, ℕ, List, [], ◌∷◌, codes, drop, Result, Ok, Err}
+use Rattle.std.specs.Prelude.{◌≡◌, ◌↔◌, ◌⊎◌, ℕ, List, [], ◌∷◌, codes, drop, Result, Ok, Err, None, IfOk}
 use Rattle.std.specs.Vec.Iter.{into_iter_items}
 use Rattle.std.specs.IoError.{error_kind}
 use Rattle.std.specs.declared.alloc.AllocError.{AllocError}
@@ -9,12 +9,18 @@ use Rattle.std.specs.declared.vec.IntoIter.{IntoIter}
 use Rattle.std.specs.declared.io.Error.{Error}
 use Rattle.std.specs.declared.io.ErrorKind.TheVariants.{InvalidData}
 use Rattle.gms_host.specs.Meaning.{Meaning}
-use Rattle.gms_words.specs.CommandLine.{texts}
+use Rattle.gms_words.specs.CommandLine.{texts, request_of}
 use Rattle.lp_core.specs.declared.answer.Rule.TheVariants.{Bland, Legal}
 use Rattle.gms_run.specs.Solving.{Solvers, Solving}
 use Rattle.gms_run.specs.Jobs.{status_code}
-use Rattle.gms_run.specs.Statuses.{IsRun}
+use Rattle.gms_run.specs.Statuses.{CountsSo, EndsByNoFault, IsReadyFor, IsRun, MeetsNoFault, NamesProgram}
 use Rattle.gms_run.specs.declared.status.Status.{Status}
+use Rattle.gms_run.specs.declared.status.Status.TheVariants.{Done, Usage, Execution}
+
+-- the words in what the process gives: all behind the program's name, and none where the process gives an error
+abbrev pub given_words : Result (IntoIter (String Global) Global) Error → List (String Global)
+given_words (Ok args) = drop 1 (into_iter_items args)
+given_words (Err error) = []
 
 -- the words that a run has of what the process gives: all behind the program's name, and none where one of them is no UTF-8
 abbrev pub HasWords : Result (IntoIter (String Global) Global) Error → List (String Global) → Type 0
@@ -33,7 +39,19 @@ RunsWith status words old new = (solving : Solving) × ((solving.before ≡ both
 abbrev pub RunsGiven : Status → Result (IntoIter (String Global) Global) Error → Meaning → Meaning → Type 0
 RunsGiven status args old new = (words : List (String Global)) × (HasWords args words × RunsWith status (texts words) old new)
 
+-- A run of the words that the process gives ends with this status, which has a cause in these words and in what the host counts.
+pub record EndsGiven (status : Status) (args : Result (IntoIter (String Global) Global) Error) (old new : Meaning) : Type 0 where
+  pub run : RunsGiven status args old new
+  pub counts : CountsSo status old.counts new.counts
+  pub no_fault : IsReadyFor old (texts (given_words args)) → EndsByNoFault status
+  pub usage : (status ≡ Usage) ↔ (request_of (texts (given_words args)) ≡ None)
+  pub complete : NamesProgram both.names old.outside (texts (given_words args)) → MeetsNoFault old.counts new.counts → (status ≡ Done) ⊎ (status ≡ Execution)
+
 -- the exit status: that of the run, or 6 where memory was wanting
 abbrev pub exit_of : Result Status AllocError → ℕ
 exit_of (Ok status) = status_code status
 exit_of (Err e) = 6
+
+-- the process exits with the status of a run of the words that it gives, or with 6 where memory was wanting
+abbrev pub ExitsSo : ℕ → Result (IntoIter (String Global) Global) Error → Meaning → Meaning → Type 0
+ExitsSo code args old new = (ended : Result Status AllocError) × ((code ≡ exit_of ended) × IfOk ended (λ status. EndsGiven status args old new))

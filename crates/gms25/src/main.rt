@@ -5,7 +5,7 @@ ghost use Rattle.std.specs.Prelude.{◌≡◌, ◌↔◌, ◌⊎◌, IfOk};
 ghost use Rattle.std.specs.Process.{exit_status};
 ghost use Rattle.gms_words.specs.CommandLine.{texts, request_of};
 ghost use Rattle.gms_run.specs.Statuses.{CountsSo, EndsByNoFault, IsReadyFor, MeetsNoFault, NamesProgram};
-ghost use Rattle.gms25.specs.Program.{HasWords, RunsGiven, RunsWith, both, exit_of};
+ghost use Rattle.gms25.specs.Program.{EndsGiven, ExitsSo, HasWords, RunsWith, both, exit_of, given_words};
 
 use gms_host::{Host, RealHost};
 use gms_run::{Status, run};
@@ -60,7 +60,8 @@ fn run_given<H: Host>(
     args: io::Result<Args>,
     host: &mut H,
 ) -> Result<Status, AllocError>
-    ensures { IfOk result (λ status. RunsGiven status args (H.meaning host.old) (H.meaning host.new)) }
+    ensures ends { IfOk result (λ status. EndsGiven status args (H.meaning host.old) (H.meaning host.new)) }
+    ensures steady { IsReadyFor (H.meaning host.old) (texts (given_words args)) → (H.meaning host.new).counts ≡ (H.meaning host.old).counts }
 {
     let words = words(alloc, args)?;
     run_with_solvers(alloc, words.as_slice(), host)
@@ -76,8 +77,17 @@ fn exit_code(ended: Result<Status, AllocError>) -> ExitCode
     }
 }
 
+/// Runs the words that the process gives over a host, and tells the exit status of the process.
+fn run_process<H: Host>(alloc: Global, args: io::Result<Args>, host: &mut H) -> ExitCode
+    ensures exits { ExitsSo (exit_status result) args (H.meaning host.old) (H.meaning host.new) }
+    ensures steady { IsReadyFor (H.meaning host.old) (texts (given_words args)) → (H.meaning host.new).counts ≡ (H.meaning host.old).counts }
+{
+    let ended = run_given(alloc, args, host);
+    exit_code(ended)
+}
+
 fn main(rt: HostRuntime) -> ExitCode {
     let alloc = rt.alloc();
     let args = env::args(&rt);
-    exit_code(run_given(alloc, args, &mut RealHost::new(rt)))
+    run_process(alloc, args, &mut RealHost::new(rt))
 }
