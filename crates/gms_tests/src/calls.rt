@@ -1,8 +1,12 @@
 //! The calls that no run makes, on values that were worked out by hand.
+use gms_ast::{Act, Right, depth};
 use gms_eval::Binding;
+use gms_list::Listing;
+use gms_parse::parse;
 use gms_tuple::{Tuple, TupleSet};
 use gq_field::{ExactField, Tiny};
 use lp_form::{Form, FormFault, Key};
+use lp_nocycle::bound;
 use std::alloc::Global;
 use std::fmt::Write;
 use std::process::Abort;
@@ -197,4 +201,38 @@ fn bindings_of_more_and_more_sets(rt: HostRuntime) {
     // The first pair of a set counts.
     let pairs = [(4, 1), (0, 2), (4, 3)];
     assert!(rt; binding.pairs() == pairs.as_slice() && binding.label(4) == Some(1));
+}
+
+/// Sources, and the nesting of the right side of their first assignment.
+const NESTED: [(&str, Option<u32>); 4] = [
+    ("a = 1;", Some(1)),
+    ("a = 1 + 2*(3 - a);", Some(4)),
+    ("a = sum(i$(p(i+2) > 0), 1);", Some(4)),
+    ("set i;", None),
+];
+
+/// The nesting of the right side of the first assignment of a source.
+fn depth_of(alloc: Global, source: &str) -> Option<u32> {
+    let Ok(program) = parse::<Tiny>(alloc, source.as_bytes()) else {
+        return None;
+    };
+    for statement in program.statements.as_slice() {
+        if let Act::Assign { right, .. } = &statement.act {
+            let Right::Value(right) = right;
+            return Some(depth(right));
+        }
+    }
+    None
+}
+
+#[test]
+fn nestings_an_echo_and_bounds_of_pivots(rt: HostRuntime) {
+    let alloc = rt.alloc();
+    for (source, due) in &NESTED {
+        assert!(rt; depth_of(alloc, source) == *due, "{source}");
+    }
+    let mut listing = Listing::new(alloc);
+    listing.echo(alloc, b"a = 1;\r\n\nb").expect(&rt, "memory");
+    assert!(rt; listing.bytes() == b"     1  a = 1;\n     2  \n     3  b\n".as_slice());
+    assert!(rt; bound(8) == Some(512) && bound(62) == Some(1 << 63) && bound(63).is_none());
 }

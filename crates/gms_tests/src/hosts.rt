@@ -1,6 +1,6 @@
 //! That a run ends as it is due where any call of its host fails, and what a host in memory answers.
 use crate::runs::{Left, host_of, run_words};
-use gms_host::{Failed, Host, MemHost};
+use gms_host::{Failed, Host, MemHost, Spool};
 use std::alloc::Global;
 use std::process::Abort;
 
@@ -237,4 +237,17 @@ fn a_host_in_memory_opens_the_first_file_of_a_name(rt: HostRuntime) {
             "{name} {fail}"
         );
     }
+}
+
+#[test]
+fn a_spool_hands_on_a_failed_write(rt: HostRuntime) {
+    let alloc = rt.alloc();
+    let mut host = host_of(&rt, alloc, &[], &[1], 0);
+    let mut spool = Spool::new(alloc).expect(&rt, "memory");
+    host.open_out("a.lst").expect(&rt, "the output");
+    spool
+        .put(&mut host, b"ab")
+        .expect(&rt, "room for two bytes");
+    assert!(rt; matches!(spool.flush(&mut host), Err(Failed::Fault)));
+    assert!(rt; host.output().is_empty());
 }

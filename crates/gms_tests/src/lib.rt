@@ -4,11 +4,15 @@
 #[cfg(test)]
 mod calls;
 #[cfg(test)]
+mod errors;
+#[cfg(test)]
 mod greatest;
 #[cfg(test)]
 mod hosts;
 #[cfg(test)]
 mod prefixes;
+#[cfg(test)]
+mod programs;
 #[cfg(test)]
 mod runs;
 #[cfg(test)]

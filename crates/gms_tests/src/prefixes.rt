@@ -4,7 +4,7 @@ use std::alloc::Global;
 use std::process::Abort;
 
 /// The transport model: two plants, three markets, and the cheapest plan.
-const TRANSPORT: &str = "\
+pub(crate) const TRANSPORT: &str = "\
 sets
      i   canning plants   / seattle, san-diego /
      j   markets          / new-york, chicago, topeka / ;

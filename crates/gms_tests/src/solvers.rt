@@ -1,4 +1,5 @@
 //! That a run takes the solver which its source chooses, whatever its rule, and that no other one is asked.
+use crate::prefixes::TRANSPORT;
 use crate::runs::{Left, run_words};
 use std::alloc::Global;
 use std::process::Abort;
@@ -8,6 +9,9 @@ type Row<'a> = (&'a [&'a str], &'a str, &'a str, &'a str, &'a str);
 
 /// Bland's solver is the first.
 const BOTH: &[&str] = &["bland", "greatest"];
+
+/// Bland's solver alone.
+const BLAND: &[&str] = &["bland"];
 
 /// A model whose objective has no end along x and along y.
 const TWO_WAYS: &str =
@@ -57,7 +61,7 @@ const CYCLING: &str =
     "option limrow = 0, limcol = 0, solprint = off; positive variables x1, x2, x3, x4; variable z; equations obj, r1, r2, r3; obj.. z =e= 10*x1 - 57*x2 - 9*x3 - 24*x4; r1.. 0.5*x1 - 5.5*x2 - 2.5*x3 + 9*x4 =l= 0; r2.. 0.5*x1 - 1.5*x2 - 0.5*x3 + x4 =l= 0; r3.. x1 =l= 1; model m /all/;";
 
 /// Sources that choose a solver, or two in turn. Where they do not, the first of the list answers.
-const ROWS: [Row<'static>; 8] = [
+const ROWS: [Row<'static>; 15] = [
     (
         BOTH,
         TWO_WAYS,
@@ -115,6 +119,55 @@ const ROWS: [Row<'static>; 8] = [
         "x.lo = 3; x.up = 2; solve m using lp maximizing z;",
         CROSSED,
         "greatest |\n",
+    ),
+    (
+        BLAND,
+        TRANSPORT,
+        "",
+        "OBJECTIVE 153.675\n",
+        "bland | 0>13 1>14 2>15 3>11 4>10 6>4 7>3 4>0\n",
+    ),
+    (
+        BLAND,
+        "variables x, z; equations lim, need, obj; lim.. x =l= 1; need.. x =g= 2; obj.. z =e= x; model m /all/;",
+        "solve m using lp minimizing z;",
+        "PROOF Infeasible\n  row lim = -1/2\n  row need = 1/2\n  bound 1/2\n",
+        "bland | 0>6 1>8 3>5\n",
+    ),
+    (
+        BLAND,
+        "positive variable x; variable z; equation obj; obj.. z =e= x; model m /all/;",
+        "solve m using lp maximizing z;",
+        "PROOF Unbounded\n  ray x = 1\n  ray z = 1\n",
+        "bland | 2>4\n1/1 1/1 \n",
+    ),
+    (
+        BLAND,
+        CAPPED,
+        "option iterlim = 0; solve m using lp maximizing z;",
+        "PROOF Interrupted\n  phase 2 pivots 0\nEND",
+        "bland |\n",
+    ),
+    (
+        BLAND,
+        "positive variable x; variable z; equations cap, obj; scalar d; cap.. x =l= d; obj.. z =e= x; model m /all/; set k /1*3/; parameters r(k), s(k);",
+        "loop(k, d = 4*ord(k); solve m using lp maximizing z; r(k) = x.l; s(k) = m.modelstat;); display r, s;",
+        "PARAMETER r\n  1          4.000\n  2          8.000\n  3         12.000\n",
+        "bland | 2>5 1>4 | 2>5 1>4 | 2>5 1>4\n",
+    ),
+    (
+        BLAND,
+        "positive variable x; variable z; equations cap, obj; cap.. x =l= 4; obj.. z =l= x; model m /all/;",
+        "x.lo = 1; option iterlim = 1; solve m using lp maximizing z;",
+        "PROOF Interrupted\n  phase 2 pivots 1\n  point x = 1\n  point z = 1\n",
+        "bland | 2>5\n",
+    ),
+    (
+        BLAND,
+        "positive variable x; variable z; equation obj; obj.. z =l= x; model m /all/;",
+        "x.lo = 2; solve m using lp maximizing z;",
+        "PROOF Unbounded\n  point x = 2\n  point z = 2\n  ray x = 1\n  ray z = 1\n",
+        "bland | 2>4\n1/1 1/1 \n",
     ),
 ];
 
