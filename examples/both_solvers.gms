@@ -33,10 +33,12 @@ sell.up("premium") = 120 ;
 model plan /all/ ;
 option limrow = 0, limcol = 0 ;
 solve plan using lp maximizing profit ;
+abort$(plan.modelstat <> 1) "no plan" ;
 scalar at_first ;
 at_first = profit.l ;
 
 option lp = dantzig ;
 solve plan using lp maximizing profit ;
+abort$(plan.modelstat <> 1) "no plan" ;
 abort$(profit.l <> at_first) "the solvers differ" ;
 display at_first, buy.l, sell.l, time.m ;

@@ -23,6 +23,7 @@ eat.up(f)$most(f) = most(f) ;
 model day /all/ ;
 option limrow = 10, limcol = 0 ;
 solve day using lp minimizing bill ;
+abort$(day.modelstat <> 1) "no food" ;
 parameter got(n) ;
 got(n) = enough.l(n) ;
 option decimals = 4 ;

@@ -30,6 +30,7 @@ flow.up(h) = line ;
 model day /all/ ;
 option limrow = 2, limcol = 1 ;
 solve day using lp minimizing cost ;
+abort$(day.modelstat <> 1) "no plan" ;
 parameter price(n,h) ;
 price(n,h) = balance.m(n,h) ;
 display run.l, flow.l, price ;

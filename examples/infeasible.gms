@@ -21,8 +21,10 @@ demand(j)..  sum(i, x(i,j)) =g= need(j) ;
 model ship /all/ ;
 option limrow = 5, limcol = 0 ;
 solve ship using lp minimizing cost ;
+abort$(ship.modelstat <> 4) "the listing was to say that no plan exists" ;
 
 * With what is missing bought from elsewhere there is a plan.
 cap("south") = cap("south") + 15 ;
 solve ship using lp minimizing cost ;
+abort$(ship.modelstat <> 1) "no plan" ;
 display ship.modelstat, x.l ;

@@ -19,6 +19,7 @@ make.up(t) = size ;
 model plan /all/ ;
 option limrow = 3, limcol = 0 ;
 solve plan using lp minimizing cost ;
+abort$(plan.modelstat <> 1) "no plan" ;
 
 * What stands in store by adding up, month after month: it is what the plan says.
 parameter adds(t), off(t) ;

@@ -12,8 +12,10 @@ storage..  keep =l= 30 ;
 model trade /all/ ;
 option limcol = 0 ;
 solve trade using lp maximizing profit ;
+abort$(trade.modelstat <> 3) "the listing was to say that the profit has no end" ;
 
 * With the trucks that there are the profit has an end.
 buy.up = 200 ;
 solve trade using lp maximizing profit ;
+abort$(trade.modelstat <> 1) "no plan" ;
 display buy.l, sell.l, keep.l, profit.l ;

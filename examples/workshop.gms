@@ -7,3 +7,4 @@ hours..   bench + 2*desk =l= 14;
 planks..  3*bench + desk =l= 15;
 model shop /all/;
 solve shop using lp maximizing profit;
+abort$(shop.modelstat <> 1) "no plan";

@@ -1,0 +1,1 @@
+autocmd BufNewFile,BufRead *.gms setfiletype gams25
