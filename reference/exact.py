@@ -1,0 +1,57 @@
+"""Exact numbers whose parts have a limit (docs/NUMBERS.md, "What a number is").
+
+A number is a fraction in lowest terms. Each step is taken exactly. Where its result does not fit,
+`step` raises `DoesNotFit`, and nothing is ever rounded.
+"""
+from fractions import Fraction
+from math import gcd
+
+LIMIT = 2 ** 127 - 1
+
+
+class DoesNotFit(Exception):
+    """A step whose result, or a number on the way to it, is over the limit."""
+
+
+def is_within(*numbers: int) -> bool:
+    """Whether no magnitude is over the limit."""
+    return all(-LIMIT <= number <= LIMIT for number in numbers)
+
+
+def fitting(value: Fraction) -> Fraction:
+    """The value, where both parts are within the limit: the rule of a product, a quotient and a
+    power.
+    """
+    if not is_within(value.numerator, value.denominator):
+        raise DoesNotFit
+    return value
+
+
+def total(left: Fraction, right: Fraction) -> Fraction:
+    """The sum of a/b and c/d, where a(d/g), c(b/g), their sum t and (b/g)(d/h) are within the
+    limit; g is gcd(b, d), h is gcd(t, g).
+    """
+    a, b, c, d = left.numerator, left.denominator, right.numerator, right.denominator
+    g = gcd(b, d)
+    first, second = a * (d // g), c * (b // g)
+    both = first + second
+    h = gcd(both, g)
+    below = (b // g) * (d // h)
+    if not is_within(first, second, both, below):
+        raise DoesNotFit
+    return Fraction(both // h, below)
+
+
+def step(symbol: str, left: Fraction, right: Fraction) -> Fraction:
+    """One step, `+`, `-`, `*` or `/`, of two numbers. The right operand of `/` is not 0."""
+    if symbol == '+':
+        return total(left, right)
+    if symbol == '-':
+        return total(left, -right)
+    return fitting(left * right if symbol == '*' else left / right)
+
+
+def text(value: Fraction) -> str:
+    """The number exactly: `n`, or `n/d` in lowest terms (docs/NUMBERS.md, "How a number is shown").
+    """
+    return str(value)

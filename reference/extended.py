@@ -1,0 +1,201 @@
+"""Values that may be infinite or NA, and the steps on them (docs/NUMBERS.md, "Infinity and NA").
+
+A value is a `Fraction` or one of `INF`, `MINUS_INF` and `NA`. A step without a result raises
+`StepFault`.
+"""
+from enum import Enum
+from fractions import Fraction
+from typing import Callable, Union
+
+from reference.exact import DoesNotFit, step, text
+from reference.texts import rounded
+
+
+class Special(Enum):
+    """What is no number."""
+    INF = '+INF'
+    MINUS_INF = '-INF'
+    NA = 'NA'
+
+
+INF, MINUS_INF, NA = Special.INF, Special.MINUS_INF, Special.NA
+ZERO, ONE = Fraction(0), Fraction(1)
+Value = Union[Fraction, Special]
+
+# Kinds of execution errors (docs/LANGUAGE.md, "Execution errors").
+LIMIT, DIVIDE, LAG_NOT_WHOLE, EMPTY_EXTREME, EXPONENT, DOMAIN_SIZE = 1, 2, 3, 4, 5, 7
+TOO_MANY_ROWS, TOO_MANY_COLUMNS, NO_SOLVER, ABORTED, UNDEFINED = 8, 9, 10, 11, 12
+
+LARGEST_EXPONENT = 1024
+
+
+class StepFault(Exception):
+    """A step without a result; `kind` is the number of its execution error."""
+
+    def __init__(self, kind: int) -> None:
+        super().__init__(kind)
+        self.kind = kind
+
+
+def number_step(symbol: str, left: Fraction, right: Fraction) -> Fraction:
+    try:
+        return step(symbol, left, right)
+    except DoesNotFit:
+        raise StepFault(LIMIT) from None
+
+
+def sign_of(x: Value) -> int:
+    """1, 0 or -1; not of NA."""
+    if isinstance(x, Special):
+        return 1 if x is INF else -1
+    return (x > 0) - (x < 0)
+
+
+def infinity(sign: int) -> Special:
+    return INF if sign > 0 else MINUS_INF
+
+
+def negated(x: Value) -> Value:
+    if isinstance(x, Special):
+        return {INF: MINUS_INF, MINUS_INF: INF, NA: NA}[x]
+    return -x
+
+
+def added(x: Value, y: Value) -> Value:
+    if NA in (x, y):
+        return NA
+    if isinstance(x, Special):
+        if isinstance(y, Special) and y is not x:
+            raise StepFault(UNDEFINED)
+        return x
+    return y if isinstance(y, Special) else number_step('+', x, y)
+
+
+def subtracted(x: Value, y: Value) -> Value:
+    return added(x, negated(y))
+
+
+def multiplied(x: Value, y: Value) -> Value:
+    if NA in (x, y):
+        return NA
+    if isinstance(x, Special) or isinstance(y, Special):
+        sign = sign_of(x) * sign_of(y)
+        if sign == 0:
+            raise StepFault(UNDEFINED)
+        return infinity(sign)
+    return number_step('*', x, y)
+
+
+def divided(x: Value, y: Value) -> Value:
+    """Anything over the number 0 is the fault `Divide`, NA over 0 too."""
+    if y == 0:
+        raise StepFault(DIVIDE)
+    if NA in (x, y):
+        return NA
+    if isinstance(y, Special):
+        if isinstance(x, Special):
+            raise StepFault(UNDEFINED)
+        return ZERO
+    return infinity(sign_of(x) * sign_of(y)) if isinstance(x, Special) else number_step('/', x, y)
+
+
+def power(x: Value, n: Value) -> Value:
+    """The product for every whole exponent of at most 1,024 in magnitude."""
+    if isinstance(n, Special) or n.denominator != 1 or abs(n) > LARGEST_EXPONENT:
+        raise StepFault(EXPONENT)
+    if n == 0:
+        return ONE
+    if x is NA:
+        return NA
+    if isinstance(x, Special):
+        return ZERO if n < 0 else infinity(1 if x is INF or n % 2 == 0 else -1)
+    if x == 0:
+        if n < 0:
+            raise StepFault(DIVIDE)
+        return ZERO
+    return fitting_power(x, int(n))
+
+
+def fitting_power(x: Fraction, n: int) -> Fraction:
+    """The power of a number that is not 0; it fits where both of its parts do."""
+    if max(abs(x.numerator), x.denominator) > 1 and abs(n) >= 127:
+        raise StepFault(LIMIT)
+    return number_step('*', x ** n, ONE)
+
+
+def truncated(x: Fraction) -> Fraction:
+    return Fraction(abs(x.numerator) // x.denominator * sign_of(x))
+
+
+def modulo(x: Value, y: Value) -> Value:
+    """x - y*trunc(x/y), by these four steps."""
+    return subtracted(x, multiplied(y, whole(truncated)(divided(x, y))))
+
+
+def whole(rounding: Callable[[Fraction], Fraction]) -> Callable[[Value], Value]:
+    """A rounding, which keeps infinities and NA."""
+    return lambda x: x if isinstance(x, Special) else rounding(x)
+
+
+def nearest(x: Fraction) -> Fraction:
+    """The nearest whole number, from the middle of two away from zero."""
+    return Fraction((2 * abs(x.numerator) + x.denominator) // (2 * x.denominator) * sign_of(x))
+
+
+def magnitude(x: Value) -> Value:
+    return NA if x is NA else INF if isinstance(x, Special) else abs(x)
+
+
+def signum(x: Value) -> Value:
+    return NA if x is NA else Fraction(sign_of(x))
+
+
+def is_less(x: Value, y: Value) -> bool:
+    """The order; nothing is less than NA, nor NA than anything."""
+    if NA in (x, y) or x == y:
+        return False
+    if isinstance(x, Special) or isinstance(y, Special):
+        return x is MINUS_INF or y is INF
+    return x < y
+
+
+def lesser(x: Value, y: Value) -> Value:
+    return NA if NA in (x, y) else y if is_less(y, x) else x
+
+
+def greater(x: Value, y: Value) -> Value:
+    return NA if NA in (x, y) else y if is_less(x, y) else x
+
+
+RELATIONS: dict[str, Callable[[Value, Value], bool]] = {
+    '<': is_less,
+    '<=': lambda x, y: is_less(x, y) or (x == y and x is not NA),
+    '=': lambda x, y: x == y,
+    '<>': lambda x, y: x != y,
+    '>=': lambda x, y: is_less(y, x) or (x == y and x is not NA),
+    '>': lambda x, y: is_less(y, x),
+}
+
+FUNCTIONS: dict[str, Callable[..., Value]] = {
+    'abs': magnitude,
+    'sign': signum,
+    'sqr': lambda x: multiplied(x, x),
+    'floor': whole(lambda x: Fraction(x.numerator // x.denominator)),
+    'ceil': whole(lambda x: Fraction(-(-x.numerator // x.denominator))),
+    'trunc': whole(truncated),
+    'round': whole(nearest),
+    'mod': modulo,
+    'power': power,
+    'min': lesser,
+    'max': greater,
+}
+
+
+def shown(x: Value, decimals: int = 3) -> str:
+    """The text of a value in displays: with decimals, or `+INF`, `-INF` or `NA`."""
+    return x.value if isinstance(x, Special) else rounded(x, decimals)
+
+
+def exactly(x: Value) -> str:
+    """The text of a value in saves: `n`, `n/d`, `+INF`, `-INF` or `NA`."""
+    return x.value if isinstance(x, Special) else text(x)
