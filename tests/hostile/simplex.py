@@ -1,4 +1,4 @@
-"""The dictionary simplex method over Python's fractions, with the limit of numbers, as docs/SOLVER.md says it and by the plainest means.
+"""The dictionary simplex method over Python's fractions, with the limit of numbers, as docs/internals/SOLVER.md says it and by the plainest means.
 
 It stands apart from the program: `solves` compares what both make of the same linear programs.
 """

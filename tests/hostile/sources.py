@@ -2,7 +2,7 @@
 words, saves."""
 import os
 
-from hostile import FILE, TOP, Run, read
+from hostile import FILE, NO_MEMORY, TOP, Run, read
 
 LONG = 64                        # one byte more than a name or a label may have
 LINE = 32_769                    # one byte more than a line may have
@@ -129,6 +129,15 @@ def saves(program, outcome):
     yield Run('restart', files, 0, b'3.500', ('--restart', 'a.sav', 'b.gms'))
     broken = {**files, 'a.sav': files['a.sav'][:-2]}
     yield Run('restart_of_no_save', broken, 2, b'41 SaveShape', ('--restart', 'a.sav', 'b.gms'))
+
+
+def large_lists():
+    """Sources of at most a megabyte whose lists ask for gigabytes: by ranges, and by lists in parentheses of sets and of parameters."""
+    element = '.'.join(['(a,b,c,d)'] * 10)
+    for name, form, count in (('ranges', 'set i%d /x1*x65536/;', 40_000),
+                              ('sets', 'set s%%d(%s) /%s/;' % (','.join('*' * 10), element), 7_500),
+                              ('parameters', 'parameter p%%d(%s) /%s 1/;' % (','.join('*' * 10), element), 7_000)):
+        yield run('large_lists_of_' + name, '\n'.join(form % k for k in range(count)), NO_MEMORY)
 
 
 def all_runs(program, outcome, only):
