@@ -16,7 +16,8 @@ use Rattle.gms_exec.specs.Answering.{AreAnswered}
 use Rattle.gms_parse.specs.Outcomes.{IsProgram}
 use Rattle.gms_run.specs.Solving.{Solving, number_limit, numbers_of}
 use Rattle.gms_run.specs.Scripts.{Script, Matter, Taken, from_start, from_save, scripted, unrestored, script_of, IsMatter, errors_of}
-use Rattle.gms_run.specs.Jobs.{Job, job_of, course_of, job_text, body_of, last_line, IsSolved, HaltsSo, status_code}
+use Rattle.gms_run.specs.Laws.{RunIsAnsweredRightly}
+use Rattle.gms_run.specs.Jobs.{HasRightAnswers, Job, job_of, course_of, job_text, body_of, last_line, IsSolved, HaltsSo, status_code}
 use Rattle.gms_run.specs.Listings.{AreClosing, IsExecuted, IsJob, IsListing, IsRefused, ShowsWhy, save_file}
 use Rattle.gms_run.specs.Statuses.{IsFileOf, IsReported, IsRun, IsRunOf, IsTaken, RanSo, with_file, with_save, with_source, with_taken}
 use Rattle.gms_run.specs.Headline.{HasListing, IsListingOf, IsRunListing, WritesListing, file_alone, run_of}
@@ -41,8 +42,8 @@ one_script e = cc
 
 module _ (solving : Solving) (source : List ℕ) (text : List ℕ) where
   -- the job of a source is its program from the state of its declarations
-  executed : (status : Status) (run : IsExecuted solving (scripted (script_of source)) text) → HaltsSo status (course_of run.job solving).halted → IsRunListing status solving source text
-  executed status run halts =
+  executed : RunIsAnsweredRightly solving → (status : Status) (run : IsExecuted solving (scripted (script_of source)) text) → HaltsSo status (course_of run.job solving).halted → IsRunListing status solving source text
+  executed right status run halts =
       let same : run.is_job.script ≡ script_of source = one_script (sym run.is_job.to_run) in
       let is : run.job ≡ job_of (script_of source) run.job.program = run.is_job.is_job ∙ ap (λ s. job_of s run.job.program) same in
       let ends : HaltsSo status (run_of run.job.program solving).halted = subst (λ j. HaltsSo status (course_of j solving).halted) is halts in
@@ -53,6 +54,7 @@ module _ (solving : Solving) (source : List ℕ) (text : List ℕ) where
         no_error = subst (λ (s : Script). errors_of s.saved s.line run.job.program solving.before.names ≡ []) same run.is_job.accepted.no_error;
         all_taken = subst (λ j. (course_of j solving).left ≡ []) is run.solved.all_taken;
         answered = subst (λ j. AreAnswered frac_value number_limit solving.before.rules solving.answers (course_of j solving).events) is run.solved.answered;
+        says_so = subst (λ j. HasRightAnswers j solving) is (right (from_start source) (scripted (script_of source)) text refl run);
         ends = ends;
         listing = run.listing ∙ ap (λ j. job_text j solving) is
             ∙ ap (λ t. body_of (job_of (script_of source) run.job.program) solving ++ t) (ends_with status (run_of run.job.program solving).halted (length solving.answers) ends ∙ ap (end_text (status_code status)) count);
@@ -63,13 +65,13 @@ module _ (solving : Solving) (source : List ℕ) (text : List ℕ) where
   refused (inr errors, none) = (inr (record { program = errors.program; is_program = errors.is_program; some = errors.some; listing = errors.listing }), none)
 
   -- what is listed of a source by its script is its listing
-  of_source : (status : Status) → IsListing status solving (scripted (script_of source)) text → IsListingOf status solving source text
-  of_source Done is = executed Done is.0 is.1
-  of_source Execution is = executed Execution is.0 is.1
-  of_source Compile is = refused is
-  of_source Usage is = absurd is
-  of_source ReadFault is = absurd is
-  of_source WriteFault is = absurd is
+  of_source : RunIsAnsweredRightly solving → (status : Status) → IsListing status solving (scripted (script_of source)) text → IsListingOf status solving source text
+  of_source right Done is = executed right Done is.0 is.1
+  of_source right Execution is = executed right Execution is.0 is.1
+  of_source right Compile is = refused is
+  of_source right Usage is = absurd is
+  of_source right ReadFault is = absurd is
+  of_source right WriteFault is = absurd is
 
 -- ---- the whole
 
@@ -114,14 +116,14 @@ module _ (status : Status) (solving : Solving) (old new : Outside) (file output 
       by (from_save save source) matter is_source same ran = absurd is_source
 
 -- where the words request a FILE alone, and a listing was written whole, it is the listing of the source in that file
-pub headlined : (status : Status) (solving : Solving) (words : List (List ℕ)) (old new : Meaning) (file output : List ℕ) → IsRun status solving words old new → request_of words ≡ Some (file_alone file output) → HasListing status →
+pub headlined : (status : Status) (solving : Solving) (words : List (List ℕ)) (old new : Meaning) (file output : List ℕ) → RunIsAnsweredRightly solving → IsRun status solving words old new → request_of words ≡ Some (file_alone file output) → HasListing status →
     WritesListing status solving old.outside new.outside file output
-headlined Done solving words old new file output run named has =
-    of_run Done solving old.outside new.outside file output (λ source text. of_source solving source text Done) (λ outside matter ran. ran) (run_is (one_request run.1.0 named) run.1.1)
-headlined Execution solving words old new file output run named has =
-    of_run Execution solving old.outside new.outside file output (λ source text. of_source solving source text Execution) (λ outside matter ran. ran) (run_is (one_request run.1.0 named) run.1.1)
-headlined Compile solving words old new file output run named has =
-    of_run Compile solving old.outside new.outside file output (λ source text. of_source solving source text Compile) (λ outside matter ran. ran) (run_is (one_request run.1.0 named) run.1.1)
-headlined Usage solving words old new file output run named has = absurd has
-headlined ReadFault solving words old new file output run named has = absurd has
-headlined WriteFault solving words old new file output run named has = absurd has
+headlined Done solving words old new file output right run named has =
+    of_run Done solving old.outside new.outside file output (λ source text. of_source solving source text right Done) (λ outside matter ran. ran) (run_is (one_request run.1.0 named) run.1.1)
+headlined Execution solving words old new file output right run named has =
+    of_run Execution solving old.outside new.outside file output (λ source text. of_source solving source text right Execution) (λ outside matter ran. ran) (run_is (one_request run.1.0 named) run.1.1)
+headlined Compile solving words old new file output right run named has =
+    of_run Compile solving old.outside new.outside file output (λ source text. of_source solving source text right Compile) (λ outside matter ran. ran) (run_is (one_request run.1.0 named) run.1.1)
+headlined Usage solving words old new file output right run named has = absurd has
+headlined ReadFault solving words old new file output right run named has = absurd has
+headlined WriteFault solving words old new file output right run named has = absurd has

@@ -13,6 +13,7 @@ pub mod Loading
 pub mod Numbered
 pub mod Passed
 pub mod Paths
+pub mod Planned
 pub mod Proved
 pub mod Reports
 pub mod Rest

@@ -11,6 +11,7 @@ use Rattle.gms_check.specs.CompileErrors.{compile_errors}
 use Rattle.gms_check.specs.Loaded.{loaded}
 use Rattle.gms_exec.specs.Answering.{AreAnswered}
 use Rattle.gms_exec.specs.Run.{Course, run_from, all_events}
+use Rattle.gms_plans.specs.Moments.{AnswersAreSo}
 use Rattle.gms_list.specs.ListingText.{run_listing, errors_listing, refused_listing}
 use Rattle.gms_host.specs.Meaning.{Outside}
 use Rattle.gms_host.specs.Rules.{with_said}
@@ -44,13 +45,15 @@ pub record IsErrorListing (solvers : List (List ℕ)) (source text : List ℕ) :
   pub listing : text ≡ errors_listing 1 source (compile_errors frac_value program solvers)
 
 -- The source is a program without errors: its run takes all answers, each solve has an answer of the linear program that its
--- model means at that point, the run ends as the status says, and the listing has what it shows.
+-- model means at that point, what each answer says of plans is so, the run ends as the status says, and the listing has what it
+-- shows.
 pub record IsRunListing (status : Status) (solving : Solving) (source text : List ℕ) : Type 0 where
   pub program : Program Frac
   pub is_program : IsProgram number_limit source frac_value program
   pub no_error : compile_errors frac_value program solving.before.names ≡ []
   pub all_taken : (run_of program solving).left ≡ []
   pub answered : AreAnswered frac_value number_limit solving.before.rules solving.answers (run_of program solving).events
+  pub says_so : AnswersAreSo frac_value number_limit (record { program = program; solvers = solving.before.names }) (loaded frac_value program) program.statements.items solving.answers
   pub ends : HaltsSo status (run_of program solving).halted
   pub listing : text ≡ run_listing program.names program.labels number_limit 1 source (numbers_of solving.answers) (all_events (run_of program solving)) (status_code status)
 

@@ -8,6 +8,7 @@ use Rattle.gms_store.specs.State.{State}
 use Rattle.gms_eval.specs.Faults.{Fault}
 use Rattle.gms_exec.specs.Answering.{AreAnswered}
 use Rattle.gms_exec.specs.Run.{Course, Halt, stopped, waiting, run_from, all_events}
+use Rattle.gms_plans.specs.Moments.{AnswersAreSo}
 use Rattle.gms_list.specs.ListingText.{echo_text, events_text, end_text}
 use Rattle.gms_run.specs.declared.status.Status.{Status}
 use Rattle.gms_run.specs.declared.status.Status.TheVariants.{Done, Usage, Compile, Execution, ReadFault, WriteFault}
@@ -50,6 +51,11 @@ pub record IsSolved (job : Job) (solving : Solving) : Type 0 where
   pub answered : AreAnswered frac_value number_limit solving.before.rules solving.answers (course_of job solving).events
   pub ended : SearchesEnd solving.before.rules solving.answers (course_of job solving).events
   pub grown : HaveGrown solving.before solving.after solving.answers (course_of job solving).events
+
+-- each answer of a job's run is right: what it says is so of the model as it is written, with the data of the moment of its solve
+abbrev pub HasRightAnswers : Job → Solving → Type 0
+HasRightAnswers job solving =
+    AnswersAreSo frac_value number_limit (record { program = job.program; solvers = solving.before.names }) job.state job.statements solving.answers
 
 -- the number of a status
 abbrev pub status_code : Status → ℕ

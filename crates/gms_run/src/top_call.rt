@@ -7,12 +7,14 @@ ghost use Rattle.gms_words.specs.CommandLine.{texts, request_of, asked_by, in_fi
 ghost use Rattle.gms_run.specs.Headline.{HasListing, WritesListing, file_alone};
 ghost use Rattle.gms_run.specs.InnerReports.{CanGoOn, CountsMention, CountsRun, EndsAs, IsSoundMatter, RanBehind, RanOf, matter_in};
 ghost use Rattle.gms_run.specs.InnerSteps.{ComesTo};
+ghost use Rattle.gms_run.specs.Laws.{RunIsAnsweredRightly};
 ghost use Rattle.gms_run.specs.Scripts.{first_line, from_save, joint_script, joint_source, script_of, scripted};
 ghost use Rattle.gms_run.specs.Solving.{solving};
 ghost use Rattle.gms_run.specs.Statuses.{CanRun, CountsSo, EndsByNoFault, HasOrigin, IsReadyFor, IsReported, IsRun, IsWriteFault, MeetsNoFault, NamesProgram, NamesSource, OfRequest, RanSo, SaysLine};
 
 use crate::closing::{push_closing, write_save};
 use crate::execution::Run;
+use crate::laws::answer_laws;
 use crate::report::report;
 use crate::restart::restored;
 use crate::script::{Matter, Script, first_line, joint_source};
@@ -379,7 +381,8 @@ fn run_words<H: Host>(
 /// statement was executed, the last state is written to that file, after the output is closed and before the closing lines
 /// (docs/SAVES.md; GAMS User's Guide, "Save and Restart"). `restore` gives this state back, unless the save is too long.
 ///
-/// `headline` is the promise for a FILE alone: the listing is that of its source, and nothing else changes outside.
+/// `headline` is the promise for a FILE alone: the listing is that of its source, what each answer says of plans is so, and
+/// nothing else changes outside. `answers` says the second of every run.
 /// `run` says the same of every request, and what the other statuses mean. Done and Execution: the source is accepted, its run
 /// takes all answers, each of which answers its linear program, and the listing is the text of that run. Compile: the source
 /// is refused, or the save cannot be restored, and the listing says why. Usage: the arguments request no source. ReadFault: a
@@ -405,6 +408,9 @@ pub fn run<H: Host>(
     // The same for all words, saves and restarts, and what the other statuses mean.
     ensures run { IfOk result (λ ended. IsRun ended.status (solving name rule paths solvers.old.items solvers.new.items ended.answers.items) (texts words.now) (H.meaning host.old) (H.meaning host.new)) }
 
+    // What each answer says of plans is so, in the run of whatever was executed, from its start or from a save.
+    ensures answers { IfOk result (λ ended. RunIsAnsweredRightly (solving name rule paths solvers.old.items solvers.new.items ended.answers.items)) }
+
     // A fault is answered only where one of its kind was counted, and a ready host counts none and ends by none.
     ensures counts { IfOk result (λ ended. CountsSo ended.status (H.meaning host.old).counts (H.meaning host.new).counts) }
     ensures steady { IsReadyFor (H.meaning host.old) (texts words.now) → (H.meaning host.new).counts ≡ (H.meaning host.old).counts }
@@ -418,5 +424,6 @@ pub fn run<H: Host>(
 {
     let mut answers = Vec::new(alloc);
     let status = run_words(alloc, words, host, solvers, &mut answers)?;
+    answer_laws();
     Ok(Ended { status, answers })
 }

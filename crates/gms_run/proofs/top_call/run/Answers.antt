@@ -6,7 +6,10 @@ pub returns-in_err-status-clause-steady : goal.returns-in_err-status-clause-stea
 returns-in_err-status-clause-steady g c = λ ready. c.in_err-status.ensures.counts.stay ready
 
 pub returns-clause-headline : goal.returns-clause-headline
-returns-clause-headline g c = λ file output. headlined c.in_ok-status.status _ _ _ _ file output c.in_ok-status.ensures.ran
+returns-clause-headline g c = λ file output. headlined c.in_ok-status.status _ _ _ _ file output (c.answer_laws.ensures _) c.in_ok-status.ensures.ran
+
+pub returns-clause-answers : goal.returns-clause-answers
+returns-clause-answers g c = c.answer_laws.ensures _
 
 pub returns-clause-run : goal.returns-clause-run
 returns-clause-run g c = c.in_ok-status.ensures.ran
