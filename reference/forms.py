@@ -96,7 +96,7 @@ class Forms(Evaluator):
                 left = self.step(STEPS[operator], (left, self.value(operand, binding)), operand.start, binding)
                 continue
             if not isinstance(left, Form):
-                left = Form(self.number(left, e.start, binding))
+                left = Form(self.number(left, first.start, binding))
             left = self.joined(operator, left, operand, binding)
         return left
 
