@@ -141,6 +141,16 @@ def stalling(draw: Draw) -> str:
     return text + settings(draw) + 'solve m using lp %s z; display z.l, x1.l;' % draw.pick(['maximizing', 'maximizing', 'minimizing'])
 
 
+def turning(draw: Draw, extra: int) -> str:
+    """The example that cycles, with so many columns beside it, which put off the turn to Bland."""
+    columns = ['y%d' % it for it in range(extra)]
+    text = 'positive variables %s; variable z;\n' % ', '.join(['x1', 'x2', 'x3', 'x4'] + columns)
+    text += 'equations obj, r1, r2, r3;\nobj.. z =e= 10*x1 - 57*x2 - 9*x3 - 24*x4;\n'
+    text += 'r1.. 0.5*x1 - 5.5*x2 - 2.5*x3 + 9*x4 =l= 0;\nr2.. 0.5*x1 - 1.5*x2 - 0.5*x3 + x4 =l= 0;\n'
+    text += 'r3.. %s =l= %d;\n' % (' + '.join(['x1'] + columns), draw.between(1, 5))
+    return text + 'model m /all/; option lp = dantzig;\nsolve m using lp maximizing z; display z.l, x1.l;'
+
+
 def first_phase_stall(draw: Draw) -> str:
     """A program whose first phase is degenerate: many rows through one point, some of which that
     point breaks at first.
@@ -209,7 +219,7 @@ WHOLE = [
     'positive variables x, y; variable z; equations obj, r1, r2, r3; obj.. z =e= x + y; r1.. 1e38*x + 1e38*y =n= 0; r2.. x =l= 1; r3.. y =l= 1;',
     'positive variables x, y; variable z; equations obj, r1, r2; obj.. z =e= x + y; r1.. 3*x =l= 0; r2.. y =l= 5; x.up = 1e38;',
     'positive variables x, y; variable z; equations obj, r1, r2; r1.. 1e19*x + y =l= 1e-20; r2.. x =g= 1; obj.. z =e= x; y.lo = 1e-20;',
-    'positive variables x, y; variable z; equations r1, r2, obj; r1.. 3e18*x + y =l= 1e-20; r2.. x =g= 3; obj.. z =e= x; y.lo = 1e-20;',
+    'positive variables x, y; variable z; equations r1, r2, obj; r1.. x =l= -1.5e38; r2.. y =l= 3; obj.. z =e= x; x.lo = 1.5e38;',
     'positive variables x, y; variable z; equations r0, obj, r1, r2; r0.. 2*x + y =n= 3; r1.. 1e19*x + y =l= 1e-20; r2.. x =g= 1; obj.. z =e= x; y.lo = 1e-20;',
     'variables x, y, z; equations obj, r1, r2; obj.. z =e= x; r1.. x/2 + 0*y =l= 9e37; r2.. y =e= x/3; x.up = -1e38;',
     'positive variables x, y; variable z; equations obj, r1, r2; obj.. z =e= x; r1.. x/2 + 1e38*y =l= 1; r2.. y =l= 3;',

@@ -151,6 +151,8 @@ def scenario(seed: int) -> Scenario:
         return solved(draw)
     if kind < 9:
         text = models.whole(draw, turn) if kind == 8 else models.refused(draw, turn)
+        if kind == 7 and turn % 3 == 2:
+            text = models.turning(draw, turn // 3 % 7)
         return one(draw, text, ['--ranges', 'a.gms'])
     if kind < 12:
         return changed(draw)
