@@ -18,9 +18,7 @@ use Rattle.gms_rows.specs.Affine.{is_variable}
 use Rattle.gms_exec.specs.Elements.{IsElement}
 use Rattle.gms_exec.specs.Run.{World}
 use Rattle.lp_form.specs.declared.key.Key.{Key}
-use Rattle.gms_joint.specs.Reached.{IsReached}
-use Rattle.gms_joint.proofs.Lasting.{loaded-lasts}
-use Rattle.gms_joint.proofs.Reaching.{reached-stays}
+use Rattle.gms_joint.proofs.Lasting.{IsLasting}
 
 -- ---- kinds
 
@@ -44,10 +42,10 @@ variable-word (equation_of entries) = refl
 variable-word (model_with m s) = refl
 
 -- a symbol of which nothing is given
-abbrev blanked : Symbol → Symbol
+abbrev pub blanked : Symbol → Symbol
 blanked symbol = with_content symbol (emptied symbol.content)
 
-blanked-at : (symbols : List Symbol) (n : ℕ) → unwrap_or (slice_get (map blanked symbols) n) no_symbol ≡ blanked (unwrap_or (slice_get symbols n) no_symbol)
+pub blanked-at : (symbols : List Symbol) (n : ℕ) → unwrap_or (slice_get (map blanked symbols) n) no_symbol ≡ blanked (unwrap_or (slice_get symbols n) no_symbol)
 blanked-at [] n = refl
 blanked-at (s ∷ symbols) zero = refl
 blanked-at (s ∷ symbols) (suc n) = blanked-at symbols n
@@ -60,7 +58,7 @@ same-kinds a b same n =
     ∙ ap read same
     ∙ (ap (λ (s : Symbol). kind_in s.content) (blanked-at b.symbols n) ∙ emptied-kind (symbol_at b n).content)
 
-module _ {F : Type 0} (v : F → Number) (limit : ℕ) (world : World F) (state : State) (reached : IsReached v limit world (loaded v world.program) state) (before : List (Stmt F)) (statement : Stmt F) (stands : StandsAfter world.program before statement) where
+module _ {F : Type 0} (v : F → Number) (limit : ℕ) (world : World F) (state : State) (lasts : IsLasting v world.program state) (before : List (Stmt F)) (statement : Stmt F) (stands : StandsAfter world.program before statement) where
   -- what is declared where the statement stands
   abbrev then_state : State
   then_state = state_after v (length world.program.names) (sound before)
@@ -68,13 +66,13 @@ module _ {F : Type 0} (v : F → Number) (limit : ℕ) (world : World F) (state 
   -- a name that is declared then is of the same kind now
   pub kind-now : (n : ℕ) → is_unknown then_state n ≡ false → kind_of state n ≡ kind_of then_state n
   kind-now n declared =
-      same-kinds state (loaded v world.program) ((loaded-lasts v limit world state reached).declares) n
+      same-kinds state (loaded v world.program) lasts.later.declares n
       ∙ kind-loaded v world.program before statement stands n declared
 
   -- and over the same domain
   pub domain-now : (n : ℕ) → is_unknown then_state n ≡ false → (symbol_at state n).domain ≡ (symbol_at then_state n).domain
   domain-now n declared =
-      (reached-stays v limit world (loaded v world.program) state reached n).domain ∙ domain-loaded v world.program before statement stands n declared
+      (lasts.stays n).domain ∙ domain-loaded v world.program before statement stands n declared
 
 -- ---- elements
 

@@ -26,8 +26,7 @@ use Rattle.gms_check.proofs.Soundness.{at-most}
 use Rattle.gms_exec.specs.Run.{World}
 use Rattle.gms_joint.specs.Reached.{IsReached}
 use Rattle.gms_joint.proofs.AcceptedWalk.{over-accepted}
-use Rattle.gms_joint.proofs.Lasting.{loaded-lasts}
-use Rattle.gms_joint.proofs.Reaching.{reached-stays}
+use Rattle.gms_joint.proofs.Lasting.{IsLasting, loaded-begins, start-lasts}
 
 -- each name has few positions
 abbrev AreFew : State → Type 0
@@ -103,11 +102,15 @@ few-loaded : {F : Type 0} (v : F → Number) (program : Program F) → IsAccepte
 few-loaded v program accepted =
     over-accepted program AreFew (λ k. few-item k program) few-alias few-model v accepted (λ n. subst (λ (s : Symbol). length s.domain ≤ 10) (sym (none-declared (length program.names) n)) none-few)
 
--- what is given of a name in a state of an accepted program's run has at most 10 labels
-pub few-given : {F : Type 0} (v : F → Number) (limit : ℕ) (world : World F) (state : State) (name : ℕ) → IsAccepted v world.program → IsReached v limit world (loaded v world.program) state → All (λ (t : List ℕ). length t ≤ 10) (given_in (symbol_at state name).content)
-few-given v limit world state name accepted reached k d below =
-    let first = loaded v world.program in
-    let long = ((loaded-lasts v limit world state reached).given name).long k d below in
-    let same = ap length ((reached-stays v limit world first state reached name).domain) in
-    let few = few-loaded v world.program accepted name in
+-- what is given of a name has at most 10 labels, wherever what an accepted program begins with lasts
+pub few-lasting : {F : Type 0} (v : F → Number) (program : Program F) (state : State) (name : ℕ) → IsAccepted v program → IsLasting v program state → All (λ (t : List ℕ). length t ≤ 10) (given_in (symbol_at state name).content)
+few-lasting v program state name accepted lasts k d below =
+    let long = (lasts.later.given name).long k d below in
+    let same = ap length ((lasts.stays name).domain) in
+    let few = few-loaded v program accepted name in
     omega (arith, long, same, few)
+
+-- so it has in a state of an accepted program's run
+pub few-given : {F : Type 0} (v : F → Number) (limit : ℕ) (world : World F) (state : State) (name : ℕ) → IsAccepted v world.program → IsReached v limit world (loaded v world.program) state → All (λ (t : List ℕ). length t ≤ 10) (given_in (symbol_at state name).content)
+few-given v limit world state name accepted reached =
+    few-lasting v world.program state name accepted (start-lasts v limit world (loaded v world.program) state (loaded-begins v world.program) reached)

@@ -8,6 +8,7 @@ use Rattle.gms_ast.specs.declared.program.Act.{Act, Loop}
 use Rattle.gms_ast.specs.declared.program.Act.TheFolds.{fold-Act, fold-roll-Act, fold_out-Stmt}
 use Rattle.gms_ast.specs.declared.program.Act.TheOpen.{Act-F}
 use Rattle.gms_ast.specs.declared.program.Act.TheVariants.{rolls-Loop}
+use Rattle.gms_ast.specs.declared.program.Program.{Program}
 use Rattle.gms_ast.specs.declared.program.Stmt.{Stmt}
 use Rattle.gms_store.specs.State.{State, base_of}
 use Rattle.gms_known.specs.DynamicSets.{assigned, assigned_step}
@@ -16,7 +17,7 @@ use Rattle.gms_check.specs.LeftSides.{StandsIn}
 use Rattle.gms_check.specs.Loaded.{loaded}
 use Rattle.gms_check.specs.Past.{is_among}
 use Rattle.gms_exec.specs.Run.{World}
-use Rattle.gms_joint.specs.LastStates.{names_assigned, IsLater}
+use Rattle.gms_joint.specs.LastStates.{names_assigned}
 use Rattle.gms_joint.specs.Reached.{IsStatementOf, IsReached, at_first, after}
 use Rattle.gms_joint.proofs.LastStates.{Lasts, MayBe, lasts-given, lasts-end, lasts-options, lasts-first}
 use Rattle.gms_joint.proofs.Persisting.{AreAllowed, keeps-statement}
@@ -101,15 +102,23 @@ module _ {F : Type 0} (v : F → Number) (limit : ℕ) (world : World F) (first 
   allowed [] all = tt
   allowed (n ∷ names) all = (all.0, allowed names all.1)
 
-  reached-lasts : Lasts first among first → (state : State) → IsReached v limit world first state → Lasts first among state
-  reached-lasts begins state at_first = begins
-  reached-lasts begins state (after {state = before} s binding c of_program same reached) =
-      keeps-statement v limit world (Lasts first among) (MayBe first among) (lasts-given first among) (lasts-end first among) (λ s options lasts. lasts-options first among v world.solvers s options lasts) s (allowed (assigned s) (may-all s of_program)) binding c (subst (Lasts first among) (sym same) (reached-lasts begins before reached))
+  -- what lasts where a run begins lasts in each state that it reaches
+  pub reached-lasts : (start : State) → Lasts first among start → (state : State) → IsReached v limit world start state → Lasts first among state
+  reached-lasts start begins state at_first = begins
+  reached-lasts start begins state (after {state = before} s binding c of_program same reached) =
+      keeps-statement v limit world (Lasts first among) (MayBe first among) (lasts-given first among) (lasts-end first among) (λ s options lasts. lasts-options first among v world.solvers s options lasts) s (allowed (assigned s) (may-all s of_program)) binding c (subst (Lasts first among) (sym same) (reached-lasts start begins before reached))
 
--- each state that a program's run reaches is later than the one in which it begins
-pub loaded-lasts : {F : Type 0} (v : F → Number) (limit : ℕ) (world : World F) (state : State) → IsReached v limit world (loaded v world.program) state → IsLater (loaded v world.program) (is_among (names_assigned (loaded v world.program) world.program)) state
-loaded-lasts v limit world state reached =
-    let first = loaded v world.program in
-    let well = loaded-well v world.program in
-    let begins = lasts-first first (is_among (names_assigned first world.program)) well.tidy (ap are_in_range well.settings) in
-    (reached-lasts v limit world first begins state reached).later
+-- A state keeps what the state has in which a program's run begins.
+abbrev pub IsLasting : {F : Type 0} → (F → Number) → Program F → State → Type 0
+IsLasting v program state = Lasts (loaded v program) (is_among (names_assigned (loaded v program) program)) state
+
+-- that state does
+pub loaded-begins : {F : Type 0} (v : F → Number) (program : Program F) → IsLasting v program (loaded v program)
+loaded-begins v program =
+    let first = loaded v program in
+    let well = loaded-well v program in
+    lasts-first first (is_among (names_assigned first program)) well.tidy (ap are_in_range well.settings)
+
+-- and each that is reached from one that does
+pub start-lasts : {F : Type 0} (v : F → Number) (limit : ℕ) (world : World F) (start state : State) → IsLasting v world.program start → IsReached v limit world start state → IsLasting v world.program state
+start-lasts v limit world start state begins reached = reached-lasts v limit world (loaded v world.program) start begins state reached

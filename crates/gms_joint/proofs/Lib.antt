@@ -6,12 +6,13 @@ mod OnceInRuns
 pub mod Tidying
 pub mod LastStates
 pub mod TidyLoaded
-mod Lasting
+pub mod Lasting
 mod MarkedTrees
 mod LinearSides
 mod DeclaredKinds
+pub mod Starting
 mod EachDefinition
-mod LinearDefinitions
+pub mod LinearDefinitions
 pub mod AcceptedWalk
 pub mod FewPositions
 mod UnsolvedLoaded

@@ -32,10 +32,9 @@ use Rattle.gms_rows.specs.Affine.{is_variable}
 use Rattle.gms_rows.specs.ModelPoints.{IsLinearDefinition, definitions_of_model}
 use Rattle.gms_rows.specs.Rows.{Definition, defined_at}
 use Rattle.gms_exec.specs.Run.{World}
-use Rattle.gms_joint.specs.Reached.{IsReached}
 use Rattle.gms_joint.proofs.DeclaredKinds.{variable-word, same-kinds}
 use Rattle.gms_joint.proofs.EachDefinition.{model-definitions}
-use Rattle.gms_joint.proofs.Lasting.{loaded-lasts}
+use Rattle.gms_joint.proofs.Lasting.{IsLasting}
 use Rattle.gms_joint.proofs.LinearSides.{tree-linear}
 use Rattle.gms_joint.proofs.MarkedTrees.{tree-marked}
 
@@ -57,7 +56,7 @@ same-variables a b same n =
 
 -- ---- definitions
 
-module _ {F : Type 0} (v : F → Number) (limit : ℕ) (world : World F) (accepted : IsAccepted v world.program) (state : State) (reached : IsReached v limit world (loaded v world.program) state) where
+module _ {F : Type 0} (v : F → Number) (limit : ℕ) (world : World F) (accepted : IsAccepted v world.program) (state : State) (lasts : IsLasting v world.program state) where
   abbrev program : Program F
   program = world.program
 
@@ -68,8 +67,7 @@ module _ {F : Type 0} (v : F → Number) (limit : ℕ) (world : World F) (accept
   -- a name that is declared then is a variable just where it is one now
   kinds : (before : List (Stmt F)) (statement : Stmt F) → StandsAfter program before statement → (n : ℕ) → is_unknown (known_before before).state n ≡ false → is_variable (symbol_at state n).content ≡ checked_names.is_variable (symbol_at (known_before before).state n).content
   kinds before statement stands n declared =
-      let later = loaded-lasts v limit world state reached in
-      same-variables state (loaded v program) later.declares n
+      same-variables state (loaded v program) lasts.later.declares n
       ∙ same-word (symbol_at (loaded v program) n).content
       ∙ variable-loaded v program before statement stands n declared
 

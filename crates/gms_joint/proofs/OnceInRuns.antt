@@ -31,8 +31,8 @@ use Rattle.gms_exec.specs.Once.{is_fixed, AreLeft, IsOnce}
 use Rattle.gms_exec.specs.Run.{World}
 use Rattle.gms_exec.proofs.Once.{given-once}
 use Rattle.gms_exec.proofs.Staying.{AreSingles, Stays, follows-of}
-use Rattle.gms_joint.specs.Reached.{IsStatementOf, IsReached}
-use Rattle.gms_joint.proofs.Reaching.{reached-stays}
+use Rattle.gms_joint.specs.Reached.{IsStatementOf}
+use Rattle.gms_joint.proofs.Lasting.{IsLasting}
 
 -- the members of a set over one position stay in order, with one label each
 over-one : (old new : State) → Stays old new → (set : ℕ) → IsOverOne old set → IsOrdered (members_of new set) × AreSingles (members_of new set)
@@ -47,14 +47,14 @@ simple-set old new stays set over =
     (members.0, λ member there. All-contains (λ (t : List ℕ). length t ≡ 1) (members_of new set) member members.1 (Contains-has (members_of new set) member there))
 
 -- the members of a set that is an index set where a statement stands, in each state of a run
-pub index-members : {F : Type 0} (v : F → Number) (limit : ℕ) (world : World F) (before : List (Stmt F)) (statement : Stmt F) (set : ℕ) (state : State) → StandsAfter world.program before statement → is_index_set (state_after v (length world.program.names) (sound before)) set ≡ true → IsReached v limit world (loaded v world.program) state → IsOrdered (members_of state set) × AreSingles (members_of state set)
-index-members v limit world before statement set state stands one reached =
-    over-one (loaded v world.program) state (reached-stays v limit world (loaded v world.program) state reached) set (index-set-loaded v world.program before statement stands set one)
+pub index-members : {F : Type 0} (v : F → Number) (limit : ℕ) (world : World F) (before : List (Stmt F)) (statement : Stmt F) (set : ℕ) (state : State) → StandsAfter world.program before statement → is_index_set (state_after v (length world.program.names) (sound before)) set ≡ true → IsLasting v world.program state → IsOrdered (members_of state set) × AreSingles (members_of state set)
+index-members v limit world before statement set state stands one lasts =
+    over-one (loaded v world.program) state lasts.stays set (index-set-loaded v world.program before statement stands set one)
 
 -- a set that is an index set where a statement stands is one in each state of a run
-pub index-simple : {F : Type 0} (v : F → Number) (limit : ℕ) (world : World F) (before : List (Stmt F)) (statement : Stmt F) (set : ℕ) (state : State) → StandsAfter world.program before statement → is_index_set (state_after v (length world.program.names) (sound before)) set ≡ true → IsReached v limit world (loaded v world.program) state → IsSimple state set
-index-simple v limit world before statement set state stands one reached =
-    simple-set (loaded v world.program) state (reached-stays v limit world (loaded v world.program) state reached) set (index-set-loaded v world.program before statement stands set one)
+pub index-simple : {F : Type 0} (v : F → Number) (limit : ℕ) (world : World F) (before : List (Stmt F)) (statement : Stmt F) (set : ℕ) (state : State) → StandsAfter world.program before statement → is_index_set (state_after v (length world.program.names) (sound before)) set ≡ true → IsLasting v world.program state → IsSimple state set
+index-simple v limit world before statement set state stands one lasts =
+    simple-set (loaded v world.program) state lasts.stays set (index-set-loaded v world.program before statement stands set one)
 
 module _ {F : Type 0} where
   fixed-amount : (amount : tree.Tree F) → is_fixed_amount amount ≡ true → is_fixed amount ≡ true
@@ -69,10 +69,10 @@ module _ {F : Type 0} where
   left-simple old new simple (tree.lagged set op at amount rest) are =
       (simple set are.0, (fixed-amount amount are.1.0, left-simple old new simple rest are.1.1))
 
-  pub run-once : (v : F → Number) (limit : ℕ) (world : World F) (statement : Stmt F) (target : Target F) (condition : Option (Expr F)) (right_at : Place) (right : Expr F) (state : State) (binding : Pairs) (given : AllGiven) → IsAccepted v world.program → IsStatementOf world.program statement → statement.act ≡ Assign target condition right_at (Value right) → IsReached v limit world (loaded v world.program) state → given_by v limit state statement.at binding (target_of target) (option_map tree_of condition) right_at (tree_of right) ≡ Ok given → IsOnce given
-  run-once v limit world statement target condition right_at right state binding given accepted of_program is reached e =
+  pub run-once : (v : F → Number) (limit : ℕ) (world : World F) (statement : Stmt F) (target : Target F) (condition : Option (Expr F)) (right_at : Place) (right : Expr F) (state : State) (binding : Pairs) (given : AllGiven) → IsAccepted v world.program → IsStatementOf world.program statement → statement.act ≡ Assign target condition right_at (Value right) → IsLasting v world.program state → given_by v limit state statement.at binding (target_of target) (option_map tree_of condition) right_at (tree_of right) ≡ Ok given → IsOnce given
+  run-once v limit world statement target condition right_at right state binding given accepted of_program is lasts e =
       let program = world.program in
-      let stays = reached-stays v limit world (loaded v program) state reached in
+      let stays = lasts.stays in
       let known = known_after v program accepted.0 (sound of_program.before) in
       let left = program-left v program accepted.0 of_program.before of_program.outer statement of_program.depth target condition right_at right accepted.1 of_program.stands of_program.inside is in
       let simple = λ (set : ℕ) (one : is_index_set known.state set ≡ true). simple-set (loaded v program) state stays set (index-set-loaded v program of_program.before of_program.outer of_program.stands set one) in

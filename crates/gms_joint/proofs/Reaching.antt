@@ -21,10 +21,14 @@ module _ {F : Type 0} (v : F → Number) (limit : ℕ) (world : World F) (first 
       let stands : IsStatementOf world.program s = record { before = before; outer = s; stands = (statements, is); depth = 0; inside = refl } in
       ((λ binding c reached. after s binding c stands refl reached), each-reaches (before ++ s ∷ []) statements (is ∙ sym (append_assoc before (s ∷ []) statements)))
 
-  -- the last state of a run is reached
+  -- the last state of a run of the last statements of the program is reached
+  pub last-reaches : (before statements : List (Stmt F)) → world.program.statements.items ≡ before ++ statements → (answers : List (Answer Number)) → IsReached v limit world first (run_from v limit world first answers statements).state
+  last-reaches before statements parts answers =
+      all-keep (IsReached v limit world first) (map (of_statement v limit world) statements) (each-reaches before statements parts) [] (record { state = first; events = []; left = answers; taken = 0; halted = None }) at_first
+
+  -- so is that of a run of all
   pub run-reaches : (answers : List (Answer Number)) → IsReached v limit world first (run_from v limit world first answers world.program.statements.items).state
-  run-reaches answers =
-      all-keep (IsReached v limit world first) (map (of_statement v limit world) world.program.statements.items) (each-reaches [] world.program.statements.items refl) [] (record { state = first; events = []; left = answers; taken = 0; halted = None }) at_first
+  run-reaches answers = last-reaches [] world.program.statements.items refl answers
 
   all-allowed : (names : List ℕ) → AreAllowed v limit world (Stays first) (λ n. Unit {0}) (λ s kind name all may stays. stays-both first s (after_given kind name all s) stays (stays-given kind name all s)) (λ s model lp end stays. stays-both first s (after_end s model lp end) stays (stays-end s model lp end)) (λ s settings stays. stays-both first s (with_settings s (after_options v world.solvers s.settings settings)) stays (λ n. stays-itself s n)) names
   all-allowed [] = tt

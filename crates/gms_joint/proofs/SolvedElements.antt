@@ -27,7 +27,7 @@ use Rattle.gms_check.specs.declared.error.ErrorKind.TheVariants.{UnknownName, Wr
 use Rattle.gms_check.specs.Checked.{StandsAfter}
 use Rattle.gms_check.specs.CompileErrors.{errors_after, known_after}
 use Rattle.gms_check.specs.Kinds.{is_variable_kind, is_without_positions}
-use Rattle.gms_check.specs.Loaded.{IsAccepted, loaded, sound}
+use Rattle.gms_check.specs.Loaded.{IsAccepted, sound}
 use Rattle.gms_check.specs.Past.{Known}
 use Rattle.gms_check.specs.Standing.{as_side}
 use Rattle.gms_check.specs.Statements.{act_uses}
@@ -59,10 +59,11 @@ use Rattle.gms_rows.proofs.Domains.{All-each_once, given, only_value}
 use Rattle.gms_rows.proofs.KeyLists.{keys-ordered}
 use Rattle.gms_rows.proofs.ModelKeys.{model-apart}
 use Rattle.gms_frames.proofs.FormKeys.{OkHas, EachHas}
-use Rattle.gms_joint.specs.Reached.{IsReached, IsStatementOf}
+use Rattle.gms_joint.specs.Reached.{IsStatementOf}
 use Rattle.gms_joint.proofs.DeclaredKinds.{kind-now, domain-now, has_elements, variable-elements, equation-elements, not-both, own-base, same-positions, second-holds, both-hold, of_variable, variable-element, IsOfVariable, IsOfEquation}
 use Rattle.gms_joint.proofs.EachDefinition.{one-definition, all-definitions, model-definitions}
 use Rattle.gms_joint.proofs.ElementForms.{row-elements}
+use Rattle.gms_joint.proofs.Lasting.{IsLasting}
 use Rattle.gms_joint.proofs.KeyedRows.{HasRows, IsOver, program-keyed}
 use Rattle.gms_joint.proofs.OnceInRuns.{index-members}
 
@@ -223,7 +224,7 @@ no-positions : (xs : List (Option ℕ)) → is_without_positions xs ≡ true →
 no-positions [] e = refl
 no-positions (x ∷ xs) e = absurd (cc)
 
-module _ {F : Type 0} (v : F → Number) (limit : ℕ) (world : World F) (accepted : IsAccepted v world.program) (state : State) (reached : IsReached v limit world (loaded v world.program) state) where
+module _ {F : Type 0} (v : F → Number) (limit : ℕ) (world : World F) (accepted : IsAccepted v world.program) (state : State) (lasts : IsLasting v world.program state) where
   abbrev program : Program F
   program = world.program
 
@@ -257,10 +258,10 @@ module _ {F : Type 0} (v : F → Number) (limit : ℕ) (world : World F) (accept
       let one = clean-left known (uses as_side left_at around (tree_of left)) (uses as_side right_at around (tree_of right)) sides in
       let other = clean-right known (uses as_side left_at around (tree_of left)) (uses as_side right_at around (tree_of right)) sides in
       let sets = (sound-use known (defining equation.name (index_list indices)) whole.0).2.sets in
-      let members = λ (set : ℕ) (is : is_index_set known.state set ≡ true). index-members v limit world before statement set state stands is reached in
+      let members = λ (set : ℕ) (is : is_index_set known.state set ≡ true). index-members v limit world before statement set state stands is lasts in
       let d : Definition F = record { equation = equation.name; at = at; indices = index_list indices; condition = option_map tree_of condition; left_at = left_at; left = tree_of left; side = side; right_at = right_at; right = tree_of right } in
       if-no-lag (has_lag (index_list indices)) d (λ none. (
-        row-elements v limit known state (kind-now v limit world state reached before statement stands) (domain-now v limit world state reached before statement stands) d as_side as_side around whole.0 one other,
+        row-elements v limit known state (kind-now v limit world state lasts before statement stands) (domain-now v limit world state lasts before statement stands) d as_side as_side around whole.0 one other,
         (plain-indices known.state state members (index_list indices) none sets, ordered-indices known.state state members (index_list indices) sets),
       ))
 
@@ -285,13 +286,13 @@ module _ {F : Type 0} (v : F → Number) (limit : ℕ) (world : World F) (accept
       let whole = subst (AreClean known) (uses-act statement known.state inner.0 ∙ ap (λ (act : Act F). act_uses act known.state statement.at inner.0) is ∙ uses-Solve known.state statement.at inner.0 model word objective maximize) inner.1 in
       let clean : IsClean known (optimizing objective.name) = whole.1.1.0 in
       let declared = neither-first (is_unknown known.state objective.name) (list_any (is_unknown known.state) []) (clean UnknownName) in
-      let same = kind-now v limit world state reached before of_program.outer of_program.stands objective.name declared in
+      let same = kind-now v limit world state lasts before of_program.outer of_program.stands objective.name declared in
       let variable : is_variable_kind (kind_of state objective.name) ≡ true = ap is_variable_kind same ∙ not-false (is_variable_kind (kind_of known.state objective.name)) (clean WrongKind) in
       let free = not-false (is_free (symbol_at known.state objective.name).content && is_without_positions (positions known.state objective.name)) (clean Objective) in
       let none = second-holds (is_free (symbol_at known.state objective.name).content) (is_without_positions (positions known.state objective.name)) free in
       both-hold (is_variable_kind (kind_of state objective.name)) (0 == length (symbol_at state objective.name).domain) variable
       (eq-eqb 0 (length (symbol_at state objective.name).domain)
-      (no-positions (positions known.state objective.name) none ∙ same-positions state known.state objective.name (variable-elements (kind_of state objective.name) variable) same (domain-now v limit world state reached before of_program.outer of_program.stands objective.name declared)))
+      (no-positions (positions known.state objective.name) none ∙ same-positions state known.state objective.name (variable-elements (kind_of state objective.name) variable) same (domain-now v limit world state lasts before of_program.outer of_program.stands objective.name declared)))
 
   -- so the columns and the rows of its program are elements of the state
   pub solve-elements : (statement : Stmt F) (model : Named) (word : Word) (objective : Named) (maximize : Bool) (lp : Lp Number) → IsStatementOf program statement → statement.act ≡ Solve model word objective maximize → program_lp v limit state program.statements.items model.name objective.name maximize statement.at ≡ Ok lp → AreElements state (elements lp)

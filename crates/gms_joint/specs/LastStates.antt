@@ -1,12 +1,15 @@
 -- What each state of a run keeps of the one in which it begins, so that what is saved of it can be restored (GAMS User's Guide, "Save and
 -- Restart", "Set Definition", "Variables", "The Option Statement").
 use Rattle.std.specs.Prelude.{◌≡◌, ℕ, Bool, true, false, List, [], ◌∷◌, length, map, flat_map, Option, Some, None, All}
+use Rattle.gq_number.specs.Number.{Number}
 use Rattle.gms_ast.specs.declared.program.Program.{Program}
 use Rattle.gms_tuple.specs.TupleOrder.{IsOrdered}
 use Rattle.gms_tuple.specs.TupleSet.{has}
 use Rattle.gms_store.specs.State.{Symbol, State, symbol_at, base_of, given_in, differs_in, members_in, statuses_in}
 use Rattle.gms_store.specs.Declarations.{is_undeclared}
 use Rattle.gms_known.specs.DynamicSets.{assigned}
+use Rattle.gms_check.specs.Loaded.{loaded}
+use Rattle.gms_check.specs.Past.{is_among}
 use Rattle.gms_saved.specs.Validity.{declared_in, stands_at, are_statuses, are_in_range}
 
 -- What is given of a name is in order, has a label for each of its positions, and is what differs from an absent entry; a model has statuses.
@@ -44,3 +47,8 @@ pub record IsLater (first : State) (is_assigned : ℕ → Bool) (state : State) 
   pub given : (name : ℕ) → IsTidy (symbol_at state name)
   pub static : (name : ℕ) → is_assigned name ≡ false → members_in (symbol_at state name).content ≡ members_in (symbol_at first name).content
   pub ranges : are_in_range state.settings ≡ true
+
+-- A state in which a run of a program's statements may begin: it keeps what the state has in which the program's own run begins. That state does, and
+-- so does one that is resumed from a save.
+abbrev pub MayBegin : {F : Type 0} → (F → Number) → Program F → State → Type 0
+MayBegin value program first = IsLater (loaded value program) (is_among (names_assigned (loaded value program) program)) first

@@ -39,7 +39,7 @@ ghost use Rattle.gms_exec.specs.Given.{AllGiven};
 ghost use Rattle.gms_exec.specs.Once.{IsOnce};
 ghost use Rattle.gms_exec.specs.Run.{World, run_from};
 ghost use Rattle.gms_joint.specs.Labels.{AreMembers, StandForLabels, SomeGoesPast};
-ghost use Rattle.gms_joint.specs.LastStates.{AreFixed, IsLater, StandAt, names_assigned};
+ghost use Rattle.gms_joint.specs.LastStates.{AreFixed, MayBegin, StandAt};
 ghost use Rattle.gms_joint.specs.Reached.{IsReached, IsStatementOf};
 ghost use Rattle.lp_core.specs.declared.answer.Answer.{Answer};
 ghost use Rattle.lp_core.specs.declared.program.Lp.{Lp};
@@ -72,25 +72,26 @@ pub fn label_laws<F: ExactField>()
         All (IsSimple state) sets → has (elements state sets) element ≡ true → AreMembers state sets element }
 {}
 
-/// The last state of a program's run is one that its statements lead to. In each state that the statements lead to from where it begins, also
-/// in the midst of a loop, a set that is an index set where a statement stands is one over one position; and where the program is
+/// The last state of a program's run is one that its statements lead to. In each state that the statements lead to from one in which a run
+/// may begin, from the start or from a save, also in the midst of a loop, a set that is an index set where a statement stands is one over one position; and where the program is
 /// accepted, no assignment of the program gives an element twice (GAMS User's Guide, "Data Manipulations with Parameters", indexed
 /// assignments).
 pub fn run_laws<F: ExactField>()
     ensures last { (world : World F) (state : State) (answers : List (Answer Number)) →
         IsReached F.value F.limit world state (run_from F.value F.limit world state answers world.program.statements.items).state }
-    ensures simple { (world : World F) (before : List (Stmt F)) (statement : Stmt F) (set : ℕ) (state : State) →
+    ensures simple { (world : World F) (before : List (Stmt F)) (statement : Stmt F) (set : ℕ) (first state : State) →
         StandsAfter world.program before statement → is_index_set (state_after F.value (length world.program.names) (sound before)) set ≡ true →
-        IsReached F.value F.limit world (loaded F.value world.program) state → IsSimple state set }
-    ensures once { (world : World F) (statement : Stmt F) (target : Target F) (condition : Option (Expr F)) (right_at : Place) (right : Expr F) (state : State) (binding : Pairs) (given : AllGiven) →
+        MayBegin F.value world.program first → IsReached F.value F.limit world first state → IsSimple state set }
+    ensures once { (world : World F) (statement : Stmt F) (target : Target F) (condition : Option (Expr F)) (right_at : Place) (right : Expr F) (first state : State) (binding : Pairs) (given : AllGiven) →
         IsAccepted F.value world.program → IsStatementOf world.program statement →
         statement.act ≡ Assign target condition right_at (Value right) →
-        IsReached F.value F.limit world (loaded F.value world.program) state →
+        MayBegin F.value world.program first → IsReached F.value F.limit world first state →
         given_by F.value F.limit state statement.at binding (target_of target) (option_map tree_of condition) right_at (tree_of right) ≡ Ok given →
         IsOnce given }
 {}
 
-/// What each state of a program's run keeps of the one in which the run begins, also in the midst of a loop: it declares the same; what is
+/// What each state of a program's run keeps of the one in which the program's own run begins, also in the midst of a loop, where what the
+/// run begins in keeps it (`kept`), as that state does (`own`) and a state that is resumed from a save: it declares the same; what is
 /// given of each name is in order, with as many labels as the name has positions, and is what differs from an absent entry; a model
 /// has the statuses of before a solve or of after one; the members of a set that the program does not assign are as they were; and the
 /// settings are in the ranges of their options. So the last state, which is saved, is such a state. Of an accepted program each tuple
@@ -99,11 +100,11 @@ pub fn run_laws<F: ExactField>()
 ///
 /// GAMS User's Guide, "Save and Restart", "Set Definition", "Variables", "The Option Statement".
 pub fn last_laws<F: ExactField>()
-    ensures kept { (world : World F) (state : State) →
-        IsReached F.value F.limit world (loaded F.value world.program) state →
-        IsLater (loaded F.value world.program) (is_among (names_assigned (loaded F.value world.program) world.program)) state }
-    ensures few { (world : World F) (state : State) (name : ℕ) →
-        IsAccepted F.value world.program → IsReached F.value F.limit world (loaded F.value world.program) state →
+    ensures kept { (world : World F) (first state : State) →
+        MayBegin F.value world.program first → IsReached F.value F.limit world first state → MayBegin F.value world.program state }
+    ensures own { (program : Program F) → MayBegin F.value program (loaded F.value program) }
+    ensures few { (world : World F) (first state : State) (name : ℕ) →
+        IsAccepted F.value world.program → MayBegin F.value world.program first → IsReached F.value F.limit world first state →
         All (λ (t : List ℕ). length t ≤ 10) (given_in (symbol_at state name).content) }
     ensures begins { (program : Program F) (name : ℕ) →
         IsAccepted F.value program →
@@ -116,26 +117,26 @@ pub fn last_laws<F: ExactField>()
         AreFixed (of_program program (is_among (dynamic_sets program))) (loaded F.value program) (symbol_at (loaded F.value program) name).domain }
 {}
 
-/// In each state of an accepted program's run both sides of each definition of a model are linear in the variables: of a product one
+/// In each state of an accepted program's run, from its start or from a save, both sides of each definition of a model are linear in the variables: of a product one
 /// factor may have some and no divisor, and of the folds over what has some there are sums alone. So there the points that keep the
 /// model are exactly the feasible points of the linear program that a solve means (`point_laws` of gms_rows).
 ///
 /// GAMS User's Guide, "Equations", "Model and Solve Statements".
 pub fn linear_laws<F: ExactField>()
-    ensures { (world : World F) (state : State) (model : ℕ) →
-        IsAccepted F.value world.program → IsReached F.value F.limit world (loaded F.value world.program) state →
+    ensures { (world : World F) (first state : State) (model : ℕ) →
+        IsAccepted F.value world.program → MayBegin F.value world.program first → IsReached F.value F.limit world first state →
         All (IsLinearDefinition state) (definitions_of_model world.program.statements.items model) }
 {}
 
 /// The columns and the rows of the linear program of a solve of an accepted program are elements of the state in which it is solved: of
 /// variables and of equations that are declared there, each with as many labels as its name has positions, and no two of them are the
-/// same. So what a solve leaves is what `solve_laws` of gms_exec says, in each state of the program's run, also in the midst of a loop.
+/// same. So what a solve leaves is what `solve_laws` of gms_exec says, in each state of the program's run, from its start or from a save, also in the midst of a loop.
 ///
 /// GAMS User's Guide, "Model and Solve Statements", "Equations".
 pub fn element_laws<F: ExactField>()
-    ensures { (world : World F) (state : State) (statement : Stmt F) (model : Named) (word : Word) (objective : Named) (maximize : Bool) (lp : Lp Number) →
+    ensures { (world : World F) (first state : State) (statement : Stmt F) (model : Named) (word : Word) (objective : Named) (maximize : Bool) (lp : Lp Number) →
         IsAccepted F.value world.program → IsStatementOf world.program statement → statement.act ≡ Solve model word objective maximize →
-        IsReached F.value F.limit world (loaded F.value world.program) state →
+        MayBegin F.value world.program first → IsReached F.value F.limit world first state →
         program_lp F.value F.limit state world.program.statements.items model.name objective.name maximize statement.at ≡ Ok lp →
         AreElements state (elements_of lp) }
 {}

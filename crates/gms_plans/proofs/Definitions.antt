@@ -14,11 +14,9 @@ use Rattle.gms_ast.specs.declared.program.Program.{Program}
 use Rattle.gms_ast.specs.declared.program.Side.{Side}
 use Rattle.gms_ast.specs.declared.program.Stmt.{Stmt}
 use Rattle.gms_ast.specs.declared.word.Named.{Named}
-use Rattle.gms_ast.specs.Trees as tree
 use Rattle.gms_ast.specs.TreeView.{tree_of}
 use Rattle.gms_check.specs.Checked.{StandsAfter}
 use Rattle.gms_check.specs.CompileErrors.{errors_after, known_after}
-use Rattle.gms_check.specs.Domains as checking
 use Rattle.gms_check.specs.Loaded.{IsAccepted, sound}
 use Rattle.gms_check.specs.StatementUses.{index_list}
 use Rattle.gms_check.specs.Uses.{defining}
@@ -26,17 +24,10 @@ use Rattle.gms_check.proofs.ActUses.{uses-act, uses-Define}
 use Rattle.gms_check.proofs.Growing.{by_parts}
 use Rattle.gms_check.proofs.NoErrors.{AreClean}
 use Rattle.gms_check.proofs.Soundness.{after-sound, sound-use, statement-clean}
-use Rattle.gms_eval.specs.Leaders.{index_count}
 use Rattle.gms_rows.specs.ModelPoints.{definitions_of_model}
 use Rattle.gms_rows.specs.Rows.{Definition, defined_at, definitions, definition_of, equations_of, has_lag}
+use Rattle.gms_valid.proofs.Assigned.{same-count}
 use Rattle.gms_plans.proofs.Instances.{IsShort}
-
--- both counts of indices are one
-pub same-count : {F : Type 0} (indices : tree.Indices F) → index_count indices ≡ checking.index_count indices
-same-count tree.no_index = refl
-same-count (tree.label label rest) = let e = same-count rest in omega (arith, e)
-same-count (tree.set set rest) = let e = same-count rest in omega (arith, e)
-same-count (tree.lagged set op at amount rest) = let e = same-count rest in omega (arith, e)
 
 -- ---- what holds of all definitions of a program holds of those of a model
 

@@ -3,11 +3,7 @@ pub mod Answered
 pub mod Carried
 pub mod Programs
 pub mod Instances
-pub mod SameVariables
 pub mod Meanings
 pub mod Moments
 pub mod Definitions
 pub mod Meant
-pub mod Assigned
-pub mod Resumes
-pub mod Restarted

@@ -1,18 +1,18 @@
--- What the answers of a whole run say is so, wherever its states declare what the program does.
-use Rattle.std.proofs.Common.{◌≡◌, ℕ, zero, suc, Bool, List, [], ◌∷◌, ◌++◌, length, map, take, drop, None, unwrap_or, slice_get, Ok, refl, sym, ap, ◌∙◌, subst, arith}
+-- What the answers of a whole run say is so, wherever it may begin.
+use Rattle.std.proofs.Common.{◌≡◌, ℕ, zero, suc, List, [], ◌∷◌, ◌++◌, length, map, take, drop, None, Ok, refl, sym, ap, ◌∙◌, subst, arith}
 use Rattle.std.specs.List.{All}
 use Rattle.std.proofs.lemmas.List.Elements.{All-nil, All-cons, All-head, All-tail}
 use Rattle.gq_number.specs.Number.{Number}
 use Rattle.gms_ast.specs.declared.program.Stmt.{Stmt}
-use Rattle.gms_store.specs.State.{State, Content, undeclared, alias_of, set_of, parameter_of, variable_of, equation_of, model_with, Symbol, no_symbol, symbol_at, with_content}
-use Rattle.gms_saved.specs.Validity.{declared_in, emptied}
-use Rattle.gms_check.specs.Loaded.{IsAccepted, loaded}
+use Rattle.gms_store.specs.State.{State}
+use Rattle.gms_check.specs.Loaded.{IsAccepted}
 use Rattle.gms_event.specs.Events.{Event, Solved, displays, solves, aborts, stops}
-use Rattle.gms_rows.specs.Affine.{is_variable}
-use Rattle.gms_rows.specs.ModelPoints.{IsLinearDefinition, definitions_of_model}
 use Rattle.gms_rows.specs.ProgramLp.{program_lp}
 use Rattle.gms_exec.specs.Answering.{IsSolved, IsAnswered, AreAnswered}
 use Rattle.gms_exec.specs.Run.{Course, World, one_after_another, of_statement, run_from}
+use Rattle.gms_joint.proofs.Lasting.{IsLasting, start-lasts}
+use Rattle.gms_joint.proofs.LinearDefinitions.{model-linear}
+use Rattle.gms_joint.proofs.Reaching.{last-reaches}
 use Rattle.lp_core.specs.Numbers.{answer_numbers}
 use Rattle.lp_core.specs.declared.answer.Answer.{Answer}
 use Rattle.lp_core.specs.declared.answer.Rule.{Rule}
@@ -21,35 +21,6 @@ use Rattle.gms_plans.proofs.Answered.{answer-proves}
 use Rattle.gms_plans.proofs.Definitions.{model-short}
 use Rattle.gms_plans.proofs.Meanings.{end-is-so}
 use Rattle.gms_plans.proofs.Moments.{EachOf, with_left, Waits, WaitsAt, Does, last-do}
-use Rattle.gms_plans.proofs.SameVariables.{HaveSameVariables, linear-there}
-
--- ---- the same variables
-
-emptied-variable : (content : Content) → is_variable (emptied content) ≡ is_variable content
-emptied-variable undeclared = refl
-emptied-variable (alias_of base) = refl
-emptied-variable (set_of members) = refl
-emptied-variable (parameter_of entries) = refl
-emptied-variable (variable_of type entries) = refl
-emptied-variable (equation_of entries) = refl
-emptied-variable (model_with m s) = refl
-
--- a symbol of which nothing is given
-abbrev blanked : Symbol → Symbol
-blanked symbol = with_content symbol (emptied symbol.content)
-
-blanked-at : (symbols : List Symbol) (n : ℕ) → unwrap_or (slice_get (map blanked symbols) n) no_symbol ≡ blanked (unwrap_or (slice_get symbols n) no_symbol)
-blanked-at [] n = refl
-blanked-at (s ∷ symbols) zero = refl
-blanked-at (s ∷ symbols) (suc n) = blanked-at symbols n
-
--- states that declare the same have the same variables
-pub same-variables : (a b : State) → declared_in a ≡ declared_in b → HaveSameVariables a b
-same-variables a b same n =
-    let read : List Symbol → Bool = λ symbols. is_variable (unwrap_or (slice_get symbols n) no_symbol).content in
-    sym (ap (λ (s : Symbol). is_variable s.content) (blanked-at a.symbols n) ∙ emptied-variable (symbol_at a n).content)
-    ∙ ap read same
-    ∙ (ap (λ (s : Symbol). is_variable s.content) (blanked-at b.symbols n) ∙ emptied-variable (symbol_at b n).content)
 
 -- ---- answers before one
 
@@ -65,9 +36,7 @@ take-drop (suc n) [] = refl
 take-drop (suc n) (x ∷ xs) = ap (λ ys. x ∷ ys) (take-drop n xs)
 
 module _ {F : Type 0} (v : F → Number) (limit : ℕ) (world : World F) (accepted : IsAccepted v world.program)
-    (linear : (model : ℕ) → All (IsLinearDefinition (loaded v world.program)) (definitions_of_model world.program.statements.items model))
-    (before statements : List (Stmt F)) (parts : world.program.statements.items ≡ before ++ statements)
-    (first : State) (declares : (some : List (Answer Number)) → declared_in (run_from v limit world first some statements).state ≡ declared_in (loaded v world.program))
+    (first : State) (begins : IsLasting v world.program first) (before statements : List (Stmt F)) (parts : world.program.statements.items ≡ before ++ statements)
     (rules : List Rule) (answers : List (Answer F)) where
   abbrev numbers : List (Answer Number)
   numbers = map (answer_numbers v) answers
@@ -104,13 +73,12 @@ module _ {F : Type 0} (v : F → Number) (limit : ℕ) (world : World F) (accept
   answered-rightly solved waits answered =
       let solve = is-solve solved waits in
       let state = (run_before v limit world first statements answers solved.answer).state in
-      let ds = definitions_of_model world.program.statements.items solve.model.name in
-      let same = same-variables (loaded v world.program) state (sym (declares (take solved.answer numbers))) in
+      let lasts = start-lasts v limit world first state begins (last-reaches v limit world first before statements parts (take solved.answer numbers)) in
       record {
         solve = solve;
         answer = answered.answer;
         stands = answered.stands;
-        is_so = end-is-so v limit world.program.statements.items state solve.model.name solve.objective.name solve.maximize solve.statement.at solved.lp (model-short v world.program accepted solve.model.name) (linear-there (loaded v world.program) state same ds (linear solve.model.name)) solve.program answered.lp answered.shows answered.answer.end
+        is_so = end-is-so v limit world.program.statements.items state solve.model.name solve.objective.name solve.maximize solve.statement.at solved.lp (model-short v world.program accepted solve.model.name) (model-linear v limit world accepted state lasts solve.model.name) solve.program answered.lp answered.shows answered.answer.end
             (answer-proves v answered.lp limit solved.settings.iterlim answered.rule answered.answer answered.is_answer);
       }
 

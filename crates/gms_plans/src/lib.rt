@@ -3,4 +3,4 @@
 
 mod laws;
 
-pub use laws::{assigned_laws, plan_laws, restarted_plan_laws};
+pub use laws::plan_laws;

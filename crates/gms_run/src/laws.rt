@@ -1,7 +1,7 @@
 //! Laws of runs.
 ghost use Rattle.gms_run.specs.Laws.{RunsJoin, RunsAreAnsweredRightly};
 
-use gms_plans::{plan_laws, restarted_plan_laws};
+use gms_plans::plan_laws;
 use gq_frac::Frac;
 
 /// The run of statements, and of others behind them, is the run of the others from where the first ended.
@@ -17,5 +17,4 @@ pub fn answer_laws()
     ensures { RunsAreAnsweredRightly }
 {
     plan_laws::<Frac>();
-    restarted_plan_laws();
 }

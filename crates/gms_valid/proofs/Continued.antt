@@ -11,6 +11,7 @@ use Rattle.gms_parse.specs.Outcomes.{IsProgram, ProgramView, program_view}
 use Rattle.gms_store.specs.State.{State, fits_at, symbol_at}
 use Rattle.gms_check.specs.Loaded.{IsAccepted, loaded}
 use Rattle.gms_exec.specs.Run.{World}
+use Rattle.gms_joint.specs.LastStates.{MayBegin}
 use Rattle.gms_front.proofs.FrontPrograms.{labels_go_on, names_go_on}
 use Rattle.gms_going_on.proofs.Begins.{begins-with}
 use Rattle.gms_save.specs.JointErrors.{is_saved, joint_errors, resumed, saved_statements}
@@ -97,10 +98,22 @@ module _ (most : ℕ) (source file : List ℕ) (saved : Program Frac) (world : W
   writes-its : WritesItsLabels frac_value whole
   writes-its = has-its-labels most (joint_source source file) whole q
 
+  -- the state that is resumed keeps what the joint program begins with
+  pub resumed-kept : (state : State) (solver : List ℕ) → IsSavedBy saved state solver → Kept (length whole.labels) (loaded frac_value whole) (among frac_value whole whole-accepted) (resumed frac_value state whole)
+  resumed-kept state solver is =
+      later-kept frac_value whole saved parts.firsts parts.others whole-accepted accepts writes-its goes-on state number_limit solver is.is_saved
+
+  -- and so does the last one
   pub state-kept : (limit : ℕ) (state : State) (solver : List ℕ) → IsSavedBy saved state solver → (answers : List (Answer Number)) → Kept (length whole.labels) (loaded frac_value whole) (among frac_value whole whole-accepted) (later_state frac_value limit from world state answers)
   state-kept limit state solver is answers =
       last-kept frac_value limit world whole-accepted (length whole.labels) writes-its parts.firsts (drop (length (saved_statements from whole)) whole.statements.items) (parts.parts ∙ ap (λ (ys : List (Stmt Frac)). parts.firsts ++ ys) (sym others-are)) (resumed frac_value state whole)
-      (later-kept frac_value whole saved parts.firsts parts.others whole-accepted accepts writes-its goes-on state number_limit solver is.is_saved) answers
+      (resumed-kept state solver is) answers
+
+-- A run may begin in the state that is resumed.
+pub resumed-begins : (source file : List ℕ) (saved : Program Frac) (world : World Frac) (state : State) (solver : List ℕ) → IsProgram number_limit source frac_value saved → IsProgram number_limit (joint_source source file) frac_value world.program →
+    joint_errors frac_value world.program (first_line source) world.solvers ≡ [] → IsSavedBy saved state solver → MayBegin frac_value world.program (resumed frac_value state world.program)
+resumed-begins source file saved world state solver p q none is =
+    (resumed-kept number_limit source file saved world p q (solvers_chosen saved, is.no_error) none state solver is).lasts.later
 
 pub later-saved : (limit : ℕ) (source file : List ℕ) (saved : Program Frac) (world : World Frac) (state : State) (solver named : List ℕ) (answers : List (Answer Number)) → IsProgram number_limit source frac_value saved → IsProgram number_limit (joint_source source file) frac_value world.program →
     joint_errors frac_value world.program (first_line source) world.solvers ≡ [] → IsSavedBy saved state solver → ((name : ℕ) (t : List ℕ) → fits_at number_limit (symbol_at (later_state frac_value limit (first_line source) world state answers) name).content t ≡ true) → is_solver_name named ≡ true →

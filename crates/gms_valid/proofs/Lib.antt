@@ -18,3 +18,4 @@ pub mod OwnLoaded
 pub mod ChosenSolvers
 pub mod LastSaves
 pub mod Continued
+pub mod Assigned

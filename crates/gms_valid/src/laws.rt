@@ -1,18 +1,30 @@
 //! What holds of what the last state of a run has.
-ghost use Rattle.std.specs.Prelude.{◌≡◌, ℕ, true, List, [], All, length};
+ghost use Rattle.std.specs.Prelude.{◌≡◌, ℕ, true, List, [], Option, Ok, All, length, option_map};
 ghost use Rattle.gq_number.specs.Number.{Number};
 ghost use Rattle.gq_frac.specs.declared.frac.Frac.{Frac};
 ghost use Rattle.gq_frac.specs.Frac.{frac_value};
+ghost use Rattle.gms_labels.specs.declared.place.Place.{Place};
+ghost use Rattle.gms_ast.specs.declared.expression.Expr.{Expr};
+ghost use Rattle.gms_ast.specs.declared.program.Act.TheVariants.{Assign};
 ghost use Rattle.gms_ast.specs.declared.program.Program.{Program};
+ghost use Rattle.gms_ast.specs.declared.program.Right.TheVariants.{Value};
+ghost use Rattle.gms_ast.specs.declared.program.Stmt.{Stmt};
+ghost use Rattle.gms_ast.specs.declared.program.Target.{Target};
+ghost use Rattle.gms_ast.specs.TreeView.{tree_of};
 ghost use Rattle.gms_parse.specs.Outcomes.{IsProgram};
 ghost use Rattle.gms_store.specs.Declarations.{declared_state};
-ghost use Rattle.gms_store.specs.State.{State, given_in, symbol_at};
+ghost use Rattle.gms_store.specs.State.{State, given_in, symbol_at, symbol_of};
 ghost use Rattle.gms_known.specs.DynamicSets.{dynamic_sets};
 ghost use Rattle.gms_check.specs.CompileErrors.{compile_errors};
 ghost use Rattle.gms_check.specs.Loaded.{IsAccepted, loaded};
 ghost use Rattle.gms_check.specs.Past.{is_among};
+ghost use Rattle.gms_eval.specs.Bindings.{Pairs};
+ghost use Rattle.gms_exec.specs.Assignment.{given_by, target_of};
+ghost use Rattle.gms_exec.specs.Given.{AllGiven};
 ghost use Rattle.gms_exec.specs.Run.{World};
-ghost use Rattle.gms_save.specs.JointErrors.{joint_errors};
+ghost use Rattle.gms_joint.specs.Reached.{IsReached, IsStatementOf};
+ghost use Rattle.gms_joint.specs.LastStates.{MayBegin};
+ghost use Rattle.gms_save.specs.JointErrors.{joint_errors, resumed};
 ghost use Rattle.gms_save.specs.Saves.{IsSavedBy, number_limit};
 ghost use Rattle.gms_seam.specs.Fronts.{first_line, joint_source};
 ghost use Rattle.gms_saved.specs.Validity.{IsSavedOf, is_solver_name, stands_in};
@@ -28,7 +40,8 @@ use gq_field::ExactField;
 /// among its own, as those of the program of a source are (`own`).
 ///
 /// So what the run of a source's program without errors ends in is a saved state of it, one that `restore` takes, with whatever solvers it was
-/// run (`last`). So is what a run ends in that goes on from a save: it is a saved state of the joint program (`later`).
+/// run (`last`). A run may begin in the state that is resumed from a save, so that the laws of whole runs hold there (`begins`). What such a
+/// run ends in is a saved state of the joint program (`later`).
 ///
 /// GAMS User's Guide, "Save and Restart"; "Set Definition", domain checking.
 pub fn valid_laws<F: ExactField>()
@@ -44,9 +57,26 @@ pub fn valid_laws<F: ExactField>()
         compile_errors frac_value world.program world.solvers ≡ [] →
         NumbersFit number_limit (last_state frac_value limit world answers) → is_solver_name solver ≡ true →
         IsSavedBy world.program (last_state frac_value limit world answers) solver }
+    ensures begins { (source file : List ℕ) (saved : Program Frac) (world : World Frac) (state : State) (solver : List ℕ) →
+        IsProgram number_limit source frac_value saved → IsProgram number_limit (joint_source source file) frac_value world.program →
+        joint_errors frac_value world.program (first_line source) world.solvers ≡ [] → IsSavedBy saved state solver →
+        MayBegin frac_value world.program (resumed frac_value state world.program) }
     ensures later { (limit : ℕ) (source file : List ℕ) (saved : Program Frac) (world : World Frac) (state : State) (solver named : List ℕ) (answers : List (Answer Number)) →
         IsProgram number_limit source frac_value saved → IsProgram number_limit (joint_source source file) frac_value world.program →
         joint_errors frac_value world.program (first_line source) world.solvers ≡ [] → IsSavedBy saved state solver →
         NumbersFit number_limit (later_state frac_value limit (first_line source) world state answers) → is_solver_name named ≡ true →
         IsSavedBy world.program (later_state frac_value limit (first_line source) world state answers) named }
+{}
+
+/// What an assignment of an accepted program gives elements has as many labels as its name has positions, in each state that statements
+/// of the program lead to from one in which a run may begin, from its start or from a save, also in the midst of a loop. That is what
+/// `assignment_laws` of gms_exec ask for: so nothing that an assignment gives is lost.
+///
+/// GAMS User's Guide, "Data Manipulations with Parameters", indexed assignments; "Save and Restart".
+pub fn assigned_laws<F: ExactField>()
+    ensures { (world : World F) (statement : Stmt F) (target : Target F) (condition : Option (Expr F)) (right_at : Place) (right : Expr F) (first state : State) (binding : Pairs) (given : AllGiven) →
+        IsAccepted F.value world.program → IsStatementOf world.program statement → statement.act ≡ Assign target condition right_at (Value right) →
+        MayBegin F.value world.program first → IsReached F.value F.limit world first state →
+        given_by F.value F.limit state statement.at binding (target_of target) (option_map tree_of condition) right_at (tree_of right) ≡ Ok given →
+        All (λ one. length one.0 ≡ length (symbol_of state target.name).domain) given }
 {}

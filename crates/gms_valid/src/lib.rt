@@ -3,4 +3,4 @@
 
 mod laws;
 
-pub use laws::valid_laws;
+pub use laws::{assigned_laws, valid_laws};

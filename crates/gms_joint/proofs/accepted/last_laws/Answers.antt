@@ -1,16 +1,24 @@
-use Rattle.gms_joint.proofs.FewPositions.{few-given}
-use Rattle.gms_joint.proofs.Lasting.{loaded-lasts}
+use Rattle.gms_joint.proofs.FewPositions.{few-lasting}
+use Rattle.gms_joint.proofs.Lasting.{loaded-begins, start-lasts}
 use Rattle.gms_joint.proofs.StandingLoaded.{loaded-stands}
+use Rattle.gms_joint.proofs.Starting.{begins-lasting}
 use Rattle.gms_joint.proofs.StaticDomains.{loaded-fixed}
 use Rattle.gms_joint.proofs.TidyLoaded.{loaded-well}
 use Rattle.gms_joint.proofs.UnsolvedLoaded.{loaded-unsolved}
 use Rattle.gms_joint.proofs.accepted.last_laws.Goals as goal
 
 pub returns-clause-kept : goal.returns-clause-kept
-returns-clause-kept g c = loaded-lasts g.F.ExactField.value g.F.ExactField.limit
+returns-clause-kept g c world first state may reached =
+    let v = g.F.ExactField.value in
+    (start-lasts v g.F.ExactField.limit world first state (begins-lasting v world.program first may) reached).later
+
+pub returns-clause-own : goal.returns-clause-own
+returns-clause-own g c program = (loaded-begins g.F.ExactField.value program).later
 
 pub returns-clause-few : goal.returns-clause-few
-returns-clause-few g c = few-given g.F.ExactField.value g.F.ExactField.limit
+returns-clause-few g c world first state name accepted may reached =
+    let v = g.F.ExactField.value in
+    few-lasting v world.program state name accepted (start-lasts v g.F.ExactField.limit world first state (begins-lasting v world.program first may) reached)
 
 pub returns-clause-begins : goal.returns-clause-begins
 returns-clause-begins g c = loaded-stands g.F.ExactField.value

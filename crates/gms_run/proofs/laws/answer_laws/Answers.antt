@@ -2,4 +2,4 @@ use Rattle.gms_run.proofs.Planned.{runs-say-so}
 use Rattle.gms_run.proofs.laws.answer_laws.Goals as goal
 
 pub returns : goal.returns
-returns c = runs-say-so c.plan_laws.ensures c.restarted_plan_laws.ensures
+returns c = runs-say-so c.plan_laws.ensures.start c.plan_laws.ensures.restarted

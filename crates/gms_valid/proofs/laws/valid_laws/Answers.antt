@@ -2,7 +2,7 @@ use Rattle.std.proofs.Common.{length}
 use Rattle.gms_valid.specs.LastStates.{last_state}
 use Rattle.gms_valid.proofs.OwnLoaded.{has-its-labels}
 use Rattle.gms_valid.proofs.Runs.{kept-stand}
-use Rattle.gms_valid.proofs.Continued.{later-saved}
+use Rattle.gms_valid.proofs.Continued.{later-saved, resumed-begins}
 use Rattle.gms_valid.proofs.LastSaves.{last-saved}
 use Rattle.gms_valid.proofs.Saved.{kept-saved, state-kept}
 use Rattle.gms_valid.proofs.laws.valid_laws.Goals as goal
@@ -24,6 +24,9 @@ returns-clause-own g c limit source program is = has-its-labels limit source pro
 
 pub returns-clause-last : goal.returns-clause-last
 returns-clause-last g c limit source world answers solver is none fit named = last-saved limit source world answers solver is none fit named
+
+pub returns-clause-begins : goal.returns-clause-begins
+returns-clause-begins g c = resumed-begins
 
 pub returns-clause-later : goal.returns-clause-later
 returns-clause-later g c limit source file saved world state solver named answers p q none is fit name =

@@ -22,6 +22,7 @@ use Rattle.gms_store.specs.Declarations.{is_undeclared, blank_state}
 use Rattle.gms_known.specs.Names.{is_unknown, positions}
 use Rattle.gms_check.specs.Checked.{StandsAfter}
 use Rattle.gms_check.specs.CompileErrors.{known_after}
+use Rattle.gms_check.specs.Domains as checking
 use Rattle.gms_check.specs.Loaded.{IsAccepted, loaded, sound}
 use Rattle.gms_check.specs.Past.{Known, after_statement, state_after}
 use Rattle.gms_check.specs.Statements.{act_uses}
@@ -45,9 +46,15 @@ use Rattle.gms_exec.specs.Given.{Given, AllGiven}
 use Rattle.gms_exec.proofs.Staying.{Stays, follows-of}
 use Rattle.gms_joint.specs.Reached.{IsStatementOf}
 use Rattle.gms_valid.proofs.Growth.{closed-after}
-use Rattle.gms_plans.proofs.Definitions.{same-count}
 
 -- ---- the tuple of an element
+
+-- both counts of indices are one
+pub same-count : {F : Type 0} (indices : tree.Indices F) → index_count indices ≡ checking.index_count indices
+same-count tree.no_index = refl
+same-count (tree.label label rest) = let e = same-count rest in omega (arith, e)
+same-count (tree.set set rest) = let e = same-count rest in omega (arith, e)
+same-count (tree.lagged set op at amount rest) = let e = same-count rest in omega (arith, e)
 
 -- as many values as answers
 in_order-long : {A : Type 0} (answers : List (Answer A)) (xs : List A) → in_order answers ≡ Ok xs → length xs ≡ length answers
