@@ -154,7 +154,7 @@ class ExpressionChecks:
                 self.report(at, WRONG_KIND)
             elif position is not None and (position is NO_SET or not is_below(inner, position)):
                 self.report(at, DOMAIN_OF_SET)
-            if inner is not None and index.lag and not self.is_ordered(inner):
+            if inner is not None and inner.is_index and index.lag and not self.is_ordered(inner):
                 self.report(at, NOT_ORDERED)
 
     def control_of(self, index: Index, at: Place, scope: Scope) -> None:
