@@ -298,7 +298,7 @@ def bare_row(text: str) -> bool:
 
 def table_block(draw: Draw, rows: list[tuple[str, ...]], heads: list[str], is_first: bool) -> list[str]:
     """A line of headings, and the rows below them."""
-    shown = ['.'.join(label(draw, part, True) for part in row) for row in rows]
+    shown = ['.'.join(label(draw, part, len(row) == 1) for part in row) for row in rows]
     words = [label(draw, it, True) for it in heads]
     left = max(len(it) for it in shown) + draw.between(3, 6)
     width = max([len(it) for it in words] + [7]) + 2
@@ -311,6 +311,9 @@ def table_block(draw: Draw, rows: list[tuple[str, ...]], heads: list[str], is_fi
         for _ in words:
             sign = draw.weighted((8, ''), (1, '-'), (0.5, '+'))
             cells.append((sign + digits(draw)[:6] if draw.chance(0.75) else '').rjust(width))
+        if draw.chance(0.02):
+            # a number right behind the last column of a heading: it is under none
+            cells = [' ' * (width * draw.between(1, len(words))) + digits(draw)[:1]]
         lines.append((row.ljust(left) + ''.join(cells)).rstrip())
         if draw.chance(0.04):
             lines.append(draw.pick(['* a comment in a table', '', '$eject']))

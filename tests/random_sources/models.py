@@ -151,6 +151,18 @@ def turning(draw: Draw, extra: int) -> str:
     return text + 'model m /all/; option lp = dantzig;\nsolve m using lp maximizing z; display z.l, x1.l;'
 
 
+def gain_after_turning(draw: Draw) -> str:
+    """The example that cycles, and beside it two columns that gain little and exclude each other:
+    after the turn to Bland the lesser one enters first, so a turn that is lost takes fewer pivots.
+    """
+    first, most = draw.between(1, 3), draw.between(1, 5)
+    text = 'positive variables x1, x2, x3, x4, y1, y2; variable z;\nequations obj, r1, r2, r3, r4;\n'
+    text += 'obj.. z =e= 10*x1 - 57*x2 - 9*x3 - 24*x4 + %d*y1/100 + %d*y2/100;\n' % (first, first + draw.between(1, 4))
+    text += 'r1.. 0.5*x1 - 5.5*x2 - 2.5*x3 + 9*x4 =l= 0;\nr2.. 0.5*x1 - 1.5*x2 - 0.5*x3 + x4 =l= 0;\n'
+    text += 'r3.. x1 =l= %d;\nr4.. y1 + y2 =l= %d;\n' % (draw.between(1, 5), most)
+    return text + 'model m /all/; option lp = dantzig;\nsolve m using lp maximizing z; display z.l, y1.l, y2.l;'
+
+
 def first_phase_stall(draw: Draw) -> str:
     """A program whose first phase is degenerate: many rows through one point, some of which that
     point breaks at first.
@@ -250,5 +262,5 @@ def refused(draw: Draw, which: int) -> str:
 def any_model(draw: Draw) -> str:
     """A source of one of these shapes."""
     return draw.call((9, lambda: small(draw)), (3, lambda: small(draw, is_degenerate=True)), (4, lambda: small(draw, 0.12)),
-                     (1, lambda: small(draw, 0.4)), (3, lambda: refused(draw, draw.between(0, 99))), (2, lambda: stalling(draw)), (2, lambda: first_phase_stall(draw)),
+                     (1, lambda: small(draw, 0.4)), (3, lambda: refused(draw, draw.between(0, 99))), (2, lambda: stalling(draw)), (2, lambda: first_phase_stall(draw)), (1, lambda: gain_after_turning(draw)),
                      (3, lambda: transport(draw)), (3, lambda: plan(draw)))
