@@ -1,4 +1,4 @@
-"""The transport model of `--generate N` (docs/LISTING.md, "Words").
+"""The transport model of `--generate N` (docs/internals/DESIGN.md, "Generated models").
 
 With N plants and N markets: first the demand of each market, 10 and a draw below 90; then the
 supply of each plant, the sum of demands over N rounded down, 1 and a draw below 10; then the cost
