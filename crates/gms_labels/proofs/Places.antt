@@ -114,3 +114,9 @@ place_of-reads texts text n e =
 pub place_of-within : (texts : List (List ℕ)) (text : List ℕ) (answer : Option ℕ) → answer ≡ place_of texts text → IfSome answer (λ n. n < length texts)
 place_of-within texts text None e = tt
 place_of-within texts text (Some n) e = (place_of-reads texts text n (sym e)).0
+
+-- a text that no label of the list is has no place
+pub place_of-missed : (texts : List (List ℕ)) (text : List ℕ) → ((k : ℕ) → k < length texts → is_same text (get_or texts k []) ≡ false) → place_of texts text ≡ None
+place_of-missed texts text misses =
+    let all : position_or_len (is_same text) texts ≡ length texts = position_or_len_is (is_same text) texts (length texts) [] (omega arith) misses (λ below. absurd (omega arith)) in
+    grind (arith, nat_tests, all)

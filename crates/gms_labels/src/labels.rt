@@ -15,11 +15,14 @@ pub const MOST_LABELS: usize = 65_536;
 /// How many bytes a label has at most.
 pub const MOST_BYTES: usize = 63;
 
+/// Up to how many labels a search compares texts, which takes less than a hash then.
+const FEW: u32 = 16;
+
 /// A table of labels: texts that differ when letter case is ignored, each named by its place, in the order in
 /// which they were entered.
 ///
-/// A text keeps the case in which it was first written. Only the case of ASCII letters is ignored. A search looks a hash
-/// up, which depends on the table's seed.
+/// A text keeps the case in which it was first written. Only the case of ASCII letters is ignored. Among more than 16 labels
+/// a search looks a hash up, which depends on the table's seed.
 pub struct Labels {
     // from each text in lower case to the text as first written
     texts: IndexMap<Folded, String, Seeded>,
@@ -44,11 +47,13 @@ impl Model for Labels {
 }
 
 impl Labels {
-    /// An empty table, whose seed is 0.
+    /// An empty table without a seed.
     pub fn new(alloc: Global) -> Labels
         ensures { result ≡ [] }
     {
-        Labels::with_seed(alloc, 0)
+        Labels {
+            texts: IndexMap::with_hasher(alloc, Seeded::unseeded()),
+        }
     }
 
     /// An empty table with a seed: `source_seed` of a source, where others choose the labels.
@@ -127,9 +132,24 @@ impl Labels {
         ensures within { IfSome result (λ n. n < length self.now) }
         ensures labels { AreLabels self.now }
     {
+        if self.len() <= FEW {
+            return self.find_by_text(text);
+        }
         let folded = Folded::new(text);
         let place = self.texts.get_index_of(&folded)?;
         Some(place as u32)
+    }
+
+    /// The place of a text, letter case ignored, by comparing it with each label.
+    fn find_by_text(&self, text: &str) -> Option<u32>
+        ensures { result ≡ place_of self.now text.now }
+    {
+        for place in 0..self.len() {
+            if text.eq_ignore_ascii_case(self.text(place)) {
+                return Some(place);
+            }
+        }
+        None
     }
 
     /// The text at a place that has one, as it was first written.

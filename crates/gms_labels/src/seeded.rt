@@ -17,6 +17,13 @@ impl Seeded {
         initial.write_u64(seed);
         Seeded { initial }
     }
+
+    /// The hashers without a seed.
+    pub fn unseeded() -> Seeded {
+        Seeded {
+            initial: DefaultHasher::new(),
+        }
+    }
 }
 
 impl BuildHasher for Seeded {
