@@ -12,7 +12,7 @@ use Rattle.gq_number.proofs.Gcd.{gcd-dvd_left, gcd-dvd_right, gcd_pos, gcd-scale
 use Rattle.gq_number.proofs.Naming.{ratio-times}
 use Rattle.lp_whole.specs.declared.line.Line.{Line}
 use Rattle.lp_whole.specs.declared.parts.Part.{Part}
-use Rattle.lp_numbers.specs.Lines.{whole_at}
+use Rattle.lp_numbers.specs.Lines.{whole_at, AreWithin}
 use Rattle.lp_numbers.proofs.Lines.{whole_past}
 use Rattle.lp_whole.specs.Form.{wholes, line_number}
 use Rattle.lp_whole.specs.Parts.{AreZeros, AreThere, AreApart, IsMultiple, HaveNoMultiple, HaveNoCommonMultiple, IsSomePast, HaveNoLine, AreFilled, AreParts}
@@ -65,15 +65,20 @@ filled_none parts multiple width numbers z =
       elsewhere = λ c none. z.zeros c;
     }
 
+-- one number is put among numbers within a magnitude
+pub within_set : (numbers : List ℤ) (at : ℕ) (v : ℤ) (most : ℕ) → at < length numbers → AreWithin numbers most → nat_abs v ≤ most → AreWithin (set numbers at v) most
+within_set numbers at v most less h low = λ c.
+    elim (cases_eq c at) [
+      | inl same ↦ subst (λ k. nat_abs (whole_at (set numbers at v) k) ≤ most) (sym same) (subst (λ x. nat_abs x ≤ most) (sym (get_or-set_same numbers at v (pos 0) less)) low)
+      | inr other ↦ subst (λ x. nat_abs x ≤ most) (sym (get_or-set_other numbers at c v (pos 0) other)) (h c)
+    ]
+
 pub filled_more : (parts : List Part) (multiple width n : ℕ) (numbers : List ℤ) (p : Part) (v : ℤ) → AreThere width parts → AreApart parts → AreFilled parts multiple width n numbers → slice_get parts n ≡ Some p → nat_abs v < 2 ^ 127 → ratio v multiple ≡ ratio p.numerator p.denominator → AreFilled parts multiple width (n + 1) (set numbers p.column v)
 filled_more parts multiple width n numbers p v are apart h there small is =
     let within : p.column < length numbers = let e = h.sized in let less = (are n p there).0 in omega arith in
     record {
       sized = length-set numbers p.column v ∙ h.sized;
-      small = λ c. elim (cases_eq c p.column) [
-        | inl same ↦ subst (λ k. nat_abs (whole_at (set numbers p.column v) k) ≤ 2 ^ 127 - 1) (sym same) (subst (λ x. nat_abs x ≤ 2 ^ 127 - 1) (sym (get_or-set_same numbers p.column v (pos 0) within)) (omega arith))
-        | inr other ↦ subst (λ x. nat_abs x ≤ 2 ^ 127 - 1) (sym (get_or-set_other numbers p.column c v (pos 0) other)) (h.small c)
-      ];
+      small = within_set numbers p.column v (2 ^ 127 - 1) within h.small (omega arith);
       here = λ i q less at. elim (cases_eq i n) [
         | inl same ↦
             let q_is : p ≡ q = same_some p q (sym there ∙ subst (λ k. slice_get parts k ≡ Some q) same at) in

@@ -33,6 +33,24 @@ impl Line {
             most,
         })
     }
+
+    /// The line of these whole numbers of one word each, one for each column, over this denominator.
+    pub(crate) fn of_words(words: Vec<i64>, denominator: u128) -> Line
+        requires positive { 0 < denominator }
+        requires small { denominator < 2 ^ 127 }
+        requires words_small { AreWithin words.items (2 ^ 63 - 1) }
+        ensures line { IsLine result }
+        ensures numbers { wholes result ≡ words.items }
+        ensures denominator { result.denominator ≡ denominator }
+    {
+        let numbers = Numbers::of_words(words);
+        let greatest = numbers.greatest();
+        Line {
+            numbers,
+            denominator,
+            most: greatest.max(denominator),
+        }
+    }
 }
 
 /// What a line, and what the pivot line is multiplied by in an exchange; and a magnitude that no new part of the line passes.

@@ -1,13 +1,14 @@
 //! A line of a row that is given by fractions.
-ghost use Rattle.std.specs.Prelude.{◌≡◌, ℕ, ◌*◌, ◌/◌, ◌<◌, ◌≤◌, ◌^◌, nat_abs, length, slice_get, Some, IfOk, MatchOption};
+ghost use Rattle.std.specs.Prelude.{◌≡◌, ℕ, ◌*◌, ◌/◌, ◌<◌, ◌≤◌, ◌^◌, ◌-◌, nat_abs, length, slice_get, Some, IfOk, IfSome, MatchOption};
 ghost use Rattle.std.specs.Int.{◌∣◌};
 ghost use Rattle.gq_number.specs.Number.{ratio};
+ghost use Rattle.lp_numbers.specs.Lines.{AreWithin};
 ghost use Rattle.lp_whole.specs.declared.parts.Part.{Part};
 ghost use Rattle.lp_whole.specs.Form.{wholes, IsLine, line_number};
 ghost use Rattle.lp_whole.specs.Parts.{AreZeros, AreThere, AreApart, IsMultiple, HaveNoMultiple, HaveNoCommonMultiple, IsSomePast, HaveNoLine, AreFilled, AreParts};
 
 use crate::line::Line;
-use lp_numbers::{gcd, product_within};
+use lp_numbers::{gcd, product_within, zero_words};
 use std::alloc::{AllocError, Global};
 
 /// An entry of a row: column 0 is the constant, and variable v is column v + 1.
@@ -23,6 +24,9 @@ pub struct Part {
 
 /// The greatest magnitude of a part.
 const MOST: u128 = (1 << 127) - 1;
+
+/// The least magnitude that does not fit in one word with a sign.
+const WORD: u128 = 1 << 63;
 
 /// The least common multiple of both; none where it has more than 127 bits.
 fn multiple_of(m: u128, d: u128) -> Option<u128>
@@ -62,6 +66,46 @@ fn scaled(part: Part, multiple: u128) -> Option<i128>
         return None;
     };
     Some(part.numerator * factor as i128)
+}
+
+/// The same, where it has one word; none where it has more.
+fn scaled_word(part: Part, multiple: u128) -> Option<i64>
+    requires positive { 0 < part.denominator }
+    requires some { 0 < multiple }
+    requires small { multiple < 2 ^ 127 }
+    requires divides { part.denominator ∣ multiple }
+    ensures { IfSome result (λ n. (nat_abs n ≤ 2 ^ 63 - 1) × (ratio n multiple ≡ ratio part.numerator part.denominator)) }
+{
+    let Some(number) = scaled(part, multiple) else {
+        return None;
+    };
+    if number.unsigned_abs() >= WORD {
+        return None;
+    }
+    Some(number as i64)
+}
+
+/// The whole numbers of a row over a multiple of all denominators, in one word each; none where one has more.
+fn fill_words(
+    alloc: Global,
+    width: usize,
+    parts: &[Part],
+    multiple: u128,
+) -> Result<Option<Vec<i64>>, AllocError>
+    requires there { AreThere width parts.now }
+    requires apart { AreApart parts.now }
+    requires multiple { IsMultiple parts.now (length parts.now) multiple }
+    ensures { IfOk result (λ o. IfSome o (λ words. AreFilled parts.now multiple width (length parts.now) words.items × AreWithin words.items (2 ^ 63 - 1))) }
+{
+    let mut words = zero_words(alloc, width)?;
+    for i in 0..parts.len() {
+        let part = parts[i];
+        let Some(word) = scaled_word(part, multiple) else {
+            return Ok(None);
+        };
+        words[part.column as usize] = word;
+    }
+    Ok(Some(words))
 }
 
 /// So many zeros.
@@ -112,6 +156,10 @@ pub fn line_of_parts(
     let Some(multiple) = common_multiple(parts) else {
         return Ok(None);
     };
+    if let Some(words) = fill_words(alloc, width, parts, multiple)? {
+        let line = Line::of_words(words, multiple);
+        return Ok(Some(line));
+    }
     let filled = fill(alloc, width, parts, multiple)?;
     let Some(numbers) = filled else {
         return Ok(None);

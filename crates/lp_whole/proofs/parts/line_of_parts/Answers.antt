@@ -1,5 +1,6 @@
-use Rattle.std.proofs.Common.{length, ap, ◌∙◌, subst}
-use Rattle.std.specs.Prelude.{MatchOption}
+use Rattle.std.proofs.Common.{◌-◌, ◌^◌, length, ap, ◌∙◌, subst}
+use Rattle.std.specs.Prelude.{IfSome, MatchOption}
+use Rattle.lp_numbers.specs.Lines.{AreWithin}
 use Rattle.lp_whole.specs.Parts.{AreFilled, IsSomePast}
 use Rattle.lp_whole.proofs.Filling.{parts_are, no_multiple_no_line, past_no_line}
 use Rattle.lp_whole.proofs.parts.line_of_parts.Goals as goal
@@ -23,3 +24,7 @@ pub returns-in_default-filled-clause-none : goal.returns-in_default-filled-claus
 returns-in_default-filled-clause-none c =
     past_no_line c.args.parts.now c.args.width c.in-Some.multiple c.requires.there c.in-Some.ensures
     (subst (λ o. MatchOption o (IsSomePast c.args.parts.now c.in-Some.multiple) (λ numbers. AreFilled c.args.parts.now c.in-Some.multiple c.args.width (length c.args.parts.now) numbers.items)) c.in_default-filled.is c.in_ok-filled.ensures)
+
+pub returns-in-Some-2-clause-numbers : goal.returns-in-Some-2-clause-numbers
+returns-in-Some-2-clause-numbers c =
+    parts_are c.args.parts.now c.in-Some.multiple c.args.width c.of_words-line.result c.in-Some-2.words.items (subst (λ o. IfSome o (λ words. AreFilled c.args.parts.now c.in-Some.multiple c.args.width (length c.args.parts.now) words.items × AreWithin words.items (2 ^ 63 - 1))) c.in-Some-2.is c.in_ok-words.ensures).0 c.of_words-line.ensures.numbers c.of_words-line.ensures.denominator
