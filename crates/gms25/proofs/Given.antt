@@ -11,7 +11,7 @@ use Rattle.gms_words.specs.CommandLine.{texts, request_of}
 use Rattle.gms_run.specs.Statuses.{CountsSo, EndsByNoFault, IsReadyFor, MeetsNoFault, NamesProgram}
 use Rattle.gms_run.specs.declared.status.Status.{Status}
 use Rattle.gms_run.specs.declared.status.Status.TheVariants.{Done, Usage, Execution}
-use Rattle.gms25.specs.Program.{EndsGiven, HasWords, RunsWith, both, given_words}
+use Rattle.gms25.specs.Program.{EndsGiven, HasWords, RunsWith, lent, given_words}
 
 -- the words that a run has are those that are given
 pub are_given : (args : Result (IntoIter (String Global) Global) Error) (words : List (String Global)) → HasWords args words → words ≡ given_words args
@@ -24,7 +24,7 @@ pub record Says (result : Result Status AllocError) (words : List (List ℕ)) (o
   pub counts : IfOk result (λ status. CountsSo status old.counts new.counts)
   pub no_fault : IsReadyFor old words → IfOk result EndsByNoFault
   pub usage : IfOk result (λ status. (status ≡ Usage) ↔ (request_of words ≡ None))
-  pub complete : NamesProgram both.names old.outside words → MeetsNoFault old.counts new.counts → IfOk result (λ status. (status ≡ Done) ⊎ (status ≡ Execution))
+  pub complete : NamesProgram lent.names old.outside words → MeetsNoFault old.counts new.counts → IfOk result (λ status. (status ≡ Done) ⊎ (status ≡ Execution))
 
 -- it ends so as a run of the words that are given
 pub ends_given : (args : Result (IntoIter (String Global) Global) Error) (words : List (String Global)) (result : Result Status AllocError) (old new : Meaning) →

@@ -27,13 +27,18 @@ abbrev pub HasWords : Result (IntoIter (String Global) Global) Error → List (S
 HasWords (Ok args) words = words ≡ drop 1 (into_iter_items args)
 HasWords (Err error) words = (error_kind error ≡ InvalidData) × (words ≡ [])
 
--- the solvers that a run is lent: that by Bland's rule, and that by the largest coefficient, which have given no answer
-abbrev pub both : Solvers
-both = record { names = codes "bland" ∷ codes "dantzig" ∷ []; rules = Bland ∷ Legal ∷ []; paths = [] ∷ [] ∷ [] }
+-- the solvers that a run is lent, which have given no answer: by Bland's rule, by the largest coefficient, by steepest edge, and by several rules in turn
+abbrev pub lent : Solvers
+lent =
+    record {
+      names = codes "bland" ∷ codes "dantzig" ∷ codes "steepest" ∷ codes "any" ∷ [];
+      rules = Bland ∷ Legal ∷ Legal ∷ Legal ∷ [];
+      paths = [] ∷ [] ∷ [] ∷ [] ∷ [];
+    }
 
 -- the run of words with these solvers, which ends with this status
 abbrev pub RunsWith : Status → List (List ℕ) → Meaning → Meaning → Type 0
-RunsWith status words old new = (solving : Solving) × ((solving.before ≡ both) × IsRun status solving words old new)
+RunsWith status words old new = (solving : Solving) × ((solving.before ≡ lent) × IsRun status solving words old new)
 
 -- the run of the words that the process gives
 abbrev pub RunsGiven : Status → Result (IntoIter (String Global) Global) Error → Meaning → Meaning → Type 0
@@ -45,7 +50,7 @@ pub record EndsGiven (status : Status) (args : Result (IntoIter (String Global) 
   pub counts : CountsSo status old.counts new.counts
   pub no_fault : IsReadyFor old (texts (given_words args)) → EndsByNoFault status
   pub usage : (status ≡ Usage) ↔ (request_of (texts (given_words args)) ≡ None)
-  pub complete : NamesProgram both.names old.outside (texts (given_words args)) → MeetsNoFault old.counts new.counts → (status ≡ Done) ⊎ (status ≡ Execution)
+  pub complete : NamesProgram lent.names old.outside (texts (given_words args)) → MeetsNoFault old.counts new.counts → (status ≡ Done) ⊎ (status ≡ Execution)
 
 -- the exit status: that of the run, or 6 where memory was wanting
 abbrev pub exit_of : Result Status AllocError → ℕ

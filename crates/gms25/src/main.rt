@@ -5,13 +5,15 @@ ghost use Rattle.std.specs.Prelude.{◌≡◌, ◌↔◌, ◌⊎◌, IfOk};
 ghost use Rattle.std.specs.Process.{exit_status};
 ghost use Rattle.gms_words.specs.CommandLine.{texts, request_of};
 ghost use Rattle.gms_run.specs.Statuses.{CountsSo, EndsByNoFault, IsReadyFor, MeetsNoFault, NamesProgram};
-ghost use Rattle.gms25.specs.Program.{EndsGiven, ExitsSo, HasWords, RunsWith, both, exit_of, given_words};
+ghost use Rattle.gms25.specs.Program.{EndsGiven, ExitsSo, HasWords, RunsWith, lent, exit_of, given_words};
 
 use gms_host::{Host, RealHost};
 use gms_run::{Status, run};
+use lp_any::Any;
 use lp_bland::Bland;
 use lp_dantzig::Dantzig;
 use lp_slot::LpSolver;
+use lp_steepest::Steepest;
 use std::alloc::{AllocError, Global};
 use std::env::{self, Args};
 use std::io::{self, ErrorKind};
@@ -33,8 +35,8 @@ fn words(alloc: Global, args: io::Result<Args>) -> Result<Vec<String>, AllocErro
     }
 }
 
-/// Runs the words over a host with the solver by Bland's rule and the one by the largest coefficient, and tells how the run ends. A
-/// source that chooses none has the first.
+/// Runs the words over a host, and tells how the run ends. It lends four solvers: by Bland's rule, by the largest coefficient, by
+/// steepest edge, and by several rules in turn. A source that chooses none has the first.
 fn run_with_solvers<H: Host>(
     alloc: Global,
     words: &[String],
@@ -45,11 +47,13 @@ fn run_with_solvers<H: Host>(
     ensures steady { IsReadyFor (H.meaning host.old) (texts words.now) → (H.meaning host.new).counts ≡ (H.meaning host.old).counts }
     ensures no_fault { IsReadyFor (H.meaning host.old) (texts words.now) → IfOk result EndsByNoFault }
     ensures usage { IfOk result (λ status. (status ≡ Status.Usage) ↔ (request_of (texts words.now) ≡ None)) }
-    ensures complete { NamesProgram both.names (H.meaning host.old).outside (texts words.now) → MeetsNoFault (H.meaning host.old).counts (H.meaning host.new).counts → IfOk result (λ status. (status ≡ Status.Done) ⊎ (status ≡ Status.Execution)) }
+    ensures complete { NamesProgram lent.names (H.meaning host.old).outside (texts words.now) → MeetsNoFault (H.meaning host.old).counts (H.meaning host.new).counts → IfOk result (λ status. (status ≡ Status.Done) ⊎ (status ≡ Status.Execution)) }
 {
     let mut solvers: Vec<Box<dyn LpSolver>> = Vec::new(alloc);
     solvers.push(Box::new(alloc, Bland::new(alloc))?)?;
     solvers.push(Box::new(alloc, Dantzig::new(alloc))?)?;
+    solvers.push(Box::new(alloc, Steepest::new(alloc))?)?;
+    solvers.push(Box::new(alloc, Any::new(alloc))?)?;
     let ended = run(alloc, words, host, &mut solvers)?;
     Ok(ended.status)
 }

@@ -392,8 +392,8 @@ fn run_words<H: Host>(
 /// ReadFault nothing is solved. There are fewer than 2^32 solvers.
 ///
 /// What the clauses leave open: `AllocError` comes where a growth finds no memory, here or in the host. Then only `steady`
-/// holds, and the output may hold a prefix of a listing. Where the host hides its files, the source is some source.
-/// Of a solver whose rule is Legal they promise legal pivots, and not which of them.
+/// holds, and the output may hold a prefix of a listing. Where the host hides its files, the source is some source, and
+/// `compile` and `complete` are silent. Of a solver whose rule is Legal they promise legal pivots, and not which of them.
 pub fn run<H: Host>(
     alloc: Global,
     words: &[String],

@@ -4,10 +4,12 @@ use gms_host::MemHost;
 use gms_run::{Ended, run};
 use gq_field::ExactField;
 use gq_frac::Frac;
+use lp_any::Any;
 use lp_bland::Bland;
 use lp_core::{Answer, End, Pivot};
 use lp_dantzig::Dantzig;
 use lp_slot::LpSolver;
+use lp_steepest::Steepest;
 use std::alloc::Global;
 use std::fmt::Write;
 use std::process::Abort;
@@ -78,13 +80,19 @@ pub(crate) fn host_of(
     MemHost::in_pieces(alloc, files, fail, most)
 }
 
-/// The solver of a name, `bland`, `dantzig` or else `greatest`.
+/// The solver of a name: one of the program's, or else `greatest`.
 fn solver(rt: &impl Abort, alloc: Global, name: &str) -> Box<dyn LpSolver> {
     if name == "bland" {
         return Box::new(alloc, Bland::new(alloc)).expect(rt, "memory");
     }
     if name == "dantzig" {
         return Box::new(alloc, Dantzig::new(alloc)).expect(rt, "memory");
+    }
+    if name == "steepest" {
+        return Box::new(alloc, Steepest::new(alloc)).expect(rt, "memory");
+    }
+    if name == "any" {
+        return Box::new(alloc, Any::new(alloc)).expect(rt, "memory");
     }
     Box::new(alloc, GreatestFirst::new(alloc)).expect(rt, "memory")
 }
@@ -160,7 +168,7 @@ fn ended(
     host: &mut MemHost,
     solvers: &mut Vec<Box<dyn LpSolver>>,
 ) -> Ended {
-    assert!(rt; solvers.len() <= 2, "at most two solvers");
+    assert!(rt; solvers.len() <= 4, "at most four solvers");
     let words = words_of(rt, alloc, words);
     run(alloc, words.as_slice(), host, solvers).expect(rt, "memory")
 }

@@ -134,7 +134,13 @@ const GOING_ON_ROWS: [Row<'static>; 11] = [
 fn left_of(rt: &impl Abort, alloc: Global, due: &Due, most: u32, fail: u64) -> Left {
     let fail = [fail];
     let host = (due.files, most, fail.as_slice());
-    run_files(rt, alloc, host, due.words, &["bland", "dantzig"])
+    run_files(
+        rt,
+        alloc,
+        host,
+        due.words,
+        &["bland", "dantzig", "steepest", "any"],
+    )
 }
 
 /// Whether a run left what is due by a row, and fronts of what is due of any.

@@ -54,14 +54,14 @@ PROOF Infeasible
 END";
 
 /// The solvers of the program.
-const LENT: &[&str] = &["bland", "dantzig"];
+const LENT: &[&str] = &["bland", "dantzig", "steepest", "any"];
 
 /// A textbook's model on which the rule of the largest coefficient cycles.
 const CYCLING: &str =
     "option limrow = 0, limcol = 0, solprint = off; positive variables x1, x2, x3, x4; variable z; equations obj, r1, r2, r3; obj.. z =e= 10*x1 - 57*x2 - 9*x3 - 24*x4; r1.. 0.5*x1 - 5.5*x2 - 2.5*x3 + 9*x4 =l= 0; r2.. 0.5*x1 - 1.5*x2 - 0.5*x3 + x4 =l= 0; r3.. x1 =l= 1; model m /all/;";
 
 /// Sources that choose a solver, or two in turn. Where they do not, the first of the list answers.
-const ROWS: [Row<'static>; 15] = [
+const ROWS: [Row<'static>; 16] = [
     (
         BOTH,
         TWO_WAYS,
@@ -103,14 +103,22 @@ const ROWS: [Row<'static>; 15] = [
         CYCLING,
         "option lp = dantzig; solve m using lp maximizing z;",
         "MODEL STATUS 1 Optimal\nOBJECTIVE 1.000\n",
-        "bland\ndantzig | 5>7 1>9 2>10 3>1 4>2 9>3 10>4 1>9 2>10 3>1 4>2 9>3 1>4 3>11\n",
+        "bland\ndantzig | 5>7 1>9 2>10 3>1 4>2 9>3 10>4 1>9 2>10 3>1 4>2 9>3 1>4 3>11\nsteepest\nany\n",
     ),
     (
         LENT,
         CAPPED,
         "solve m using lp maximizing z; option lp = dantzig; solve m using lp maximizing z;",
         "OBJECTIVE 4.000\nPROOF Optimal\n  level x = 4\n  level z = 4\n",
-        "bland | 2>5 1>4\ndantzig | 2>5 1>4\n",
+        "bland | 2>5 1>4\ndantzig | 2>5 1>4\nsteepest\nany\n",
+    ),
+    // One variable improves at a time, so each rule takes the same pivots.
+    (
+        LENT,
+        CAPPED,
+        "option lp = steepest; solve m using lp maximizing z; option lp = any; solve m using lp maximizing z;",
+        "OBJECTIVE 4.000\nPROOF Optimal\n  level x = 4\n  level z = 4\n",
+        "bland\ndantzig\nsteepest | 2>5 1>4\nany | 2>5 1>4\n",
     ),
     // Bounds that cross add an empty path.
     (

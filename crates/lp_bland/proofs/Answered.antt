@@ -17,7 +17,7 @@ use Rattle.lp_core.specs.Ends.{EndsSoBy}
 use Rattle.lp_core.specs.Answers.{IsAnswer}
 use Rattle.lp_core.specs.Dictionary.{Dictionary, Improves, first_dictionary}
 use Rattle.lp_core.specs.Numbers.{answer_numbers, column_numbers, end_numbers, lp_numbers, row_numbers}
-use Rattle.lp_core.specs.StandardForm.{Last, Standard, standard_form}
+use Rattle.lp_core.specs.StandardForm.{Standard, standard_form}
 use Rattle.lp_core.specs.Steps.{AllFit, FirstStop}
 use Rattle.lp_core.specs.WellFormed.{IsWellFormed}
 use Rattle.lp_std.specs.Last.{IsDictionaryOf}

@@ -5,10 +5,4 @@ pub mod Programs
 pub mod Widened
 pub mod Few
 pub mod Answered
-pub mod Fitting
-pub mod FittingForm
-pub mod FittingTurn
-pub mod FittingBack
-pub mod Deciding
-pub mod Existing
 pub mod Narrowed

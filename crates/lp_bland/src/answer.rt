@@ -4,6 +4,7 @@ ghost use Rattle.lp_core.specs.declared.answer.Rule.TheVariants as by;
 ghost use Rattle.lp_core.specs.Answers.{IsAnswer};
 ghost use Rattle.lp_core.specs.Pivots.{IsChosen};
 ghost use Rattle.lp_core.specs.WellFormed.{IsWellFormed};
+ghost use Rattle.lp_exists.specs.Only.{IsOnly};
 ghost use Rattle.lp_nocycle.specs.PivotCount.{HasFewPivots, ComesToEnd};
 ghost use Rattle.lp_bland.specs.Least.{least_improves};
 
@@ -31,7 +32,7 @@ impl<F: ExactField> Choosing<F> for Least {
     ghost improving = { λ _ _ d q chosen. least_improves d q chosen };
 }
 
-/// The answer of a program under Bland's rule, found by at most `iterlim` pivots: Bland, "New finite pivoting rules for the
+/// The only answer of a program under Bland's rule, found by at most `iterlim` pivots: Bland, "New finite pivoting rules for the
 /// simplex method"; Chvatal, Linear Programming, chapter 3.
 ///
 /// Optimal, Infeasible and Unbounded come with what proves them. Interrupted comes after exactly `iterlim` pivots where a
@@ -45,6 +46,7 @@ pub fn solve_in<F: ExactField>(
 ) -> Result<Answer<F>, AllocError>
     requires { IsWellFormed F.value lp.now }
     ensures answers { IfOk result (IsAnswer F.value F.limit lp.now iterlim by.Bland) }
+    ensures only { IfOk result (IsOnly (IsAnswer F.value F.limit lp.now iterlim by.Bland)) }
     ensures few { IfOk result (HasFewPivots F.value lp.now) }
     ensures to_the_end { IfOk result (ComesToEnd F.value lp.now iterlim) }
 {

@@ -3,6 +3,7 @@ ghost use Rattle.std.specs.Prelude.{◌≡◌, ◌∷◌, ◌++◌, [], codes, I
 ghost use Rattle.gq_frac.specs.Frac.{frac_limit, frac_value};
 ghost use Rattle.lp_core.specs.declared.answer.Rule.TheVariants as by;
 ghost use Rattle.lp_core.specs.Answers.{IsAnswer};
+ghost use Rattle.lp_exists.specs.Only.{IsOnly};
 ghost use Rattle.lp_nocycle.specs.PivotCount.{HasFewPivots, ComesToEnd};
 ghost use Rattle.lp_bland.specs.Name.{bland_is_name};
 ghost use Rattle.lp_core.specs.WellFormed.{IsWellFormed};
@@ -59,7 +60,7 @@ impl LpSolver for Bland {
         self.taken.as_slice()
     }
 
-    /// The answer of a program under Bland's rule, of which there is one. No basis comes back, so the pivots are fewer than twice the sets of
+    /// The only answer of a program under Bland's rule. No basis comes back, so the pivots are fewer than twice the sets of
     /// the variables of its standard form, slacks and variable 0 included, and with a limit of at least that many the end is not Interrupted.
     fn solve(
         &mut self,
@@ -69,6 +70,7 @@ impl LpSolver for Bland {
     ) -> Result<Answer<Frac>, AllocError>
         requires { IsWellFormed frac_value lp.now }
         ensures answers { IfOk result (IsAnswer frac_value frac_limit lp.now iterlim by.Bland) }
+        ensures only { IfOk result (IsOnly (IsAnswer frac_value frac_limit lp.now iterlim by.Bland)) }
         ensures few { IfOk result (HasFewPivots frac_value lp.now) }
         ensures to_the_end { IfOk result (ComesToEnd frac_value lp.now iterlim) }
         ensures paths { IfOk result (λ answer. self.new ≡ self.old ++ answer.pivots ∷ []) }

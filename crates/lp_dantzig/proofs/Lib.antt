@@ -1,5 +1,3 @@
-pub mod Along
-pub mod Phases
-pub mod Counted
 pub mod Nexts
-pub mod Compared
+pub mod Greatest
+pub mod Only

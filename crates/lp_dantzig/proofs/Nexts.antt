@@ -1,12 +1,9 @@
 -- Which variable enters next is one.
-use Rattle.std.proofs.Common.{◌≡◌, ℕ, ◌≤◌, inl, inr, List, Option, Some, None, arith}
-use Rattle.std.specs.Prelude.{MatchOption}
+use Rattle.std.proofs.Common.{◌≡◌, ℕ, ◌≤◌, inl, inr, List, arith}
 use Rattle.gq_number.proofs.Order.{≤ℚ_antisymm}
 use Rattle.lp_core.specs.declared.answer.Pivot.{Pivot}
-use Rattle.lp_core.specs.declared.answer.Rule.TheVariants.{Bland}
-use Rattle.lp_core.specs.Dictionary.{Dictionary, entry_at, Improves}
-use Rattle.lp_core.specs.Pivots.{IsChosen}
-use Rattle.lp_core.specs.LargestCoefficient.{HasGreatest, HasTurned, IsNext}
+use Rattle.lp_core.specs.Dictionary.{Dictionary, entry_at}
+use Rattle.lp_core.specs.LargestCoefficient.{HasGreatest, IsNext}
 use Rattle.lp_exact.proofs.Improving.{priced_there}
 
 both_least : (a b : ℕ) → a ≤ b → b ≤ a → a ≡ b
@@ -27,14 +24,3 @@ next_once first pivots d q r (inl one) (inl two) = greatest_once d q r one.1 two
 next_once first pivots d q r (inl one) (inr two) = absurd (one.0 two.0)
 next_once first pivots d q r (inr one) (inl two) = absurd (two.0 one.0)
 next_once first pivots d q r (inr one) (inr two) = both_least q r (one.1.1 r two.1.0) (two.1.1 q one.1.0)
-
--- what the dictionary answers is next
-pub next_by_greatest : (d : Dictionary) (r : Option ℕ) (Known : Dictionary → List Pivot → Type 0) → MatchOption r ((v : ℕ) → ¬ (Improves d v)) (HasGreatest d) → ((first : Dictionary) (pivots : List Pivot) → Known first pivots → ¬ (HasTurned first pivots d))
-    → MatchOption r ((v : ℕ) → ¬ (Improves d v)) (λ q. Improves d q × ((first : Dictionary) (pivots : List Pivot) → Known first pivots → IsNext first pivots d q))
-next_by_greatest d None Known h turned = h
-next_by_greatest d (Some q) Known h turned = (h.improves, λ first pivots known. inl (turned first pivots known, h))
-
-pub next_by_least : (d : Dictionary) (r : Option ℕ) (Known : Dictionary → List Pivot → Type 0) → MatchOption r ((v : ℕ) → ¬ (Improves d v)) (IsChosen Bland d) → ((first : Dictionary) (pivots : List Pivot) → Known first pivots → HasTurned first pivots d)
-    → MatchOption r ((v : ℕ) → ¬ (Improves d v)) (λ q. Improves d q × ((first : Dictionary) (pivots : List Pivot) → Known first pivots → IsNext first pivots d q))
-next_by_least d None Known h turned = h
-next_by_least d (Some q) Known h turned = (h.0, λ first pivots known. inr (turned first pivots known, h))

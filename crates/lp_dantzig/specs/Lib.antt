@@ -1,3 +1,3 @@
-pub mod Counting
-pub mod Next
+pub mod Greatest
 pub mod Name
+pub mod Next

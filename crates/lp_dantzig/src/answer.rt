@@ -4,20 +4,23 @@ ghost use Rattle.lp_core.specs.declared.answer.Rule.TheVariants as by;
 ghost use Rattle.lp_core.specs.Answers.{IsAnswer};
 ghost use Rattle.lp_core.specs.LargestCoefficient.{IsLargestAnswer};
 ghost use Rattle.lp_core.specs.WellFormed.{IsWellFormed};
+ghost use Rattle.lp_exists.specs.Only.{IsOnly};
+ghost use Rattle.lp_nocycle.specs.Turns.{HasFewPivotsByTurn, ComesToEndByTurn};
 
 use crate::largest::Largest;
 use gq_field::ExactField;
 use lp_core::{Answer, Lp};
-use lp_walk::solve_by;
+use lp_turn::solve_with;
 use std::alloc::{AllocError, Global};
 
-/// The answer of a program by the rule of the largest coefficient, found by at most `iterlim` pivots: Chvatal, Linear
+/// The only answer of a program by the rule of the largest coefficient, found by at most `iterlim` pivots: Chvatal, Linear
 /// Programming, chapters 2 and 3.
 ///
 /// The variable that improves with the greatest coefficient enters, and of the tied ones the least leaves; once as many pivots
 /// on end as there are variables gained nothing, Bland's rule takes over to the end of the phase. Optimal, Infeasible and
 /// Unbounded come with what proves them. Interrupted comes after exactly `iterlim` pivots where a further one is due, and Refused
-/// with the first step that does not fit under the limit of the field. The error is want of memory.
+/// with the first step that does not fit under the limit of the field. The turn bounds the pivots, and with a limit of at least the
+/// bound the end is not Interrupted. The error is out of memory.
 pub fn solve_in<F: ExactField>(
     alloc: Global,
     lp: &Lp<F>,
@@ -26,7 +29,9 @@ pub fn solve_in<F: ExactField>(
     requires { IsWellFormed F.value lp.now }
     ensures largest { IfOk result (IsLargestAnswer F.value F.limit lp.now iterlim) }
     ensures answers { IfOk result (IsAnswer F.value F.limit lp.now iterlim by.Legal) }
+    ensures only { IfOk result (IsOnly (IsLargestAnswer F.value F.limit lp.now iterlim)) }
+    ensures few { IfOk result (HasFewPivotsByTurn F.value lp.now) }
+    ensures to_the_end { IfOk result (ComesToEndByTurn F.value lp.now iterlim) }
 {
-    let mut choice = Largest::Still(0);
-    solve_by(alloc, lp, iterlim, &mut choice)
+    solve_with(alloc, lp, iterlim, Largest)
 }

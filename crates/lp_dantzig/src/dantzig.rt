@@ -5,6 +5,8 @@ ghost use Rattle.lp_core.specs.declared.answer.Rule.TheVariants as by;
 ghost use Rattle.lp_core.specs.Answers.{IsAnswer};
 ghost use Rattle.lp_core.specs.LargestCoefficient.{IsLargestAnswer};
 ghost use Rattle.lp_core.specs.WellFormed.{IsWellFormed};
+ghost use Rattle.lp_exists.specs.Only.{IsOnly};
+ghost use Rattle.lp_nocycle.specs.Turns.{HasFewPivotsByTurn, ComesToEndByTurn};
 ghost use Rattle.lp_dantzig.specs.Name.{dantzig_is_name};
 
 use crate::answer::solve_in;
@@ -60,8 +62,9 @@ impl LpSolver for Dantzig {
         self.taken.as_slice()
     }
 
-    /// The answer of a program by the rule of the largest coefficient with the turn to Bland's rule, of which there is one: its
-    /// pivots are legal, and pivots, end and refused step are those of that rule.
+    /// The only answer of a program by the rule of the largest coefficient with the turn to Bland's rule: its pivots are legal, and
+    /// pivots, end and refused step are those of that rule. The turn bounds the pivots, and with a limit of at least the bound the end is
+    /// not Interrupted.
     fn solve(
         &mut self,
         alloc: Global,
@@ -71,6 +74,9 @@ impl LpSolver for Dantzig {
         requires { IsWellFormed frac_value lp.now }
         ensures answers { IfOk result (IsAnswer frac_value frac_limit lp.now iterlim by.Legal) }
         ensures largest { IfOk result (IsLargestAnswer frac_value frac_limit lp.now iterlim) }
+        ensures only { IfOk result (IsOnly (IsLargestAnswer frac_value frac_limit lp.now iterlim)) }
+        ensures few { IfOk result (HasFewPivotsByTurn frac_value lp.now) }
+        ensures to_the_end { IfOk result (ComesToEndByTurn frac_value lp.now iterlim) }
         ensures paths { IfOk result (λ answer. self.new ≡ self.old ++ answer.pivots ∷ []) }
         ensures unchanged { OnErr result (self.new ≡ self.old) }
     {

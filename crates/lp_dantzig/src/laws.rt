@@ -20,3 +20,9 @@ pub fn one_answer<F: ExactField>()
     ensures { (lp : Lp F) (iterlim : ℕ) (a b : Answer F) → IsWellFormed F.value lp →
         IsLargestAnswer F.value F.limit lp iterlim a → IsLargestAnswer F.value F.limit lp iterlim b → a ≡ b }
 {}
+
+/// A program has an answer by the rule of the largest coefficient and each limit of pivots. So there is exactly one: a call that is given the
+/// memory has something to answer.
+pub fn an_answer<F: ExactField>()
+    ensures { (lp : Lp F) (iterlim : ℕ) → IsWellFormed F.value lp → (answer : Answer F) × IsLargestAnswer F.value F.limit lp iterlim answer }
+{}

@@ -25,17 +25,17 @@ power_above : (w : ℕ) → 0 < 2 ^ w
 power_above zero = omega arith
 power_above (suc w) = let rest = power_above w in let power : 2 ^ suc w ≡ 2 ^ w * 2 = pow-suc 2 w in omega arith
 
-two_power_above : (w : ℕ) → 0 < 2 * 2 ^ w
+pub two_power_above : (w : ℕ) → 0 < 2 * 2 ^ w
 two_power_above w = let rest = power_above w in omega arith
 
 no_pivots : {X : Type 0} (xs : List X) (w : ℕ) → xs ≡ [] → length xs < 2 * 2 ^ w
 no_pivots {X} xs w none = subst (λ (ys : List X). length ys < 2 * 2 ^ w) (sym none) (two_power_above w)
 
 module _ {F : Type 0} (value : F → Number) (limit : ℕ) (lp : Lp F) (iterlim : ℕ) where
-  not_crossed : (end : End F) → IsInterrupted end → ¬ (EndsCrossed value lp end)
+  pub not_crossed : (end : End F) → IsInterrupted end → ¬ (EndsCrossed value lp end)
   not_crossed end is h = subst IsInterrupted h.2 is
 
-  not_refused : (end : End F) (step : StepName) → end ≡ Refused step → IsInterrupted end → ⊥
+  pub not_refused : (end : End F) (step : StepName) → end ≡ Refused step → IsInterrupted end → ⊥
   not_refused end step refused is = subst IsInterrupted refused is
 
   -- of a kind of end it is that one alone which an interrupted search tells
@@ -49,7 +49,7 @@ module _ {F : Type 0} (value : F → Number) (limit : ℕ) (lp : Lp F) (iterlim 
   at_kind Chosen pivots d how last (Unbounded levels row_levels ray) is at leads = absurd is
   at_kind Chosen pivots d how last (Refused step) is at leads = absurd is
 
-  at_the_limit : (Allowed : Pivot → ℕ → Type 0) (Chosen : ℕ → Type 0) (pivots : ℕ) (d : Dictionary) (end : End F) → IsInterrupted end → EndsSoBy value limit lp iterlim Allowed Chosen pivots d end → pivots ≡ iterlim
+  pub at_the_limit : (Allowed : Pivot → ℕ → Type 0) (Chosen : ℕ → Type 0) (pivots : ℕ) (d : Dictionary) (end : End F) → IsInterrupted end → EndsSoBy value limit lp iterlim Allowed Chosen pivots d end → pivots ≡ iterlim
   at_the_limit Allowed Chosen pivots d end is (inl (how, last, at, inl told)) = at_kind Chosen pivots d how last end is at told.0
   at_the_limit Allowed Chosen pivots d end is (inl (how, last, at, inr refused)) = absurd (not_refused end refused.0 refused.1 is)
   at_the_limit Allowed Chosen pivots d end is (inr (inl most)) = most.0

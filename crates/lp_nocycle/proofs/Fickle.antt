@@ -19,7 +19,7 @@ use Rattle.lp_nocycle.specs.Cycling.{SameBasic}
 use Rattle.lp_nocycle.proofs.Sparse.{SomeAbove, some_above, some_above_for}
 use Rattle.lp_nocycle.proofs.Agreeing.{form, Solves, Agrees}
 use Rattle.lp_nocycle.proofs.Units.{some_is, place_of, IsFree, free_of, unit, unit_here, unit_free, unit_basic, unit_is, unit_solves, objective_of_unit}
-use Rattle.lp_nocycle.proofs.Runs.{IsRun, some_below, greatest_below}
+use Rattle.lp_nocycle.proofs.Runs.{IsRun, AreBlands, some_below, greatest_below}
 use Rattle.lp_nocycle.proofs.Runs
 use Rattle.lp_nocycle.proofs.Level.{Returns}
 use Rattle.lp_nocycle.proofs.Level
@@ -152,7 +152,7 @@ module _ (m : ℕ) (at : ℕ → Dictionary) (pivot : ℕ → Pivot) (row : ℕ 
 
   -- ---- the contradiction: t leaves at l, where s enters, and enters at a
 
-  module _ (a l : ℕ) (less_a : a < m) (less_l : l < m) (greatest : (j : ℕ) → j < m → (pivot j).enter ≤ (pivot a).enter) (leaves : (pivot l).leave ≡ (pivot a).enter) where
+  module _ (bland : AreBlands m at pivot) (a l : ℕ) (less_a : a < m) (less_l : l < m) (greatest : (j : ℕ) → j < m → (pivot j).enter ≤ (pivot a).enter) (leaves : (pivot l).leave ≡ (pivot a).enter) where
     proper_l : IsProper (at l)
     proper_l = Runs.proper_at m at pivot row returns.runs l (omega arith)
 
@@ -168,7 +168,7 @@ module _ (m : ℕ) (at : ℕ → Dictionary) (pivot : ℕ → Pivot) (row : ℕ 
     -- a variable that improves at a is not below t
     improving_least : (v : ℕ) → v ≢ 0 → v ≤ (at a).variables → ¬ (Contains (at a).basic v) → whole (pos 0) <ℚ entry_at (at a) (Level.priced m at pivot row returns).0 v → (pivot a).enter ≤ v
     improving_least v other there none above =
-        ((returns.runs.bland a less_a).enters (returns.step a less_a).not_due).1 v
+        ((bland a less_a).enters (returns.step a less_a).not_due).1 v
         (record { other = other; there = there; not_basic = none; above = λ k p. subst (λ i. whole (pos 0) <ℚ entry_at (at a) i v) (priced_same k ((Level.priced m at pivot row returns).1 a (omega arith)) p) above })
       where
         priced_same : (k : ℕ) → IsPriced (at a) (Level.priced m at pivot row returns).0 → IsPriced (at a) k → (Level.priced m at pivot row returns).0 ≡ k
@@ -201,7 +201,7 @@ module _ (m : ℕ) (at : ℕ → Dictionary) (pivot : ℕ → Pivot) (row : ℕ 
         let limits : Limits (at l) (pivot l).enter i = (get_within (at l).basic i v here, above) in
         let least : (j : ℕ) → Limits (at l) (pivot l).enter j → ratio_at (at l) (pivot l).enter i ≤ℚ ratio_at (at l) (pivot l).enter j =
         λ j limited. subst (λ x. x ≤ℚ ratio_at (at l) (pivot l).enter j) (Level.ratio_none m at pivot row returns l less_l ∙ sym flat) ((returns.step l less_l).ties.least j limited) in
-        let most = (returns.runs.bland l less_l).leaves i (returns.step l less_l).not_due (record { limits = limits; least = least }) in
+        let most = (bland l less_l).leaves i (returns.step l less_l).not_due (record { limits = limits; least = least }) in
         let is = get_index (at l).basic i v 0 here in
         omega arith
 
@@ -253,7 +253,7 @@ module _ (m : ℕ) (at : ℕ → Dictionary) (pivot : ℕ → Pivot) (row : ℕ 
           | inr out ↦ free_clash term.0 term.1 term.2 none out term.3
         ]
 
--- no run of at least one pivot leads back to its basic variables within its phase
+-- a run of at least one pivot leads back to its basic variables within its phase
 module _ (n : ℕ) (at : ℕ → Dictionary) (pivot : ℕ → Pivot) (row : ℕ → ℕ) (runs : IsRun (suc n) at pivot row) (phase : ℕ) (phase_first : IsPhase (at 0) phase) (phase_last : IsPhase (at (suc n)) phase) (same : SameBasic (at 0) (at (suc n))) where
   no_opening_first : ¬ (IsOpening (at 0) (pivot 0) (row 0))
   no_opening_first o =
@@ -285,14 +285,15 @@ module _ (n : ℕ) (at : ℕ → Dictionary) (pivot : ℕ → Pivot) (row : ℕ 
       Runs.out_from (suc n) at pivot row runs 0 never_zero 0 j (omega arith) (omega arith) (λ here. out ((same 0).0 here))
       (contains_get (at j).basic (row j) 0 (Runs.leaving_at (suc n) at pivot row runs j less ∙ ap Some none))
 
-  returns : Returns (suc n) at pivot row
+  pub returns : Returns (suc n) at pivot row
   returns = record { runs = runs; step = step; zero_stays = zero_stays; back = same }
 
-  pub no_return : ⊥
-  no_return =
+  -- if each pivot is Bland's, none does
+  pub no_return : ¬ (AreBlands (suc n) at pivot)
+  no_return bland =
       let most = greatest_below (λ j. (pivot j).enter) n in
       elim (some_below (λ j. (pivot j).leave) (pivot most.0).enter (suc n)) [
-        | inl found ↦ contradiction (suc n) at pivot row returns most.0 found.0 most.1 found.1 most.2 found.2
+        | inl found ↦ contradiction (suc n) at pivot row returns bland most.0 found.0 most.1 found.1 most.2 found.2
         | inr never ↦
             Runs.entering_at (suc n) at pivot row runs most.0 most.1
             (Runs.in_from (suc n) at pivot row runs (pivot most.0).enter never 0 most.0 (omega arith) (let h = most.1 in omega arith)

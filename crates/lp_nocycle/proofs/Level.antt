@@ -108,7 +108,7 @@ module _ (m : ℕ) (at : ℕ → Dictionary) (pivot : ℕ → Pivot) (row : ℕ 
       ]
 
   -- so the constant of the row that is touched is 0, before and after
-  touched_before : (j : ℕ) → j < m → constant_at (at j) (row j) ≡ whole (pos 0)
+  pub touched_before : (j : ℕ) → j < m → constant_at (at j) (row j) ≡ whole (pos 0)
   touched_before j less = no_quotient (constant_at (at j) (row j)) (entry_at (at j) (row j) (pivot j).enter) (≢-zero_above _ (returns.step j less).ties.limits.1) (ratio_none j less)
 
   constant_same : (k j : ℕ) → j < m → constant_at (at (suc j)) k ≡ constant_at (at j) k

@@ -132,7 +132,7 @@ IsFirst d = OpeningIsDue d ⊎ InPhaseOne d
 abbrev pub IsSecond : Dictionary → Type 0
 IsSecond d = ¬ (OpeningIsDue d) × ¬ (InPhaseOne d)
 
-first_or_second : (d : Dictionary) → IsFirst d ⊎ IsSecond d
+pub first_or_second : (d : Dictionary) → IsFirst d ⊎ IsSecond d
 first_or_second d =
     elim (found_or_not d.basic 0) [
       | inl found ↦ inl (inr (contains_get d.basic found.0 0 found.1))
@@ -146,7 +146,7 @@ first_or_second d =
 abbrev pub SamePhase : Dictionary → Dictionary → Type 0
 SamePhase d e = (phase : ℕ) × IsPhase d phase × IsPhase e phase
 
-phases_same : (d e : Dictionary) → Alike (IsFirst d) (IsSecond d) (IsFirst e) (IsSecond e) → SamePhase d e
+pub phases_same : (d e : Dictionary) → Alike (IsFirst d) (IsSecond d) (IsFirst e) (IsSecond e) → SamePhase d e
 phases_same d e (inl both) = (1, inl (refl, both.0), inl (refl, both.1))
 phases_same d e (inr both) = (2, inr (refl, both.0.0, both.0.1), inr (refl, both.1.0, both.1.1))
 

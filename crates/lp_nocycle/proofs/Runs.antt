@@ -79,13 +79,16 @@ module _ (d : Dictionary) (p : Pivot) (k : ℕ) (proper : IsProper d) (legal : I
 
 -- ---- runs
 
--- A run: from a proper dictionary on each of m pivots is legal and Bland's, and each dictionary is the exchange of the one
--- before it; row j is that of the variable that leaves.
+-- A run: from a proper dictionary on each of m pivots is legal, and each dictionary is the exchange of the one before it; row j
+-- is that of the variable that leaves.
 pub record IsRun (m : ℕ) (at : ℕ → Dictionary) (pivot : ℕ → Pivot) (row : ℕ → ℕ) : Type 0 where
   pub proper : IsProper (at 0)
   pub legal : (j : ℕ) → j < m → IsLegal (at j) (pivot j) (row j)
-  pub bland : (j : ℕ) → j < m → IsTaken (IsChosen Bland (at j)) (at j) (pivot j)
   pub next : (j : ℕ) → j < m → at (suc j) ≡ exchanged (at j) (pivot j).enter (row j)
+
+-- each pivot of a run is Bland's
+abbrev pub AreBlands : ℕ → (ℕ → Dictionary) → (ℕ → Pivot) → Type 0
+AreBlands m at pivot = (j : ℕ) → j < m → IsTaken (IsChosen Bland (at j)) (at j) (pivot j)
 
 -- what a step keeps holds from a place on
 pub walk : (P : ℕ → Type 0) (m : ℕ) → ((j : ℕ) → j < m → P j → P (suc j)) → (a b : ℕ) → a ≤ b → b ≤ m → P a → P b

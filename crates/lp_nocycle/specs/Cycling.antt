@@ -3,7 +3,7 @@ use Rattle.std.specs.Prelude.{◌↔◌, ℕ, List, [], ◌∷◌, Contains}
 use Rattle.gq_number.specs.Number.{Number}
 use Rattle.lp_core.specs.declared.answer.Pivot.{Pivot}
 use Rattle.lp_core.specs.Ends.{IsPhase}
-use Rattle.lp_core.specs.declared.answer.Rule.TheVariants.{Bland}
+use Rattle.lp_core.specs.declared.answer.Rule.TheVariants.{Bland, Legal}
 use Rattle.lp_core.specs.declared.program.Lp.{Lp}
 use Rattle.lp_core.specs.StandardForm.{standard_form}
 use Rattle.lp_core.specs.Dictionary.{Dictionary, first_dictionary}
@@ -14,10 +14,10 @@ use Rattle.lp_core.specs.WellFormed.{IsWellFormed}
 abbrev pub SameBasic : Dictionary → Dictionary → Type 0
 SameBasic d e = (v : ℕ) → Contains d.basic v ↔ Contains e.basic v
 
--- no basis comes back within a phase, whatever the numbers: of Bland's pivots from the first dictionary of a program some lead to d,
--- one more and those between lead on to e, and both are of one phase; then d and e have not the same basic variables
+-- no basis comes back within a phase, whatever the numbers: legal pivots lead from the first dictionary of a program to d, one of
+-- Bland's and more of his lead on to e, and both are of one phase; then d and e have not the same basic variables
 abbrev pub NoneRepeats : {F : Type 0} → (F → Number) → Type 0
 NoneRepeats {F} value =
     (lp : Lp F) (before between : List Pivot) (p : Pivot) (d e : Dictionary) (phase : ℕ) →
-    IsWellFormed value lp → Leads (ByRule Bland) [] (first_dictionary (standard_form value lp)) before d → Leads (ByRule Bland) before d (p ∷ between) e →
+    IsWellFormed value lp → Leads (ByRule Legal) [] (first_dictionary (standard_form value lp)) before d → Leads (ByRule Bland) before d (p ∷ between) e →
     IsPhase d phase → IsPhase e phase → ¬ (SameBasic d e)

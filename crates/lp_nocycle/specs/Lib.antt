@@ -1,2 +1,3 @@
 pub mod Cycling
 pub mod PivotCount
+pub mod Turns

@@ -1,8 +1,9 @@
-//! Floor 4, linear programs. No cycling: under Bland's rule no basis comes back, and so the pivots end.
+//! Floor 4, linear programs. No cycling: under Bland's rule no basis comes back, and so the pivots end, also where another rule
+//! turns to it.
 #![tactic(auto)]
 
 mod laws;
 mod sets;
 
-pub use laws::{no_basis_repeats, pivots_end};
+pub use laws::{Turning, largest_ends, no_basis_repeats, pivots_end, turns_end};
 pub use sets::bound;

@@ -1,0 +1,42 @@
+-- Where Bland's rule is refused after all others, each of them is refused; and an answer by Bland's rule is one of legal pivots.
+use Rattle.std.proofs.Common.{◌≡◌, ℕ, Bool, true}
+use Rattle.std.specs.Prelude.{◌↔◌, Result, Ok, Err, IfOk, IsTrue}
+use Rattle.std.specs.declared.alloc.AllocError.{AllocError}
+use Rattle.gq_number.specs.Number.{Number}
+use Rattle.lp_core.specs.declared.answer.Answer.{Answer}
+use Rattle.lp_core.specs.declared.answer.Rule.TheVariants.{Bland, Legal}
+use Rattle.lp_core.specs.declared.program.Lp.{Lp}
+use Rattle.lp_core.specs.Answers.{IsAnswer}
+use Rattle.lp_core.proofs.Rules.{bland_is_legal}
+use Rattle.lp_bland.specs.Ends.{IsRefused}
+use Rattle.lp_any.specs.declared.members.Member.{Member}
+use Rattle.lp_any.specs.declared.members.Member.TheVariants as member
+use Rattle.lp_any.specs.Members.{IsAnswerOf, IsRefusedBy}
+
+module _ {F : Type 0} (value : F → Number) (limit : ℕ) (lp : Lp F) (iterlim : ℕ) where
+  abbrev By : Member → Type 0
+  By rule = IsRefusedBy value limit rule lp iterlim
+
+  each : By member.Steepest → By member.Shortest → By member.GainForBits → By member.Largest → By member.Bland → (rule : Member) → By rule
+  each steepest shortest gain largest bland member.Steepest = steepest
+  each steepest shortest gain largest bland member.Shortest = shortest
+  each steepest shortest gain largest bland member.GainForBits = gain
+  each steepest shortest gain largest bland member.Largest = largest
+  each steepest shortest gain largest bland member.Bland = bland
+
+  pub each_refused : (result : Result (Answer F) AllocError) → By member.Steepest → By member.Shortest → By member.GainForBits → By member.Largest
+      → IfOk result (IsAnswerOf value limit member.Bland lp iterlim) → IfOk result (λ answer. IsRefused answer.end → (rule : Member) → By rule)
+  each_refused (Ok answer) steepest shortest gain largest bland = λ refused. each steepest shortest gain largest (answer, bland, refused)
+  each_refused (Err e) steepest shortest gain largest bland = bland
+
+  pub bland_if_ok : (result : Result (Answer F) AllocError) → IfOk result (IsAnswerOf value limit member.Bland lp iterlim) → IfOk result (λ answer. (rule : Member) × IsAnswerOf value limit rule lp iterlim answer)
+  bland_if_ok (Ok answer) bland = (member.Bland, bland)
+  bland_if_ok (Err e) bland = bland
+
+  -- a rule whose end is found to be Refused has a refused answer
+  pub refused_by : (rule : Member) (answer : Answer F) (found : Bool) → IsAnswerOf value limit rule lp iterlim answer → IsTrue found ↔ IsRefused answer.end → found ≡ true → By rule
+  refused_by rule answer found is tells so = (answer, is, tells.0 so)
+
+  pub legal_if_ok : (result : Result (Answer F) AllocError) → IfOk result (IsAnswer value limit lp iterlim Bland) → IfOk result (IsAnswer value limit lp iterlim Legal)
+  legal_if_ok (Ok answer) bland = bland_is_legal value limit lp iterlim answer bland
+  legal_if_ok (Err e) bland = bland

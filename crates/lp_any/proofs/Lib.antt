@@ -1,0 +1,3 @@
+pub mod Cheapest
+pub mod Each
+pub mod Measured

@@ -1,0 +1,25 @@
+-- The variable that a rule by costs picks.
+use Rattle.std.specs.Prelude.{◌≡◌, ◌⊎◌, ℕ, ◌<◌, ◌≤◌, Option, Some, None}
+use Rattle.lp_core.specs.Dictionary.{Dictionary, Improves}
+use Rattle.lp_any.specs.declared.costs.Candidate.{Candidate}
+
+-- A variable improves, and of those that improve none costs less, and no lesser one costs as much.
+pub record IsCheapest (Costs : Dictionary → ℕ → ℕ → Type 0) (d : Dictionary) (q : ℕ) : Type 0 where
+  pub improves : Improves d q
+  pub cost : ℕ
+  pub costs : Costs d q cost
+  pub least : (v : ℕ) → Improves d v → (n : ℕ) × Costs d v n × (cost ≤ n) × (cost ≡ n → q ≤ v)
+
+pub cheapest_improves : (Costs : Dictionary → ℕ → ℕ → Type 0) (d : Dictionary) (q : ℕ) → IsCheapest Costs d q → Improves d q
+cheapest_improves Costs d q cheapest = cheapest.improves
+
+-- the one that costs less, and of equal ones the first
+abbrev pub IsBetter : Option Candidate → Candidate → Candidate → Type 0
+IsBetter None other better = better ≡ other
+IsBetter (Some best) other better = ((best.cost ≤ other.cost) × (better ≡ best)) ⊎ ((other.cost < best.cost) × (better ≡ other))
+
+-- a variable is tried: it does not improve and the best stays, or it improves and the better one is taken
+abbrev pub IsTried : (Dictionary → ℕ → ℕ → Type 0) → Dictionary → ℕ → Option Candidate → Option Candidate → Type 0
+IsTried Costs d v best after =
+    (¬ (Improves d v) × (after ≡ best))
+    ⊎ ((other better : Candidate) × (other.variable ≡ v) × Improves d v × Costs d v other.cost × IsBetter best other better × (after ≡ Some better))

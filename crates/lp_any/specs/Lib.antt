@@ -1,0 +1,4 @@
+pub mod Costs
+pub mod Measures
+pub mod Members
+pub mod Name

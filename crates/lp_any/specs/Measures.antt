@@ -1,0 +1,43 @@
+-- What it costs that a variable enters, by the number on which it pivots (Chvatal, Linear Programming, chapters 2 and 3).
+use Rattle.std.specs.Prelude.{◌≡◌, ◌⊎◌, ℕ, ◌+◌, ◌-◌, nat_abs, slice_get, Some, None}
+use Rattle.std.specs.Int.{w128, leading_zeros}
+use Rattle.gq_number.specs.Number.{Number}
+use Rattle.lp_core.specs.declared.answer.StepName.{StepName}
+use Rattle.lp_core.specs.Dictionary.{Dictionary, constant_at, entry_at, IsPriced}
+use Rattle.lp_core.specs.Steps.{FirstStop, ratio_steps}
+use Rattle.lp_exact.specs.Pivots.{IsLeaving}
+
+-- how many bits a whole number below 2 ^ 128 has
+abbrev pub bits : ℕ → ℕ
+bits n = 128 - leading_zeros w128 n
+
+-- the bits of numerator and denominator
+abbrev pub length_of : Number → ℕ
+length_of x = bits (nat_abs x.numerator) + bits x.denominator
+
+-- The bits of the numerator of a pivot number, less those of the gain, and 1000. The gain is the coefficient times the constant over
+-- the pivot number; the bits of a number are those of its numerator less those of its denominator.
+abbrev pub cost_of_gain : Number → Number → Number → ℕ
+cost_of_gain coefficient constant number =
+    1000 + bits (nat_abs number.numerator) + bits (nat_abs number.numerator) + bits coefficient.denominator + bits constant.denominator
+    - (bits (nat_abs coefficient.numerator) + bits (nat_abs constant.numerator) + bits number.denominator)
+
+-- the row of the variable that leaves where v enters
+abbrev pub IsLeavingRow : Dictionary → ℕ → ℕ → Type 0
+IsLeavingRow d v k = (leave : ℕ) × IsLeaving d v (Some leave) × (slice_get d.basic k ≡ Some leave)
+
+-- The cost of a variable that improves, by that of the row of the variable that leaves: 0 where no row limits it, so that the search ends
+-- with it, and 10000 where a step of its ratio test does not fit.
+abbrev pub IsCostBy : ℕ → (Dictionary → ℕ → ℕ → ℕ → Type 0) → Dictionary → ℕ → ℕ → Type 0
+IsCostBy limit AtRow d v n =
+    (IsLeaving d v None × (n ≡ 0))
+    ⊎ ((k : ℕ) × IsLeavingRow d v k × AtRow d v k n)
+    ⊎ ((n ≡ 10000) × ((pivot : ℕ) × (step : StepName) × FirstStop (ratio_steps limit pivot d v) step))
+
+-- the cost by the length of the pivot number
+abbrev pub LengthAt : Dictionary → ℕ → ℕ → ℕ → Type 0
+LengthAt d v k n = n ≡ length_of (entry_at d k v)
+
+-- the cost by the gain and the pivot number
+abbrev pub GainAt : Dictionary → ℕ → ℕ → ℕ → Type 0
+GainAt d v k n = (j : ℕ) × IsPriced d j × (n ≡ cost_of_gain (entry_at d j v) (constant_at d k) (entry_at d k v))

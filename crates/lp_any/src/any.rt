@@ -1,0 +1,85 @@
+//! The solver by several rules in turn.
+ghost use Rattle.std.specs.Prelude.{◌≡◌, ◌∷◌, ◌++◌, [], codes, IfOk, OnErr};
+ghost use Rattle.gq_frac.specs.Frac.{frac_limit, frac_value};
+ghost use Rattle.lp_core.specs.declared.answer.Rule.TheVariants as by;
+ghost use Rattle.lp_core.specs.Answers.{IsAnswer};
+ghost use Rattle.lp_core.specs.WellFormed.{IsWellFormed};
+ghost use Rattle.lp_any.specs.Name.{any_is_name};
+ghost use Rattle.lp_bland.specs.Ends.{IsRefused};
+ghost use Rattle.lp_any.specs.declared.members.Member.{Member as MemberName};
+ghost use Rattle.lp_any.specs.Members.{IsAnswerOf, IsRefusedBy};
+
+use crate::answer::solve_in;
+use gq_frac::Frac;
+use lp_core::{Answer, Lp, Pivot, Rule, Sequence};
+use lp_slot::LpSolver;
+use std::alloc::{AllocError, Global};
+use std::marker::Model;
+
+/// The solver by several rules in turn: the first answer that is not Refused is the one that it gives, with its pivots.
+#[derive(Drop)]
+pub struct Any {
+    taken: Vec<Sequence<Pivot>>,
+}
+
+impl Model for Any {
+    ghost use Rattle.std.specs.Prelude.{List};
+    ghost use Rattle.lp_core.specs.declared.answer.Pivot.{Pivot};
+
+    ghost Value = { List (List Pivot) };
+
+    ghost view = { λ d. d.taken.items };
+}
+
+impl Any {
+    /// A solver that has given no answer. It keeps the allocator and takes no memory.
+    pub fn new(alloc: Global) -> Any
+        ensures { result ≡ [] }
+    {
+        Any {
+            taken: Vec::new(alloc),
+        }
+    }
+}
+
+impl LpSolver for Any {
+    ghost name = { λ _. codes "any" };
+
+    ghost rule = { λ _. by.Legal };
+
+    ghost paths = { λ d. d };
+
+    fn name(&self) -> &str {
+        "any"
+    }
+
+    fn rule(&self) -> Rule {
+        Rule::Legal
+    }
+
+    fn paths(&self) -> &[Sequence<Pivot>] {
+        self.taken.as_slice()
+    }
+
+    /// The answer of a program by the first rule that is not refused; Refused only where each of them is, Bland's among them.
+    fn solve(
+        &mut self,
+        alloc: Global,
+        lp: &Lp<Frac>,
+        iterlim: u64,
+    ) -> Result<Answer<Frac>, AllocError>
+        requires { IsWellFormed frac_value lp.now }
+        ensures answers { IfOk result (IsAnswer frac_value frac_limit lp.now iterlim by.Legal) }
+        ensures member { IfOk result (λ answer. (member : MemberName) × IsAnswerOf frac_value frac_limit member lp.now iterlim answer) }
+        ensures refused { IfOk result (λ answer. IsRefused answer.end → (member : MemberName) → IsRefusedBy frac_value frac_limit member lp.now iterlim) }
+        ensures paths { IfOk result (λ answer. self.new ≡ self.old ++ answer.pivots ∷ []) }
+        ensures unchanged { OnErr result (self.new ≡ self.old) }
+    {
+        let answer = solve_in(alloc, lp, iterlim)?;
+        let path = Vec::from_slice(alloc, answer.pivots.as_slice())?;
+        self.taken.push(Sequence::new(path))?;
+        Ok(answer)
+    }
+
+    ghost named = { λ _. any_is_name };
+}

@@ -1,0 +1,67 @@
+//! Rules that pick the variable with the least cost.
+ghost use Rattle.std.specs.Prelude.{ℕ, MatchOption};
+ghost use Rattle.lp_core.specs.Dictionary.{Dictionary, OpeningIsDue, Improves};
+ghost use Rattle.lp_dict.specs.Tableau.{dictionary};
+ghost use Rattle.lp_any.specs.Costs.{IsBetter, IsCheapest, IsTried};
+
+use gq_field::ExactField;
+use lp_dict::Dict;
+
+/// A cost of each variable that improves, by which the one to enter is picked.
+pub(crate) trait Costing<F: ExactField>: Drop {
+    /// Of a dictionary, a variable and a number: that this is the variable's cost.
+    ghost costs: { Dictionary → ℕ → ℕ → Type 0 };
+
+    /// What it costs that this variable enters.
+    fn cost(&self, dict: &Dict<F>, variable: u32) -> u32
+        requires { Improves (dictionary F.value dict.now) variable }
+        ensures { costs (dictionary F.value dict.now) variable result };
+}
+
+/// A variable, and what it costs that it enters.
+#[derive(Clone, Copy)]
+pub(crate) struct Candidate {
+    variable: u32,
+    cost: u32,
+}
+
+/// The one that costs less, and of equal ones the first.
+fn better(best: Option<Candidate>, other: Candidate) -> Candidate
+    ensures { IsBetter best other result }
+{
+    let Some(best) = best else {
+        return other;
+    };
+    if other.cost < best.cost { other } else { best }
+}
+
+/// The better of the best variable so far and another, where that improves.
+fn tried<C: Costing<F>, F: ExactField>(
+    rule: &C,
+    dict: &Dict<F>,
+    best: Option<Candidate>,
+    variable: u32,
+) -> Option<Candidate>
+    ensures { IsTried C.costs (dictionary F.value dict.now) variable best result }
+{
+    if !dict.improves(variable) {
+        return best;
+    }
+    let cost = rule.cost(dict, variable);
+    Some(better(best, Candidate { variable, cost }))
+}
+
+/// The variable that improves and costs least, and of equal ones the least; none exactly where none improves.
+pub(crate) fn cheapest<C: Costing<F>, F: ExactField>(rule: &C, dict: &Dict<F>) -> Option<u32>
+    ensures { MatchOption result ((v : ℕ) → ¬ (Improves (dictionary F.value dict.now) v)) (IsCheapest C.costs (dictionary F.value dict.now)) }
+{
+    dict.keeps();
+    let mut best = None;
+    for variable in 0..dict.variables() + 1 {
+        best = tried(rule, dict, best, variable);
+    }
+    match best {
+        Some(best) => Some(best.variable),
+        None => None,
+    }
+}

@@ -1,0 +1,48 @@
+//! The rules that are tried, and the answer by each.
+ghost use Rattle.std.specs.Prelude.{IfOk};
+ghost use Rattle.lp_core.specs.declared.answer.Rule.TheVariants as by;
+ghost use Rattle.lp_core.specs.Answers.{IsAnswer};
+ghost use Rattle.lp_core.specs.WellFormed.{IsWellFormed};
+ghost use Rattle.lp_any.specs.Members.{IsAnswerOf};
+
+use crate::measures::{GainForBits, Shortest};
+use gq_field::ExactField;
+use lp_core::{Answer, Lp};
+use lp_turn::solve_with;
+use std::alloc::{AllocError, Global};
+
+/// A rule that is tried.
+#[derive(Clone, Copy)]
+pub enum Member {
+    /// Steepest edge over the rows that limit a variable.
+    Steepest,
+    /// The shortest pivot number.
+    Shortest,
+    /// The bits of the gain, less those of the pivot number.
+    GainForBits,
+    /// The largest coefficient.
+    Largest,
+    /// Bland's rule.
+    Bland,
+}
+
+/// The answer of a program by one of the rules, found by at most `iterlim` pivots: Chvatal, Linear Programming, chapters 2 and 3.
+/// The error is out of memory.
+pub fn answer_of<F: ExactField>(
+    alloc: Global,
+    lp: &Lp<F>,
+    iterlim: u64,
+    member: Member,
+) -> Result<Answer<F>, AllocError>
+    requires { IsWellFormed F.value lp.now }
+    ensures answer { IfOk result (IsAnswerOf F.value F.limit member lp.now iterlim) }
+    ensures legal { IfOk result (IsAnswer F.value F.limit lp.now iterlim by.Legal) }
+{
+    match member {
+        Member::Steepest => lp_steepest::solve_in(alloc, lp, iterlim),
+        Member::Shortest => solve_with(alloc, lp, iterlim, Shortest),
+        Member::GainForBits => solve_with(alloc, lp, iterlim, GainForBits),
+        Member::Largest => lp_dantzig::solve_in(alloc, lp, iterlim),
+        Member::Bland => lp_bland::solve_in(alloc, lp, iterlim),
+    }
+}

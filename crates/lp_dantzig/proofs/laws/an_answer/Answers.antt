@@ -1,0 +1,14 @@
+use Rattle.std.proofs.Common.{◌≤◌, arith}
+use Rattle.lp_core.specs.LargestCoefficient.{HasGreatest, IsNext}
+use Rattle.lp_exists.proofs.Existing.{some_answer}
+use Rattle.lp_turn.proofs.Chosen.{always_chooses}
+use Rattle.lp_dantzig.specs.Next.{next_improves}
+use Rattle.lp_dantzig.proofs.Greatest.{greatest_there}
+use Rattle.lp_dantzig.proofs.laws.an_answer.Goals as goal
+
+pub returns : goal.returns
+returns g c lp iterlim formed =
+    let range = g.met.F.ExactField.limit_range in
+    let least = range.0 in
+    let some : 1 ≤ g.F.ExactField.limit = omega arith in
+    some_answer g.F.ExactField.value g.F.ExactField.limit some range.1 g.met.F.ExactField.within g.met.F.ExactField.each_number lp formed iterlim IsNext next_improves (always_chooses HasGreatest greatest_there)

@@ -1,0 +1,32 @@
+//! The answer of a program by steepest edge.
+ghost use Rattle.std.specs.Prelude.{IfOk};
+ghost use Rattle.lp_core.specs.declared.answer.Rule.TheVariants as by;
+ghost use Rattle.lp_core.specs.Answers.{IsAnswer};
+ghost use Rattle.lp_core.specs.Dictionary.{Improves};
+ghost use Rattle.lp_core.specs.WellFormed.{IsWellFormed};
+ghost use Rattle.lp_turn.specs.Turn.{IsTurningAnswer};
+
+use crate::limiting::Limiting;
+use gq_field::ExactField;
+use lp_core::{Answer, Lp};
+use lp_turn::solve_with;
+use std::alloc::{AllocError, Global};
+
+/// The answer of a program by steepest edge over the rows that limit a variable, found by at most `iterlim` pivots: Goldfarb and
+/// Reid, "A practicable steepest-edge simplex algorithm"; Chvatal, Linear Programming, chapters 2 and 3.
+///
+/// Of the tied variables the least leaves; once as many pivots on end as there are variables gained nothing, Bland's rule takes
+/// over to the end of the phase. Optimal, Infeasible and Unbounded come with what proves them. Interrupted comes after exactly
+/// `iterlim` pivots where a further one is due, and Refused with the first step that does not fit under the limit of the field.
+/// Which of the variables that improve enters before the turn is no contract's: no answer rests on it. The error is out of memory.
+pub fn solve_in<F: ExactField>(
+    alloc: Global,
+    lp: &Lp<F>,
+    iterlim: u64,
+) -> Result<Answer<F>, AllocError>
+    requires { IsWellFormed F.value lp.now }
+    ensures turning { IfOk result (IsTurningAnswer F.value F.limit Improves lp.now iterlim) }
+    ensures answers { IfOk result (IsAnswer F.value F.limit lp.now iterlim by.Legal) }
+{
+    solve_with(alloc, lp, iterlim, Limiting)
+}

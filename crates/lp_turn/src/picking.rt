@@ -1,0 +1,22 @@
+//! A rule of choice: which of the variables that improve enters, told by the dictionary alone.
+ghost use Rattle.std.specs.Prelude.{ℕ, MatchOption};
+ghost use Rattle.lp_core.specs.Dictionary.{Dictionary, OpeningIsDue, Improves};
+ghost use Rattle.lp_dict.specs.Tableau.{dictionary};
+
+use gq_field::ExactField;
+use lp_dict::Dict;
+
+/// A rule of choice: it picks the variable that enters, of those that improve, and looks at the dictionary alone: Chvatal,
+/// Linear Programming, chapters 2 and 3.
+pub trait Picking<F: ExactField>: Drop {
+    /// Of a dictionary and a variable: that the rule may pick this variable.
+    ghost picks: { Dictionary → ℕ → Type 0 };
+
+    /// A variable that the rule picks; none exactly where none improves.
+    fn pick(&self, dict: &Dict<F>) -> Option<u32>
+        requires { ¬ (OpeningIsDue (dictionary F.value dict.now)) }
+        ensures { MatchOption result ((v : ℕ) → ¬ (Improves (dictionary F.value dict.now) v)) (picks (dictionary F.value dict.now)) };
+
+    /// What is picked improves.
+    ghost improving: { (d : Dictionary) (q : ℕ) → picks d q → Improves d q };
+}
