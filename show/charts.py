@@ -24,6 +24,8 @@ def extremes(items: Sequence[Item]) -> str:
     if not items:
         return 'No element.'
     least, most = min(items, key=lambda it: it[1]), max(items, key=lambda it: it[1])
+    if len(items) == 1:
+        return '1 element, %s with %s.' % (most[0], short(most[1]))
     return '%d elements; the least is %s with %s, the greatest %s with %s.' % (
         len(items), least[0], short(least[1]), most[0], short(most[1]))
 
@@ -69,9 +71,11 @@ def axis(frame: Frame, scale: Scale, labels: Sequence[str], left: Fraction, step
 def lines(title: str, labels: Sequence[str], series: List[Series], kind: str = '') -> str:
     """Lines over an ordered set, one a label of the other index, with a legend below."""
     values = [value for _, row in series for value in row if value is not None]
-    told = '%s from %s to %s. ' % ('%d lines' % len(series) if len(series) > 1 else 'A line', labels[0], labels[-1]) + ' '.join(
-        '%s: from %s to %s.' % (name, short(min(it)), short(max(it)))
-        for name, row in series for it in [[value for value in row if value is not None]] if it)
+    told = '%s from %s to %s.' % ('%d lines' % len(series) if len(series) > 1 else 'A line', labels[0], labels[-1])
+    for name, row in series:
+        seen = [value for value in row if value is not None]
+        if seen:
+            told += ' %s: from %s to %s.' % (name or 'Values', short(min(seen)), short(max(seen)))
     probe = scale_of(values, 0, 1)
     left = max(len(short(tick)) for tick in probe.ticks) * LETTER + 14
     width, bottom = WIDTH, 216

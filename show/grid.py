@@ -1,127 +1,114 @@
-"""Lays a table out: the order of labels, the cells, and lines within a width."""
-import heapq
-from dataclasses import dataclass, field
-from typing import Callable, Dict, Iterable, List, Sequence, Set, Tuple
+"""Lays a table out within a width, row by row; what does not fit into memory waits outside of it."""
+from itertools import groupby
+from typing import Callable, Iterable, Iterator, List, Sequence, Tuple
 
 from .output import cut, width_of
+from .stores import Item, Sorter, Store
 
-Key = Tuple[str, ...]
+Texts = Callable[[Item], List[str]]       # the labels of a place
 LEAST_LABEL = 8         # places that a label keeps in a narrow terminal
 GAP = '  '
-Place = Callable[[str], int]      # where a label comes first; it decides ties
 
 
-def in_order(sequences: Iterable[Sequence[str]], place: Place) -> List[str]:
-    """All texts of these sequences in one order that each of them keeps; what they leave open is by
-    place."""
-    first: Dict[str, Tuple[int, int]] = {}
-    after: Dict[str, Set[str]] = {}
-    waiting: Dict[str, int] = {}
-    for sequence in sequences:
-        for text in sequence:
-            first.setdefault(text, (place(text), len(first)))
-        for a, b in zip(sequence, sequence[1:]):
-            if a != b and b not in after.setdefault(a, set()):
-                after[a].add(b)
-                waiting[b] = waiting.get(b, 0) + 1
-    ready = [(rank, text) for text, rank in first.items() if not waiting.get(text)]
-    heapq.heapify(ready)
-    found: List[str] = []
-    while ready:
-        _, text = heapq.heappop(ready)
-        found.append(text)
-        for following in after.get(text, ()):
-            waiting[following] -= 1
-            if not waiting[following]:
-                heapq.heappush(ready, (first[following], following))
-    return found if len(found) == len(first) else list(first)
+def right(text: str, size: int) -> str:
+    """A text at the right end of a column."""
+    return GAP + ' ' * (size - width_of(text)) + text
 
 
-def label_orders(keys: Sequence[Key], place: Place) -> List[Dict[str, int]]:
-    """For each position the place of each label, in an order that all elements keep."""
-    orders: List[Dict[str, int]] = []
-    for position in range(max((len(key) for key in keys), default=0)):
-        runs: Dict[Key, List[str]] = {}
-        for key in keys:
-            if len(key) > position:
-                run = runs.setdefault(key[:position], [])
-                if not run or run[-1] != key[position]:
-                    run.append(key[position])
-        orders.append({text: rank for rank, text in enumerate(in_order(runs.values(), place))})
-    return orders
+def fitted(sizes: List[int], width: int) -> List[int]:
+    """The widths of the labels of rows, cut where they would take over half of the width."""
+    room = max(LEAST_LABEL * len(sizes), width // 2)
+    found = list(sizes)
+    while sum(found) + len(GAP) * len(found) > room and max(found) > LEAST_LABEL:
+        found[found.index(max(found))] -= 1
+    return found
 
 
-@dataclass
 class Grid:
-    """A table: rows and columns by their labels, and the text of each cell."""
-    rows: List[Key] = field(default_factory=list)
-    columns: List[Key] = field(default_factory=list)
-    cells: Dict[Tuple[Key, Key], str] = field(default_factory=dict)
+    """A table: its cells have a place of a row, a place of a column, and a text. Places are sorted,
+    and have as many labels as `depths` says: those of rows, and those of columns."""
 
+    def __init__(self, row_texts: Texts, column_texts: Texts, depths: Tuple[int, int], width: int) -> None:
+        self.row_texts, self.column_texts = row_texts, column_texts
+        self.sizes, self.depth = [0] * depths[0], depths[1]
+        self.width = width
+        self.sorted_rows, self.by_column = Sorter(), Sorter()
 
-def grid_of(entries: Dict[Key, str], rows: Sequence[int], columns: Sequence[int], place: Place) -> Grid:
-    """The table of these entries, with these positions in rows and in columns."""
-    orders = label_orders(list(entries), place)
+    def put(self, row: Item, column: Item, text: str) -> None:
+        """Takes a cell."""
+        self.sorted_rows.put(row)
+        self.by_column.put((column, row, text))
 
-    def part(key: Key, positions: Sequence[int]) -> Key:
-        return tuple(key[p] for p in positions)
+    @property
+    def margin(self) -> int:
+        return sum(self.sizes) + len(GAP) * max(0, len(self.sizes) - 1)
 
-    def sorted_parts(positions: Sequence[int]) -> List[Key]:
-        parts = {part(key, positions): None for key in entries}
-        return sorted(parts, key=lambda it: [orders[p][text] for p, text in zip(positions, it)])
+    def measured_rows(self) -> Store:
+        """Each row once; sets the widths of their labels."""
+        rows = Store()
+        for row, _ in groupby(self.sorted_rows):
+            rows.put(row)
+            for k, text in enumerate(self.row_texts(row)):
+                self.sizes[k] = max(self.sizes[k], width_of(text))
+        self.sizes = fitted(self.sizes, self.width)
+        return rows
 
-    cells = {(part(key, rows), part(key, columns)): text for key, text in entries.items()}
-    return Grid(sorted_parts(rows), sorted_parts(columns), cells)
+    def titles(self, column: Item) -> List[str]:
+        most = max(LEAST_LABEL, self.width - self.margin - len(GAP))
+        return [cut(text, most) for text in self.column_texts(column)]
 
+    def measured_columns(self) -> Store:
+        """Each column once, with the part of the table that it is in and its width. A column that
+        is too wide is a part alone."""
+        columns = Store()
+        room = max(1, self.width - self.margin)
+        part = used = 0
+        for column, cells in groupby(self.by_column, key=lambda it: it[0]):
+            size = max([width_of(text) for text in self.titles(column)] + [width_of(cell[2]) for cell in cells])
+            if used and used + len(GAP) + size > room:
+                part, used = part + 1, 0
+            used += len(GAP) + size
+            columns.put((part, column, size))
+        return columns
 
-def heads_of(grid: Grid, width: int) -> Tuple[List[List[str]], List[int]]:
-    """The labels of the rows, cut where they would take over half of the width, and the width of
-    each position."""
-    count = max((len(row) for row in grid.rows), default=0)
-    widths = [max((width_of(row[k]) for row in grid.rows), default=0) for k in range(count)]
-    room = max(LEAST_LABEL * count, width // 2)
-    while sum(widths) + len(GAP) * count > room and max(widths) > LEAST_LABEL:
-        widths[widths.index(max(widths))] -= 1
-    texts = [[cut(text, size) + ' ' * (size - width_of(cut(text, size))) for text, size in zip(row, widths)]
-             for row in grid.rows]
-    return texts, widths
+    def in_parts(self, columns: Iterable[Item]) -> Sorter:
+        """The cells by part, row and column."""
+        found = Sorter()
+        rest = iter(columns)
+        for column, cells in groupby(self.by_column, key=lambda it: it[0]):
+            part = next(rest)[0]
+            for _, row, text in cells:
+                found.put((part, row, column, text))
+        return found
 
+    def head(self, row: Item) -> str:
+        """The labels of a row."""
+        texts = [cut(text, size) for text, size in zip(self.row_texts(row), self.sizes)]
+        return GAP.join(text + ' ' * (size - width_of(text)) for text, size in zip(texts, self.sizes))
 
-def chunks(sizes: List[int], room: int) -> List[List[int]]:
-    """The columns in groups that each fit into the room; one that is too wide is a group alone."""
-    groups: List[List[int]] = []
-    used = 0
-    for k, size in enumerate(sizes):
-        if not groups or used + size > room:
-            groups.append([])
-            used = 0
-        groups[-1].append(k)
-        used += size
-    return groups
+    def heading(self, columns: Sequence[Item]) -> Iterator[str]:
+        """The lines with the labels of columns."""
+        titles = [self.titles(column) for _, column, _ in columns]
+        for level in range(self.depth):
+            line = ' ' * self.margin + ''.join(right(title[level], it[2]) for title, it in zip(titles, columns))
+            yield line.rstrip()
 
-
-def lines_of(grid: Grid, width: int) -> List[str]:
-    """The table within a width, numbers right; more columns than fit come in further parts."""
-    heads, sizes = heads_of(grid, width)
-    margin = sum(sizes) + len(GAP) * max(0, len(sizes) - 1)
-    titles = [[cut(text, max(LEAST_LABEL, width - margin - len(GAP))) for text in column] for column in grid.columns]
-    depth = max((len(title) for title in titles), default=0)
-    columns = [[grid.cells.get((row, column), '') for row in grid.rows] for column in grid.columns]
-    widths = [max([width_of(text) for text in texts + title] or [0]) for texts, title in zip(columns, titles)]
-    lines: List[str] = []
-    for group in chunks([size + len(GAP) for size in widths], max(1, width - margin)):
-        if lines:
-            lines.append('')
-        for level in range(depth):
-            line = ' ' * margin
-            for k in group:
-                text = titles[k][level] if level < len(titles[k]) else ''
-                line += GAP + ' ' * (widths[k] - width_of(text)) + text
-            lines.append(line.rstrip())
-        for place, head in enumerate(heads):
-            line = GAP.join(head)
-            for k in group:
-                text = columns[k][place]
-                line += GAP + ' ' * (widths[k] - width_of(text)) + text
-            lines.append(line.rstrip())
-    return lines
+    def lines(self) -> Iterator[str]:
+        """The table, numbers right; columns that do not fit beside the others come in further
+        parts."""
+        rows = self.measured_rows()
+        all_columns = self.measured_columns()
+        by_row = groupby(self.in_parts(all_columns), key=lambda it: it[:2])
+        place, cells = next(by_row, ((-1,), iter(())))
+        for part, group in groupby(all_columns, key=lambda it: it[0]):
+            columns = list(group)
+            if part:
+                yield ''
+            yield from self.heading(columns)
+            for row in rows:
+                texts = {}
+                if place == (part, row):
+                    texts = {column: text for _, _, column, text in cells}
+                    place, cells = next(by_row, ((-1,), iter(())))
+                line = self.head(row) + ''.join(right(texts.get(column, ''), size) for _, column, size in columns)
+                yield line.rstrip()

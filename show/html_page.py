@@ -93,7 +93,7 @@ class Page:
 
     def symbol(self, symbol: Symbol, levels: Dict[str, Fraction], marginals: Dict[str, Fraction]) -> None:
         """Charts and a table of one symbol."""
-        self.parts.append('<h3>%s <span class="note">%s, %s</span></h3>'
+        self.parts.append('<div class="symbol"><h3>%s <span class="note">%s, %s</span></h3>'
                           % (escape(symbol.name), escape(symbol.kind), counted(len(symbol.cells), 'element')))
         ambiguous = symbol.ambiguous()
         if ambiguous:
@@ -107,7 +107,7 @@ class Page:
         pictures = [it for pair in zip_longest(*drawn, fillvalue='') for it in pair]      # marginals beside levels
         if any(pictures):
             self.parts.append('<div class="charts">%s</div>' % ''.join(pictures))
-        self.parts.append(table(self.table_name(), symbol.name, symbol_columns(self.listing, symbol)))
+        self.parts.append('</div>' + table(self.table_name(), symbol.name, symbol_columns(self.listing, symbol)))
 
     def scalars(self, symbols: List[Symbol]) -> None:
         """Rows and columns without indices, in one table."""

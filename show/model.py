@@ -163,6 +163,8 @@ class Listing:
     first_line: int = 1                              # the number of the first echoed line
     errors: List[Error] = field(default_factory=list)
     solves: List[Solve] = field(default_factory=list)
+    begun: int = 0                                   # the solves of the listing, kept or not
+    has_other: bool = False                          # whether one that is not kept is not optimal
     displays: List[Display] = field(default_factory=list)
     status: Optional[int] = None                     # of the last line; none where it was cut off
     answered: int = 0                                # the solves that the last line counts

@@ -5,8 +5,8 @@ from typing import Dict, List, Optional, Sequence, Tuple
 
 from .charts import MOST_SERIES, bars, heat, lines
 from .exact import number_of
-from .grid import Key, label_orders
 from .labels import Labels
+from .orders import Key, label_orders
 from .symbols import Symbol
 from .table import domain_of
 from .model import Listing
@@ -57,8 +57,17 @@ def ordered_position(listing: Listing, symbol: Symbol, orders: List[List[str]]) 
     return None
 
 
-def charts_of(title: str, values: Values, orders: List[List[str]], ordered: Optional[int], kind: str) -> List[str]:
-    """The charts of one number of a symbol."""
+def filled(symbol: Symbol, values: Values, orders: List[List[str]]) -> Values:
+    """The numbers with the zeros that a display leaves out."""
+    if len(symbol.figures) > 1 or len(orders) != 2:
+        return values
+    shown = {cell.reading.labels for cell in symbol.cells}
+    zeros = {(a, b): Fraction(0) for a in orders[0] for b in orders[1] if (a, b) not in shown}
+    return {**values, **zeros}
+
+
+def charts_of(title: str, values: Values, orders: List[List[str]], ordered: Optional[int], kind: str, full: Values) -> List[str]:
+    """The charts of one number of a symbol; lines are drawn over the full numbers."""
     if len(orders) == 1:
         items = [(key[0], value) for key, value in values.items()]
         if ordered == 0:
@@ -69,7 +78,7 @@ def charts_of(title: str, values: Values, orders: List[List[str]], ordered: Opti
         if ordered is not None:
             across, along = orders[1 - ordered], orders[ordered]
             if len(across) <= MOST_SERIES:
-                rows = [(name, [values.get((name, it) if ordered == 1 else (it, name)) for it in along]) for name in across]
+                rows = [(name, [full.get((name, it) if ordered == 1 else (it, name)) for it in along]) for name in across]
                 found.append(lines(title, along, [it for it in rows if any(value is not None for value in it[1])]))
         if max(len(it) for it in orders) <= MOST_HEAT:
             cells: Dict[Tuple[str, str], Fraction] = {(key[0], key[1]): value for key, value in values.items()}
@@ -85,7 +94,7 @@ def charts_for(listing: Listing, labels: Labels, symbol: Symbol, figure: str, ex
     keys = list(values)
     if not keys or not keys[0] or not any(values.values()) or len({len(key) for key in keys}) != 1:
         return []
-    orders = [[text for text, _ in sorted(order.items(), key=lambda it: it[1])] for order in label_orders(keys, labels.place_of)]
+    orders = label_orders(keys, labels.place_of)
     title = '%s, %s' % (symbol.name, figure) if '.' not in symbol.name and len(symbol.figures) > 1 else symbol.name
     kind = 'marginal' if figure == 'marginal' else 'level'
-    return charts_of(title, values, orders, ordered_position(listing, symbol, orders), kind)
+    return charts_of(title, values, orders, ordered_position(listing, symbol, orders), kind, filled(symbol, values, orders))

@@ -8,8 +8,9 @@ from . import events as ev
 from .exact import SPECIAL, is_value
 from .lines import (counts_of, effort_of, entry_of, error_of, figures_of, put_proved,
                     status_of)
-from .model import (Block, Display, Listing, PrintedColumn, PrintedColumns, PrintedRows, Problem,
-                    Proof, Solve)
+from .model import (OPTIMAL, Block, Display, Listing, PrintedColumn, PrintedColumns, PrintedRows,
+                    Problem, Proof, Solve)
+from .words import counted
 
 QUOTED_NUMBER = re.compile(rb'["\'](SCALAR|VARIABLE|EQUATION) ')
 
@@ -147,11 +148,12 @@ class Reader:
         found = ev.HEAD.match(event.text)
         line, rest = (int(found[1]), found[2]) if found else (0, '')
         self.close_solve()
-        after = len(self.listing.solves)
+        after = self.listing.begun
         if event.kind == ev.SOLVE:
             if self.listing.solves:
                 self.forget(self.listing.solves[-1])
             _, model, direction, objective = rest.split(' ')
+            self.listing.begun += 1
             solve = Solve(after + 1, line, model, direction, objective)
             self.listing.solves.append(solve)
             self.builder = SolveBuilder(solve, self.keeps_rows)
@@ -271,6 +273,33 @@ class SparingReader(Reader):
                     it.entries = []
 
 
+class StreamReader(Reader):
+    """Keeps one solve, the chosen one or else the last, and one display of each name: what it holds
+    does not grow with the listing. With `keeps_heads` the heads of all solves are kept."""
+
+    def __init__(self, path: str, number: Optional[int], keeps_heads: bool = False) -> None:
+        super().__init__(path, keeps_rows=False)
+        self.chosen = number
+        self.keeps_heads = keeps_heads
+        self.names: Dict[str, Display] = {}
+
+    def forget(self, solve: Solve) -> None:
+        if solve.number == self.chosen:
+            return
+        drop(solve)
+        if not self.keeps_heads:
+            self.listing.solves.remove(solve)
+            self.listing.has_other = self.listing.has_other or solve.code != OPTIMAL
+
+    def head(self, event: ev.Event) -> None:
+        super().head(event)
+        if event.kind != ev.SOLVE and self.display:
+            self.listing.displays.pop()
+            if self.display.kind != 'TEXT' and self.display.name not in self.names:
+                self.names[self.display.name] = self.display
+                self.listing.displays = list(self.names.values())
+
+
 def drop(solve: Solve) -> None:
     """Drops what a solve holds except for its head, its statuses and the exact level of its
     objective."""
@@ -330,12 +359,11 @@ class HeadReader(Reader):
 
 def chosen(listing: Listing, number: Optional[int]) -> Solve:
     """The solve of this number, or the last one."""
-    solves: List[Solve] = listing.solves
-    if not solves:
+    count = listing.begun
+    if not count:
         raise Problem('%s has no solve' % listing.name, 4)
     if number is None:
-        return solves[-1]
-    if not 1 <= number <= len(solves):
-        raise Problem('%s has %s; --solve expects a number from 1 to %d'
-                      % (listing.name, '1 solve' if len(solves) == 1 else '%d solves' % len(solves), len(solves)), 4)
-    return solves[number - 1]
+        return listing.solves[-1]
+    if not 1 <= number <= count:
+        raise Problem('%s has %s; --solve expects a number from 1 to %d' % (listing.name, counted(count, 'solve'), count), 4)
+    return next(it for it in listing.solves if it.number == number)

@@ -12,7 +12,7 @@ from .exact import SPECIAL
 from .labels import PLAIN_HINT, Labels, Reading
 from .model import Display, Figures, Listing, Problem, Solve
 from .output import warn
-from .reader import Reader, drop, events_of
+from .reader import StreamReader, drop, events_of
 from .symbols import NO_FIGURES, names_in, proved_figures, solved_names, unknown
 from .words import USAGE, counted, exit_status, meaning_of
 
@@ -88,12 +88,12 @@ def records_of_solve(solve: Solve, labels: Labels, names: Set[str]) -> Iterator[
                          exact_text(marginals, element, is_optimal)), reading
 
 
-class RecordReader(Reader):
+class RecordReader(StreamReader):
     """Turns solves and displays into records as they are read, and keeps no more than one solve."""
 
     def __init__(self, path: str, names: List[str], request: Request) -> None:
-        super().__init__(path, keeps_rows=False)
-        self.names = {name.lower() for name in names}
+        super().__init__(path, None, request.command == 'json')
+        self.wanted = {name.lower() for name in names}
         self.number = None if request.is_all else request.solve
         self.is_all = request.is_all
         self.is_plain = 'plain' in request.options
@@ -122,12 +122,9 @@ class RecordReader(Reader):
         if solve and (self.is_all or solve.number == self.number):
             self.finish(solve)
 
-    def forget(self, solve: Solve) -> None:
-        drop(solve)
-
     def finish(self, solve: Solve) -> None:
         """Puts the records of a solve."""
-        for record, reading in records_of_solve(solve, self.of(), self.names):
+        for record, reading in records_of_solve(solve, self.of(), self.wanted):
             self.found.add(record.name.lower())
             self.told(record.name, '(%s)' % ','.join(record.labels), reading)
             self.solved.put(record)
@@ -140,7 +137,7 @@ class RecordReader(Reader):
             self.finish(solves[-1])
 
     def wants(self, display: Display) -> bool:
-        if display.kind == 'TEXT' or (self.names and display.name.lower() not in self.names):
+        if display.kind == 'TEXT' or (self.wanted and display.name.lower() not in self.wanted):
             return False
         return self.number in (None, display.after)
 
@@ -177,21 +174,19 @@ def read_records(request: Request) -> RecordReader:
     """Reads the listing of a request, and checks that what it names is there."""
     names, path = listing_last(request.words)
     reader = RecordReader(path, names, request)
-    known: List[str] = []
+    known: Dict[str, None] = {}
     for event in events_of(path):
         if event.kind == ev.BLOCK or event.kind == ev.EQUATION or event.kind == ev.VARIABLE:
-            name = event.text.split(' ')[1]
-            if name not in known:
-                known.append(name)
+            known[event.text.split(' ')[1]] = None
         reader.take(event)
     reader.close()
     listing = reader.listing
-    if reader.number is not None and not 0 <= reader.number <= len(listing.solves):
+    if reader.number is not None and not 0 <= reader.number <= listing.begun:
         raise Problem('%s has %s; --solve expects a number from 0 to %d, or all'
-                      % (path, counted(len(listing.solves), 'solve'), len(listing.solves)), USAGE)
+                      % (path, counted(listing.begun, 'solve'), listing.begun), USAGE)
     for name in names:
         if name.lower() not in reader.found:
-            raise unknown(name, list(dict.fromkeys(known + names_in(listing, None))), listing)
+            raise unknown(name, list(dict.fromkeys(list(known) + names_in(listing, None))), listing)
     if listing.is_cut:
         warn('%s was cut off; the records are those that it has' % path)
     return reader

@@ -34,7 +34,7 @@ th[aria-sort=ascending] button::after{content:" \\25B2"}th[aria-sort=descending]
 .good{color:var(--good);font-weight:600}.bad{color:var(--bad);font-weight:600}.note{color:var(--soft)}
 details{margin:.4rem 0}summary{cursor:pointer}
 @media print{body{max-width:none;padding:0;font-size:11px}.filter,nav{display:none}.scroll,pre{max-height:none;overflow:visible;border:0}
-figure,tr{break-inside:avoid}h2,h3{break-after:avoid}}
+figure,tr,.symbol{break-inside:avoid}h2,h3{break-after:avoid}}
 """
 
 SCRIPT = """

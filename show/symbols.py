@@ -85,10 +85,6 @@ def of_display(display: Display, labels: Labels) -> Symbol:
     return Symbol(display.name, display.kind.lower(), cells, ('level',))
 
 
-def is_of(display: Display, name: str) -> bool:
-    return display.kind != 'TEXT' and display.name.lower() == name.lower()
-
-
 def names_in(listing: Listing, solve: Optional[Solve]) -> List[str]:
     """What `table` and `csv` can be asked for."""
     names = list(solved_names(solve)) if solve else []

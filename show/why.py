@@ -123,7 +123,7 @@ def why_infeasible(proof: Proof, program: Program) -> List[str]:
         return ['The bounds of %s cross: it must be at least %s and at most %s.' % (element, lower, upper),
                 'Look where the source sets %s.lo and %s.up.' % ((element.partition('(')[0],) * 2)]
     conflict = Conflict(program, proof.of('row'))
-    lines = ['These rows cannot hold together; each is taken so many times:'] + factor_lines(conflict)
+    lines = ['These rows cannot hold together; the number before each is its factor:'] + factor_lines(conflict)
     if conflict.unknown:
         return lines + ['%s %s not printed. Set  %s  before the solve to see the whole reason.'
                         % (listed(conflict.unknown[:MOST]), 'is' if len(conflict.unknown) == 1 else 'are', program.options())]
@@ -186,7 +186,7 @@ def why_refused(proof: Proof) -> List[str]:
     return ['A number on the way does not fit: the parts of a fraction have at most 127 bits.',
             'It is the step %s, %s.' % (proof.step, STEPS.get(kind, 'of the solver')),
             'Nothing is known of the model. What helps:',
-            '- option lp = dantzig;  (or bland): the other solver takes other pivots, and its numbers may stay short',
+            '- option lp = any;  it tries several rules in turn, whose numbers may stay short on the way',
             '- data with fewer digits: 0.333 in place of 1/3, 1.05 in place of 1.0487',
             '- units in which the numbers are of a like size']
 

@@ -52,7 +52,8 @@ def exit_status(listing: Listing) -> int:
     """What a script is told: stopped, not optimal, or done."""
     if listing.is_cut or listing.errors or listing.status != 0:
         return STOPPED
-    return DONE if all(solve.code == m.OPTIMAL for solve in listing.solves) else NOT_OPTIMAL
+    is_optimal = not listing.has_other and all(solve.code == m.OPTIMAL for solve in listing.solves)
+    return DONE if is_optimal else NOT_OPTIMAL
 
 
 def objective_text(solve: Solve) -> str:

@@ -9,6 +9,7 @@ import tempfile
 from dataclasses import dataclass, field
 from typing import Dict, Iterator, List, Tuple
 
+from pages import facts_of
 from show.cli import main
 from show.commands import COMMANDS
 
@@ -87,7 +88,11 @@ def folder_with(files: Dict[str, bytes]) -> Iterator[str]:
 
 
 def made_by(words: List[str]) -> Tuple[int, str, str]:
-    """The status, the output and the messages of a run."""
+    """The status, the output and the messages of a run. `facts` is `html`, and tells what the page
+    shows."""
+    if words[:1] == ['facts']:
+        status, page, errors = made_by(['html'] + words[1:])
+        return status, facts_of(page), errors
     output, errors = io.StringIO(newline=''), io.StringIO(newline='')
     os.environ['COLUMNS'] = WIDTH
     with contextlib.redirect_stdout(output), contextlib.redirect_stderr(errors):

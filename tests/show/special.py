@@ -192,15 +192,17 @@ def full_disk() -> List[str]:
 
 
 def large_listing() -> List[str]:
-    """A listing of 4 MB takes bounded memory: csv and the glance stay below 64 MB of data."""
-    code = ('import resource, sys; resource.setrlimit(resource.RLIMIT_DATA, (64 << 20, 64 << 20)); sys.path.insert(0, %r); '
+    """A listing of 2 MB takes bounded memory: a table, csv and the glance stay below 48 MB of data."""
+    code = ('import resource, sys; resource.setrlimit(resource.RLIMIT_DATA, (48 << 20, 48 << 20)); sys.path.insert(0, %r); '
             'from show.cli import main; from show.commands import COMMANDS; sys.exit(main(sys.argv[1:], COMMANDS))' % TOP)
-    entries = b''.join(b'  %-9s %14s\n' % (b'i%d.j%d' % (i, j), b'%d.000' % (i * j)) for i in range(1, 801) for j in range(1, 201))
+    entries = b''.join(b'  %-9s %14s\n' % (b'i%d.j%d' % (i, j), b'%d.000' % (i * j)) for i in range(1, 401) for j in range(1, 201))
     text = b'     1  set i, j; parameter p(i,j); display p;\n---- 1 PARAMETER p\n' + entries + b'END status 0 solves 0\n'
+    last_row = b'i400  79600.000  80000.000\n'
     with folder_with({'a.lst': text}):
-        for words, first, last in ((['a.lst'], b'a.lst: every', b'  line 1  parameter p: 160000 entries, from 1.000 to 160000.000\n'),
-                                   (['csv', 'a.lst'], b'solve,line,kind,name,label_1,label_2,lower', b'0,1,parameter,p,i800,j200,,160000.000,,,,\r\n')):
-            ran = subprocess.run([sys.executable, '-c', code] + words, stdout=subprocess.PIPE, stderr=subprocess.PIPE, timeout=300)
+        for words, first, last in ((['a.lst'], b'a.lst: every', b'  line 1  parameter p: 80000 entries, from 1.000 to 80000.000\n'),
+                                   (['csv', 'a.lst'], b'solve,line,kind,name,label_1,label_2,lower', b'0,1,parameter,p,i400,j200,,80000.000,,,,\r\n'),
+                                   (['table', 'p', '--width', '30', 'a.lst'], b'parameter p: 80000 elements\n', last_row)):
+            ran = subprocess.run([sys.executable, '-c', code] + words, stdout=subprocess.PIPE, stderr=subprocess.PIPE, timeout=600)
             if ran.returncode or not ran.stdout.startswith(first) or not ran.stdout.endswith(last):
                 return ['%s: status %d, %r' % (words, ran.returncode, ran.stderr[-200:] or ran.stdout[-200:])]
     return []
