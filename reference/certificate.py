@@ -1,12 +1,13 @@
-"""The bound that duals prove (docs/SOLVER.md, "What proves an answer" and "By hand").
+"""The bound that duals prove (docs/internals/SOLVER.md, "What proves an answer"; docs/LISTING.md,
+"Proofs, and how to check them by hand").
 
 `dual_bound` is all that an outsider needs besides comparing levels: one sum.
 """
 from fractions import Fraction
-from typing import Optional
+from typing import Optional, Union
 
 from reference.exact import DoesNotFit, step
-from reference.program import Program, Row
+from reference.program import Column, Program, Row
 
 Bounds = tuple[Optional[Fraction], Optional[Fraction]]
 
@@ -39,27 +40,29 @@ class Sum:
         return result
 
 
-def row_bounds(row: Row) -> Bounds:
-    """What a row is at least and at most: E both, L the upper one, G the lower one, N none."""
-    return row.right if row.sense in 'EG' else None, row.right if row.sense in 'EL' else None
+class ExactSum(Sum):
+    """Steps without a limit."""
+
+    def taken(self, symbol: str, left: Fraction, right: Fraction) -> Fraction:
+        return {'+': left + right, '-': left - right, '*': left * right}[symbol]
 
 
-def selected(factor: Fraction, bounds: Bounds, is_low: bool) -> Fraction:
-    """The bound that a factor's sign selects: for a low bound the lower one where it is above 0,
-    and for a high bound the other.
+def bounds_of(it: Union[Column, Row]) -> Bounds:
+    """What a column or a row is at least and at most: a row E both, L at most, G at least, N
+    neither.
     """
-    bound = bounds[0 if (factor > 0) == is_low else 1]
-    if bound is None:
-        raise NoBound
-    return bound
+    if isinstance(it, Column):
+        return it.lower, it.upper
+    return it.right if it.sense in 'EG' else None, it.right if it.sense in 'EL' else None
 
 
-def reduced_costs(program: Program, costs: list[Fraction], duals: list[Fraction], steps: Sum) -> list[Fraction]:
+def reduced_costs(program: Program, duals: list[Fraction], with_objective: bool, steps: Sum) -> list[Fraction]:
     """The cost of each column less each dual times the row's number for the column, over the rows
-    but N in order.
+    but N in order; all costs are 0 for rows that contradict.
     """
     result = []
-    for column, cost in enumerate(costs):
+    for column in range(len(program.columns)):
+        cost = program.cost(column) * with_objective
         for row, dual in zip(program.rows, duals):
             if row.sense != 'N' and column in row.coefficients:
                 cost = steps.taken('-', cost, steps.taken('*', dual, row.coefficients[column]))
@@ -67,18 +70,19 @@ def reduced_costs(program: Program, costs: list[Fraction], duals: list[Fraction]
     return result
 
 
-def dual_bound(program: Program, duals: list[Fraction], with_objective: bool) -> Fraction:
+def dual_bound(program: Program, duals: list[Fraction], with_objective: bool, steps: Sum) -> Fraction:
     """The bound by these duals: with the objective's costs, or with all costs 0, as when
     minimizing, for rows that contradict.
+
+    A factor above 0 selects the lower bound for a low one, and the upper bound for a high one.
     """
     is_low = not (with_objective and program.maximize)
-    costs = [program.cost(column) * with_objective for column in range(len(program.columns))]
-    steps = Sum()
-    reduced = reduced_costs(program, costs, duals, steps)
-    factors = [(dual, row_bounds(row)) for row, dual in zip(program.rows, duals)]
-    factors += [(factor, (column.lower, column.upper)) for column, factor in zip(program.columns, reduced)]
+    reduced = reduced_costs(program, duals, with_objective, steps)
     bound = Fraction(0)
-    for factor, bounds in factors:
+    for it, factor in [*zip(program.rows, duals), *zip(program.columns, reduced)]:
         if factor:
-            bound = steps.taken('+', bound, steps.taken('*', factor, selected(factor, bounds, is_low)))
+            selected = bounds_of(it)[0 if (factor > 0) == is_low else 1]
+            if selected is None:
+                raise NoBound('the factor %s of %s uses a bound that is not there' % (factor, it.name))
+            bound = steps.taken('+', bound, steps.taken('*', factor, selected))
     return bound

@@ -7,15 +7,12 @@ declared after it, and its data as not given.
 from fractions import Fraction
 from typing import Iterable, NamedTuple, Optional
 
-from reference.expression_checks import (DOMAIN_OF_LABEL, UNKNOWN_NAME, WRONG_ARITY, WRONG_KIND,
-                                         ExpressionChecks, Scope)
+from reference import errors
+from reference.expression_checks import ExpressionChecks, Scope
 from reference.source import Place
 from reference.symbols import MOST_ELEMENTS, MOST_POSITIONS, NO_SET, Element, Symbol, dynamic_sets, elements_of, size_of
 from reference.tree import (Abort, Alias, Assignment, Declaration, Declared, Definition, Display, Item, Loop, ModelItem, Models, Named,
                             Options, Setting, Shown, Solve, Statement, Tree)
-
-REDECLARED, DYNAMIC_DOMAIN, DISCRETE, MODEL_TYPE, NOT_DEFINED, DEFINED_TWICE = 2, 10, 12, 13, 14, 15
-OBJECTIVE, UNKNOWN_SOLVER, OPTION_RANGE, DATA_FAULT, RESTART = 16, 17, 18, 21, 22
 
 NO_VALUES = ('reslim', 'optcr', 'optca', 'domlim', 'bratio', 'sysout', 'solslack', 'nlp', 'mip', 'rmip', 'dnlp', 'mcp')
 MOST_OF_OPTION = {'limrow': 2 ** 31 - 1, 'limcol': 2 ** 31 - 1, 'iterlim': 2 ** 31 - 1, 'decimals': 8}
@@ -27,19 +24,19 @@ Domain = tuple[Optional[Symbol], ...]
 
 class CompileError(NamedTuple):
     at: Place
-    code: int
+    code: errors.Compile
 
 
-def item_fault(item: Item, domain: Domain) -> Optional[int]:
+def item_fault(item: Item, domain: Domain) -> Optional[errors.Compile]:
     """The error of an item by itself: how many parts it has, a label outside, or a range that is
     none.
     """
     if len(item.parts) != len(domain) or len(item.parts) > MOST_POSITIONS:
-        return WRONG_ARITY
+        return errors.Compile.WrongArity
     for position, part in zip(domain, item.parts):
         if position is not None and not position.labels.issuperset(part):
-            return DOMAIN_OF_LABEL
-    return DATA_FAULT if item.has_bad_range else None
+            return errors.Compile.DomainOfLabel
+    return errors.Compile.DataFault if item.has_bad_range else None
 
 
 class Checks(ExpressionChecks):
@@ -63,11 +60,9 @@ class Checks(ExpressionChecks):
         found = []
         for statement in self.tree.statements:
             self.errors = set()
+            self.statement(statement, frozenset())
             if statement.at.line < self.first_line:
-                self.statement(statement, frozenset())
                 self.saved_names = set(self.symbols)
-            else:
-                self.statement(statement, frozenset())
             if self.errors:
                 found.append(CompileError(*min(self.errors)))
         return found
@@ -106,10 +101,10 @@ class Checks(ExpressionChecks):
     def declaration(self, s: Declaration) -> None:
         given = []
         if s.kind in DISCRETE_TYPES:
-            self.report(s.at, DISCRETE)
+            self.report(s.at, errors.Compile.Discrete)
         for declared in s.declared:
             if len(declared.domain) > MOST_POSITIONS:
-                self.report(declared.named.at, WRONG_ARITY)
+                self.report(declared.named.at, errors.Compile.WrongArity)
             domain = tuple(self.position(it) for it in declared.domain)
             if s.kind == 'set' and not domain:
                 domain = (None,)
@@ -126,16 +121,10 @@ class Checks(ExpressionChecks):
         """The set of a position of a domain."""
         if named is None:
             return None
-        symbol = self.symbols.get(named.name)
-        if symbol is None:
-            self.report(named.at, UNKNOWN_NAME)
-            return NO_SET
-        if not symbol.is_index:
-            self.report(named.at, WRONG_KIND)
-            return NO_SET
-        if symbol.name in self.dynamic:
-            self.report(named.at, DYNAMIC_DOMAIN)
-        return symbol
+        symbol = self.found(named.name, named.at, 'index')
+        if symbol and symbol.name in self.dynamic:
+            self.report(named.at, errors.Compile.DynamicDomain)
+        return symbol or NO_SET
 
     def declared(self, s: Declaration, declared: Declared, domain: Domain) -> Optional[Symbol]:
         """The symbol of a name that is declared first; None where it was declared before. A free
@@ -149,9 +138,9 @@ class Checks(ExpressionChecks):
             return self.symbols[name]
         is_retyped = is_variable and known.kind == 'variable' and known.type == 'free'
         if is_variable and known.kind == 'variable' and self.is_saved(s, known):
-            self.report(at, RESTART)
+            self.report(at, errors.Compile.Restart)
         if not is_retyped or domain and domain != known.domain:
-            self.report(at, REDECLARED)
+            self.report(at, errors.Compile.Redeclared)
         if is_retyped:
             known.type = s.kind
         return None
@@ -164,11 +153,11 @@ class Checks(ExpressionChecks):
             count += size_of(item)
             fault = item_fault(item, domain)
             if fault is None and count > MOST_ELEMENTS:
-                fault = DATA_FAULT
+                fault = errors.Compile.DataFault
             elements = elements_of(item) if fault is None else ()
             for element in elements:
                 if element in data:
-                    fault = DATA_FAULT
+                    fault = errors.Compile.DataFault
                     break
                 data[element] = item.value
             if fault is not None:
@@ -180,13 +169,13 @@ class Checks(ExpressionChecks):
         """One name is a set, and the other is new."""
         first, second = self.symbols.get(s.first.name), self.symbols.get(s.second.name)
         if first is not None and first.kind != 'set':
-            self.report(s.first.at, WRONG_KIND)
+            self.report(s.first.at, errors.Compile.WrongKind)
         if second is not None and second.kind != 'set':
-            self.report(s.second.at, WRONG_KIND)
+            self.report(s.second.at, errors.Compile.WrongKind)
         if first is None and second is None:
-            self.report(s.first.at, UNKNOWN_NAME)
+            self.report(s.first.at, errors.Compile.UnknownName)
         if first is not None and second is not None:
-            self.report(s.second.at, REDECLARED)
+            self.report(s.second.at, errors.Compile.Redeclared)
         for named, other in ((s.first, second), (s.second, first)):
             if named.name not in self.symbols:
                 is_set = other is not None and other.kind == 'set'
@@ -197,7 +186,7 @@ class Checks(ExpressionChecks):
         for model in s.models:
             equations = self.equations(model)
             if model.named.name in self.symbols:
-                self.report(model.named.at, REDECLARED)
+                self.report(model.named.at, errors.Compile.Redeclared)
             else:
                 symbol = self.symbols[model.named.name] = Symbol(model.named.name, 'model')
                 symbol.equations = equations
@@ -211,11 +200,7 @@ class Checks(ExpressionChecks):
         if model.has_all:
             return [name for name, symbol in self.symbols.items() if symbol.kind == 'equation']
         for named in model.equations:
-            symbol = self.symbols.get(named.name)
-            if symbol is None:
-                self.report(named.at, UNKNOWN_NAME)
-            elif symbol.kind != 'equation':
-                self.report(named.at, WRONG_KIND)
+            self.found(named.name, named.at, 'equation')
         return list(dict.fromkeys(named.name for named in model.equations))
 
     # ---- statements that act
@@ -223,11 +208,11 @@ class Checks(ExpressionChecks):
         target = s.target
         symbol = self.symbols.get(target.name)
         if symbol is None:
-            self.report(target.at, UNKNOWN_NAME)
+            self.report(target.at, errors.Compile.UnknownName)
         elif not self.is_assigned(symbol, target.suffix):
-            self.report(target.at, WRONG_KIND)
+            self.report(target.at, errors.Compile.WrongKind)
         if self.is_saved(s, symbol) and symbol.kind == 'set' and symbol.name not in self.saved_dynamic:
-            self.report(target.at, RESTART)
+            self.report(target.at, errors.Compile.Restart)
         self.indices(target.at, symbol, target.indices)
         for index in target.indices:
             if index.lag:
@@ -246,13 +231,9 @@ class Checks(ExpressionChecks):
         return symbol.kind in ('set', 'parameter') and not suffix
 
     def definition(self, s: Definition) -> None:
-        symbol = self.symbols.get(s.equation.name)
-        if symbol is None:
-            self.report(s.equation.at, UNKNOWN_NAME)
-        elif symbol.kind != 'equation':
-            self.report(s.equation.at, WRONG_KIND)
+        symbol = self.found(s.equation.name, s.equation.at, 'equation')
         if s.equation.name in self.defined:
-            self.report(s.equation.at, DEFINED_TWICE)
+            self.report(s.equation.at, errors.Compile.DefinedTwice)
         self.defined.add(s.equation.name)
         self.indices(s.equation.at, symbol, s.indices)
         inside = frozenset(index.name for index in s.indices if index.label is None)
@@ -261,21 +242,14 @@ class Checks(ExpressionChecks):
             self.expression(side, Scope(side.start, inside, takes_variables=True))
 
     def solve(self, s: Solve) -> None:
-        model, objective = self.symbols.get(s.model.name), self.symbols.get(s.objective.name)
-        if model is None:
-            self.report(s.model.at, UNKNOWN_NAME)
-        elif model.kind != 'model':
-            self.report(s.model.at, WRONG_KIND)
-        elif not self.defined.issuperset(model.equations):
-            self.report(s.model.at, NOT_DEFINED)
+        model = self.found(s.model.name, s.model.at, 'model')
+        objective = self.found(s.objective.name, s.objective.at, 'variable')
+        if model and not self.defined.issuperset(model.equations):
+            self.report(s.model.at, errors.Compile.NotDefined)
         if s.method.text != 'lp':
-            self.report(s.method.at, MODEL_TYPE)
-        if objective is None:
-            self.report(s.objective.at, UNKNOWN_NAME)
-        elif objective.kind != 'variable':
-            self.report(s.objective.at, WRONG_KIND)
-        elif objective.type != 'free' or objective.domain:
-            self.report(s.objective.at, OBJECTIVE)
+            self.report(s.method.at, errors.Compile.ModelType)
+        if objective and (objective.type != 'free' or objective.domain):
+            self.report(s.objective.at, errors.Compile.Objective)
 
     def shown(self, items: Iterable[Shown]) -> None:
         for item in items:
@@ -283,7 +257,7 @@ class Checks(ExpressionChecks):
                 continue
             symbol = self.symbols.get(item.named.name)
             if symbol is None:
-                self.report(item.named.at, UNKNOWN_NAME)
+                self.report(item.named.at, errors.Compile.UnknownName)
             else:
                 self.kind(symbol, item.suffix, item.named.at)
 
@@ -296,11 +270,11 @@ class Checks(ExpressionChecks):
         elif word == 'lp':
             is_right = isinstance(value, str)
             if is_right and self.solvers is not None and value not in self.solvers:
-                self.report(setting.at, UNKNOWN_SOLVER)
+                self.report(setting.at, errors.Compile.UnknownSolver)
         else:
             is_right = word in NO_VALUES
             if not is_right:
-                self.report(setting.word.at, UNKNOWN_NAME)
+                self.report(setting.word.at, errors.Compile.UnknownName)
                 return
         if not is_right:
-            self.report(setting.at, OPTION_RANGE)
+            self.report(setting.at, errors.Compile.OptionRange)

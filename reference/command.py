@@ -1,14 +1,16 @@
-"""The command line (docs/LISTING.md, "Words", "Said lines", "The order of a run", "Statuses")."""
+"""The command line (docs/LISTING.md, "Arguments", "Messages", "The order of a run", "Statuses")."""
 import os
 import sys
 from dataclasses import dataclass, field
 from typing import Callable, Optional
 
+from reference import errors
 from reference.checks import Checks
+from reference.choice import SOLVERS
 from reference.generator import generated
-from reference.listing import compile_error, echo, last_line, source_error
+from reference.listing import echo, error_line, last_line
 from reference.ranges import range_lines
-from reference.run import SOLVERS, Run
+from reference.run import Run
 from reference.saves import MOST_SAVED, Saved, joint_source, restore, save_text
 from reference.source import MOST_BYTES, Place, SourceFault, read_source
 from reference.state import State, first_state
@@ -130,7 +132,7 @@ class Outcome:
 def program_of(source: str) -> Tree:
     """The program of a source, or its first error."""
     if len(source) > MOST_BYTES:
-        raise SourceFault(9, Place(1, 1))
+        raise SourceFault(errors.Source.TooLong, Place(1, 1))
     return read_program(read_source(source))
 
 
@@ -140,11 +142,11 @@ def outcome_of(source: str, saved: Optional[Saved] = None, run_from: Callable[[S
     try:
         tree = program_of(source)
     except SourceFault as fault:
-        return Outcome([source_error(fault), last_line(COMPILE, 0)], COMPILE, has_echo=fault.code != 9)
+        return Outcome([error_line(fault), last_line(COMPILE, 0)], COMPILE, has_echo=fault.code != errors.Source.TooLong)
     checks = Checks(tree, SOLVERS, first_line)
-    errors = checks.all_errors()
-    if errors:
-        return Outcome(list(map(compile_error, errors)) + [last_line(COMPILE, 0)], COMPILE)
+    found = checks.all_errors()
+    if found:
+        return Outcome(list(map(error_line, found)) + [last_line(COMPILE, 0)], COMPILE)
     state = first_state(tree, checks.symbols)
     if saved:
         saved.put_into(state)
@@ -177,7 +179,7 @@ def restored(request: Request, text: str) -> Saved:
     try:
         return restore(text)
     except SourceFault as fault:
-        write_file(request.output, source_error(fault) + '\n' + last_line(COMPILE, 0) + '\n')
+        write_file(request.output, error_line(fault) + '\n' + last_line(COMPILE, 0) + '\n')
         raise Ended(say(['status 2, solves 0, output ' + request.output], COMPILE)) from None
 
 

@@ -1,7 +1,8 @@
 """Exact numbers whose parts have a limit (docs/NUMBERS.md, "What a number is").
 
-A number is a fraction in lowest terms. Each step is taken exactly. Where its result does not fit,
-`step` raises `DoesNotFit`, and nothing is ever rounded.
+A number is a fraction in lowest terms, and `str` of it is its exact text, `n` or `n/d`. Each step
+is taken exactly. Where its result does not fit, `step` raises `DoesNotFit`, and nothing is ever
+rounded.
 """
 from fractions import Fraction
 from math import gcd
@@ -15,7 +16,7 @@ class DoesNotFit(Exception):
 
 def is_within(*numbers: int) -> bool:
     """Whether no magnitude is over the limit."""
-    return all(-LIMIT <= number <= LIMIT for number in numbers)
+    return max(map(abs, numbers)) <= LIMIT
 
 
 def fitting(value: Fraction) -> Fraction:
@@ -49,9 +50,3 @@ def step(symbol: str, left: Fraction, right: Fraction) -> Fraction:
     if symbol == '-':
         return total(left, -right)
     return fitting(left * right if symbol == '*' else left / right)
-
-
-def text(value: Fraction) -> str:
-    """The number exactly: `n`, or `n/d` in lowest terms (docs/NUMBERS.md, "How a number is shown").
-    """
-    return str(value)

@@ -5,19 +5,13 @@ part without a place of its own, as `yes` or a condition, has the place of the o
 side or statement around it.
 """
 from fractions import Fraction
-from typing import Iterable, NamedTuple, Optional
+from typing import NamedTuple, Optional
 
+from reference import errors
 from reference.source import Place
-from reference.symbols import MOST_POSITIONS, NO_SET, Symbol, is_below
+from reference.symbols import MOST_POSITIONS, NO_SET, Symbol, has_variables, is_below
 from reference.tree import (Call, Chain, Constant, Control, Count, Expression, Fold, Guarded, Index, Lag, Membership, Negative, Not, Reference)
 from reference.words import FUNCTION_ARGUMENTS
-
-NAMES = {1: 'UnknownName', 2: 'Redeclared', 3: 'WrongKind', 4: 'WrongArity', 5: 'DomainOfSet', 6: 'DomainOfLabel', 7: 'Uncontrolled',
-         8: 'ControlledTwice', 9: 'NotOrdered', 10: 'DynamicDomain', 11: 'Nonlinear', 12: 'Discrete', 13: 'ModelType', 14: 'NotDefined',
-         15: 'DefinedTwice', 16: 'Objective', 17: 'UnknownSolver', 18: 'OptionRange', 19: 'Endogenous', 20: 'Function', 21: 'DataFault',
-         22: 'Restart'}
-UNKNOWN_NAME, WRONG_KIND, WRONG_ARITY, DOMAIN_OF_SET, DOMAIN_OF_LABEL, UNCONTROLLED = 1, 3, 4, 5, 6, 7
-CONTROLLED_TWICE, NOT_ORDERED, NONLINEAR, ENDOGENOUS, FUNCTION = 8, 9, 11, 19, 20
 
 # The suffixes with which a name of a kind is read or displayed.
 READ_SUFFIXES = {'set': ('',), 'parameter': ('',), 'variable': ('lo', 'up', 'l', 'm'), 'equation': ('l', 'm'),
@@ -42,10 +36,22 @@ class ExpressionChecks:
     def __init__(self, dynamic: set[int]) -> None:
         self.symbols: dict[int, Symbol] = {}
         self.dynamic = dynamic
-        self.errors: set[tuple[Place, int]] = set()
+        self.errors: set[tuple[Place, errors.Compile]] = set()
 
-    def report(self, at: Place, code: int) -> None:
+    def report(self, at: Place, code: errors.Compile) -> None:
         self.errors.add((at, code))
+
+    def found(self, name: int, at: Place, kind: str) -> Optional[Symbol]:
+        """The symbol of a name that has to be declared, and of this kind; `index` is a set of one
+        dimension.
+        """
+        symbol = self.symbols.get(name)
+        if symbol is None:
+            self.report(at, errors.Compile.UnknownName)
+        elif not (symbol.is_index if kind == 'index' else symbol.kind == kind):
+            self.report(at, errors.Compile.WrongKind)
+            return None
+        return symbol
 
     def is_ordered(self, symbol: Symbol) -> bool:
         return symbol.name not in self.dynamic and symbol.is_in_order
@@ -54,7 +60,7 @@ class ExpressionChecks:
     def expression(self, e: Expression, scope: Scope) -> None:
         """Checks an expression that is computed, or that is a part of a side of an equation."""
         if isinstance(e, Membership):
-            self.report(scope.at, WRONG_KIND)
+            self.report(scope.at, errors.Compile.WrongKind)
         elif isinstance(e, Reference):
             self.reference(e, scope)
         elif isinstance(e, Count):
@@ -95,33 +101,21 @@ class ExpressionChecks:
         for operator, operand in e.parts[1:]:
             has_here = self.has_variables(operand)
             if {'*': has and has_here, '/': has_here, '**': has or has_here}[operator]:
-                self.report(operand.start, NONLINEAR)
+                self.report(operand.start, errors.Compile.Nonlinear)
             has = has or has_here
 
     def has_variables(self, e: Expression) -> bool:
-        """Whether a variable occurs in it outside of conditions, relations, operands of logic and
-        lags.
-        """
-        if isinstance(e, Reference):
-            symbol = self.symbols.get(e.name)
-            return symbol is not None and symbol.kind == 'variable' and not e.suffix
-        if isinstance(e, Chain):
-            return e.level in ('sum', 'product', 'power') and any(self.has_variables(part.operand) for part in e.parts)
-        if isinstance(e, (Negative, Guarded)):
-            return self.has_variables(e.operand)
-        if isinstance(e, Fold):
-            return self.has_variables(e.body)
-        return isinstance(e, Call) and any(map(self.has_variables, e.arguments))
+        return has_variables(e, self.symbols)
 
     # ---- references
     def reference(self, e: Reference, scope: Scope) -> None:
         symbol = self.symbols.get(e.name)
         if symbol is None:
-            self.report(e.at, UNKNOWN_NAME)
+            self.report(e.at, errors.Compile.UnknownName)
         else:
             self.kind(symbol, e.suffix, e.at, scope)
             if symbol.kind == 'set' and not scope.takes_sets:
-                self.report(e.at, WRONG_KIND)
+                self.report(e.at, errors.Compile.WrongKind)
         self.indices(e.at, symbol, e.indices)
         for index in e.indices:
             self.control_of(index, e.at, scope)
@@ -130,37 +124,32 @@ class ExpressionChecks:
         """Whether a name of that kind may be read or displayed with the suffix."""
         if symbol.kind == 'variable' and not suffix:
             if scope is None or not scope.takes_variables:
-                self.report(at, ENDOGENOUS)
+                self.report(at, errors.Compile.Endogenous)
         elif suffix not in READ_SUFFIXES[symbol.kind]:
-            self.report(at, WRONG_KIND)
+            self.report(at, errors.Compile.WrongKind)
 
-    def indices(self, at: Place, symbol: Optional[Symbol], indices: Iterable[Index]) -> None:
+    def indices(self, at: Place, symbol: Optional[Symbol], indices: tuple[Index, ...]) -> None:
         """Each index is a label of the set of its position, or a set below it. Without a symbol the
         positions are not known.
         """
-        indices = tuple(indices)
         domain = symbol.domain if symbol is not None else (None,) * len(indices)
         if symbol is not None and len(domain) != len(indices) or len(indices) > MOST_POSITIONS:
-            self.report(at, WRONG_ARITY)
+            self.report(at, errors.Compile.WrongArity)
         for index, position in zip(indices, domain + (None,) * len(indices)):
             if index.label is not None:
                 if position is not None and index.label not in position.labels:
-                    self.report(at, DOMAIN_OF_LABEL)
+                    self.report(at, errors.Compile.DomainOfLabel)
                 continue
-            inner = self.symbols.get(index.name)
-            if inner is None:
-                self.report(at, UNKNOWN_NAME)
-            elif not inner.is_index:
-                self.report(at, WRONG_KIND)
-            elif position is not None and (position is NO_SET or not is_below(inner, position)):
-                self.report(at, DOMAIN_OF_SET)
-            if inner is not None and inner.is_index and index.lag and not self.is_ordered(inner):
-                self.report(at, NOT_ORDERED)
+            inner = self.found(index.name, at, 'index')
+            if inner and position is not None and (position is NO_SET or not is_below(inner, position)):
+                self.report(at, errors.Compile.DomainOfSet)
+            if inner and index.lag and not self.is_ordered(inner):
+                self.report(at, errors.Compile.NotOrdered)
 
     def control_of(self, index: Index, at: Place, scope: Scope) -> None:
         """A set that is an index is controlled; the amount of its lag is computed."""
         if index.label is None and index.name not in scope.controlled:
-            self.report(at, UNCONTROLLED)
+            self.report(at, errors.Compile.Uncontrolled)
         if index.lag:
             self.expression(index.lag.amount, Scope(index.lag.at, scope.controlled))
 
@@ -173,34 +162,30 @@ class ExpressionChecks:
         is_scalar = is_plain and symbol is not None and symbol.kind == 'parameter' and not symbol.domain
         is_variable = isinstance(amount, Reference) and not amount.suffix and symbol is not None and symbol.kind == 'variable'
         if not (is_whole or is_scalar or is_variable):
-            self.report(lag.at, WRONG_KIND)
+            self.report(lag.at, errors.Compile.WrongKind)
         self.expression(amount, Scope(lag.at, controlled))
 
     # ---- ord, card, functions, folds
     def count(self, e: Count, scope: Scope) -> None:
-        symbol = self.symbols.get(e.name)
-        if symbol is None:
-            self.report(e.at, UNKNOWN_NAME)
-        elif symbol.kind != 'set':
-            self.report(e.at, WRONG_KIND)
-        if e.word == 'ord' and e.name not in scope.controlled:
-            self.report(e.at, UNCONTROLLED)
-        if e.word == 'ord' and symbol is not None and not self.is_ordered(symbol):
-            self.report(e.at, NOT_ORDERED)
+        symbol = self.found(e.name, e.at, 'set')
+        if symbol and e.word == 'ord' and e.name not in scope.controlled:
+            self.report(e.at, errors.Compile.Uncontrolled)
+        if symbol and e.word == 'ord' and not self.is_ordered(symbol):
+            self.report(e.at, errors.Compile.NotOrdered)
 
     def call(self, e: Call, scope: Scope) -> None:
         least, most = FUNCTION_ARGUMENTS.get(e.function, (0, -1))
         if len(e.arguments) < least or most is not None and len(e.arguments) > most:
-            self.report(e.at, FUNCTION)
+            self.report(e.at, errors.Compile.Function)
         if scope.takes_variables and any(map(self.has_variables, e.arguments)):
-            self.report(e.at, NONLINEAR)
+            self.report(e.at, errors.Compile.Nonlinear)
         for argument in e.arguments:
             self.expression(argument, scope._replace(at=e.at, takes_sets=False))
 
     def fold(self, e: Fold, scope: Scope) -> None:
         controlled = self.control(e.control, e.at, scope.controlled)
         if e.word != 'sum' and scope.takes_variables and self.has_variables(e.body):
-            self.report(e.at, NONLINEAR)
+            self.report(e.at, errors.Compile.Nonlinear)
         self.expression(e.body, Scope(e.at, controlled, False, scope.takes_variables))
 
     def control(self, control: Control, at: Place, controlled: frozenset[int]) -> frozenset[int]:
@@ -208,15 +193,11 @@ class ExpressionChecks:
         controlled inside.
         """
         if len(control.names) > MOST_POSITIONS:
-            self.report(at, WRONG_ARITY)
+            self.report(at, errors.Compile.WrongArity)
         for name in control.names:
-            symbol = self.symbols.get(name)
-            if symbol is None:
-                self.report(at, UNKNOWN_NAME)
-            elif not symbol.is_index:
-                self.report(at, WRONG_KIND)
+            self.found(name, at, 'index')
             if name in controlled:
-                self.report(at, CONTROLLED_TWICE)
+                self.report(at, errors.Compile.ControlledTwice)
             controlled = controlled | {name}
         if control.condition is not None:
             self.condition(control.condition, at, controlled)
@@ -234,7 +215,7 @@ class ExpressionChecks:
         if isinstance(e, Reference):
             symbol = self.symbols.get(e.name)
             if symbol is not None and symbol.kind != 'set' and (e.suffix or symbol.kind != 'variable'):
-                self.report(e.at, WRONG_KIND)
+                self.report(e.at, errors.Compile.WrongKind)
             self.expression(e, scope._replace(takes_sets=True))
         elif isinstance(e, (Negative, Not)):
             self.set_side(e.operand, scope)
@@ -245,7 +226,7 @@ class ExpressionChecks:
             for operator, operand in e.parts:
                 self.set_side(operand, scope._replace(at=operand.start))
             wrong = [operand.start for operator, operand in e.parts[1:] if operator in ('/', '**')]
-            self.errors.update((at, WRONG_KIND) for at in wrong)
+            self.errors.update((at, errors.Compile.WrongKind) for at in wrong)
         elif not isinstance(e, Membership):
-            self.report(e.at if isinstance(e, (Call, Fold, Count)) else scope.at, WRONG_KIND)
+            self.report(e.at if isinstance(e, (Call, Fold, Count)) else scope.at, errors.Compile.WrongKind)
             self.expression(e, scope._replace(takes_sets=True))

@@ -7,7 +7,8 @@ from enum import Enum
 from fractions import Fraction
 from typing import Callable, Union
 
-from reference.exact import DoesNotFit, step, text
+from reference import errors
+from reference.exact import DoesNotFit, step
 from reference.texts import rounded
 
 
@@ -22,26 +23,22 @@ INF, MINUS_INF, NA = Special.INF, Special.MINUS_INF, Special.NA
 ZERO, ONE = Fraction(0), Fraction(1)
 Value = Union[Fraction, Special]
 
-# Kinds of execution errors (docs/LANGUAGE.md, "Execution errors").
-LIMIT, DIVIDE, LAG_NOT_WHOLE, EMPTY_EXTREME, EXPONENT, DOMAIN_SIZE = 1, 2, 3, 4, 5, 7
-TOO_MANY_ROWS, TOO_MANY_COLUMNS, NO_SOLVER, ABORTED, UNDEFINED = 8, 9, 10, 11, 12
-
 LARGEST_EXPONENT = 1024
 
 
 class StepFault(Exception):
-    """A step without a result; `kind` is the number of its execution error."""
+    """A step without a result, which is this error."""
 
-    def __init__(self, kind: int) -> None:
-        super().__init__(kind)
-        self.kind = kind
+    def __init__(self, code: errors.Execution) -> None:
+        super().__init__(code)
+        self.code = code
 
 
 def number_step(symbol: str, left: Fraction, right: Fraction) -> Fraction:
     try:
         return step(symbol, left, right)
     except DoesNotFit:
-        raise StepFault(LIMIT) from None
+        raise StepFault(errors.Execution.Limit) from None
 
 
 def sign_of(x: Value) -> int:
@@ -66,7 +63,7 @@ def added(x: Value, y: Value) -> Value:
         return NA
     if isinstance(x, Special):
         if isinstance(y, Special) and y is not x:
-            raise StepFault(UNDEFINED)
+            raise StepFault(errors.Execution.Undefined)
         return x
     return y if isinstance(y, Special) else number_step('+', x, y)
 
@@ -81,7 +78,7 @@ def multiplied(x: Value, y: Value) -> Value:
     if isinstance(x, Special) or isinstance(y, Special):
         sign = sign_of(x) * sign_of(y)
         if sign == 0:
-            raise StepFault(UNDEFINED)
+            raise StepFault(errors.Execution.Undefined)
         return infinity(sign)
     return number_step('*', x, y)
 
@@ -89,12 +86,12 @@ def multiplied(x: Value, y: Value) -> Value:
 def divided(x: Value, y: Value) -> Value:
     """Anything over the number 0 is the fault `Divide`, NA over 0 too."""
     if y == 0:
-        raise StepFault(DIVIDE)
+        raise StepFault(errors.Execution.Divide)
     if NA in (x, y):
         return NA
     if isinstance(y, Special):
         if isinstance(x, Special):
-            raise StepFault(UNDEFINED)
+            raise StepFault(errors.Execution.Undefined)
         return ZERO
     return infinity(sign_of(x) * sign_of(y)) if isinstance(x, Special) else number_step('/', x, y)
 
@@ -102,7 +99,7 @@ def divided(x: Value, y: Value) -> Value:
 def power(x: Value, n: Value) -> Value:
     """The product for every whole exponent of at most 1,024 in magnitude."""
     if isinstance(n, Special) or n.denominator != 1 or abs(n) > LARGEST_EXPONENT:
-        raise StepFault(EXPONENT)
+        raise StepFault(errors.Execution.Exponent)
     if n == 0:
         return ONE
     if x is NA:
@@ -111,7 +108,7 @@ def power(x: Value, n: Value) -> Value:
         return ZERO if n < 0 else infinity(1 if x is INF or n % 2 == 0 else -1)
     if x == 0:
         if n < 0:
-            raise StepFault(DIVIDE)
+            raise StepFault(errors.Execution.Divide)
         return ZERO
     return fitting_power(x, int(n))
 
@@ -119,7 +116,7 @@ def power(x: Value, n: Value) -> Value:
 def fitting_power(x: Fraction, n: int) -> Fraction:
     """The power of a number that is not 0; it fits where both of its parts do."""
     if max(abs(x.numerator), x.denominator) > 1 and abs(n) >= 127:
-        raise StepFault(LIMIT)
+        raise StepFault(errors.Execution.Limit)
     return number_step('*', x ** n, ONE)
 
 
@@ -198,4 +195,4 @@ def shown(x: Value, decimals: int = 3) -> str:
 
 def exactly(x: Value) -> str:
     """The text of a value in saves: `n`, `n/d`, `+INF`, `-INF` or `NA`."""
-    return x.value if isinstance(x, Special) else text(x)
+    return x.value if isinstance(x, Special) else str(x)

@@ -1,5 +1,5 @@
-"""Sides of equations: numbers, and numbers times variables (docs/LANGUAGE.md, "Variables,
-equations, models", "Linear").
+"""Sides of equations: numbers, and numbers times variables (docs/LANGUAGE.md, "equation, and its
+definition"; docs/internals/DECISIONS.md, "Rows").
 
 A part without variables is computed as any expression, and has to be a number. Of a chain all
 before the first part with variables is one such part.
@@ -8,9 +8,10 @@ from dataclasses import dataclass, field
 from fractions import Fraction
 from typing import Union
 
-from reference.extended import DIVIDE, ONE, UNDEFINED, ZERO, Special, Value, number_step
+from reference import errors
+from reference.extended import ONE, ZERO, Special, Value, number_step
 from reference.source import Place
-from reference.symbols import Element
+from reference.symbols import Element, has_variables
 from reference.tree import Chain, Expression, Fold, Guarded, Negative, Reference
 from reference.values import STEPS, Binding, Evaluator, Stop
 
@@ -25,15 +26,15 @@ class Form:
 
 
 def plus(left: Form, right: Form) -> Form:
-    """The sum: first the constants, then the elements in order."""
-    total = Form(number_step('+', left.constant, right.constant), dict(left.numbers))
+    """The left form, to which the right one is added: first the constants, then the elements in
+    order.
+    """
+    left.constant = number_step('+', left.constant, right.constant)
     for key in sorted(right.numbers):
-        number = number_step('+', total.numbers.get(key, ZERO), right.numbers[key])
+        number = number_step('+', left.numbers.pop(key, ZERO), right.numbers[key])
         if number:
-            total.numbers[key] = number
-        else:
-            total.numbers.pop(key, None)
-    return total
+            left.numbers[key] = number
+    return left
 
 
 def minus(left: Form, right: Form) -> Form:
@@ -54,18 +55,12 @@ class Forms(Evaluator):
     """Computes the forms of a state."""
 
     def has_variables(self, e: Expression) -> bool:
-        if isinstance(e, Reference):
-            return self.state.symbols[e.name].kind == 'variable' and not e.suffix
-        if isinstance(e, Chain):
-            return e.level in ('sum', 'product', 'power') and any(self.has_variables(part.operand) for part in e.parts)
-        if isinstance(e, (Negative, Guarded)):
-            return self.has_variables(e.operand)
-        return isinstance(e, Fold) and self.has_variables(e.body)
+        return has_variables(e, self.state.symbols)
 
     def number(self, value: Value, at: Place, binding: Binding) -> Fraction:
         """A part without variables has to be a number."""
         if isinstance(value, Special):
-            raise Stop(UNDEFINED, at, binding)
+            raise Stop(errors.Execution.Undefined, at, binding)
         return value
 
     def form(self, e: Expression, binding: Binding) -> Form:
@@ -108,5 +103,5 @@ class Forms(Evaluator):
         if self.has_variables(operand):
             return self.step(scaled, ('*', right, left.constant), operand.start, binding)
         if operator == '/' and right.constant == 0:
-            raise Stop(DIVIDE, operand.start, binding)
+            raise Stop(errors.Execution.Divide, operand.start, binding)
         return self.step(scaled, (operator, left, right.constant), operand.start, binding)

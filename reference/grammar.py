@@ -1,4 +1,4 @@
-"""Expressions (docs/LANGUAGE.md, "Grammar"; "Source errors" says which token is at fault).
+"""Expressions (docs/LANGUAGE.md, "Appendix: grammar", "Source errors").
 
 One method reads one production. It returns a tree. Where no production continues with the next
 token, that token is `Expected`.
@@ -7,6 +7,7 @@ from dataclasses import replace
 from fractions import Fraction
 from typing import Callable, NamedTuple, Optional, TypeVar
 
+from reference import errors
 from reference.extended import INF, NA
 from reference.source import Place, SourceFault
 from reference.texts import TooWide, decimal
@@ -62,7 +63,7 @@ class Grammar:
     def unexpected(self) -> SourceFault:
         """The fault that no production continues with the next token."""
         is_left_out = self.token.kind == WORD and self.token.text in LEFT_OUT_WORDS
-        return SourceFault(14 if is_left_out else 11, self.token.at)
+        return SourceFault(errors.Source.NotInProfile if is_left_out else errors.Source.Expected, self.token.at)
 
     def is_next(self, *texts: str) -> bool:
         """Whether the next token is one of these symbols or words."""
@@ -87,7 +88,7 @@ class Grammar:
 
     def open_parenthesis(self) -> Token:
         if self.is_next('(') and self.open == MOST_OPEN:
-            raise SourceFault(12, self.token.at)
+            raise SourceFault(errors.Source.Depth, self.token.at)
         token = self.expect('(')
         self.open += 1
         return token
@@ -121,7 +122,7 @@ class Grammar:
 
     def entered(self, place: Optional[int], at: Place) -> int:
         if place is None:
-            raise SourceFault(15, at)
+            raise SourceFault(errors.Source.TooManyLabels, at)
         return place
 
     def label(self, text: str, at: Place) -> int:
@@ -141,7 +142,7 @@ class Grammar:
         try:
             return decimal(token.text) or Fraction(0)
         except TooWide:
-            raise SourceFault(13, token.at) from None
+            raise SourceFault(errors.Source.Number, token.at) from None
 
     # ---- levels
     def expression(self) -> Expression:

@@ -1,15 +1,13 @@
 """The lines of a listing (docs/LISTING.md). Lines are without their line feeds."""
 from fractions import Fraction
 from itertools import product
-from typing import Iterable, Optional
+from typing import Iterable, Optional, Union
 
 from reference.checks import CompileError
-from reference.expression_checks import NAMES as COMPILE_NAMES
 from reference.extended import ZERO, Value, shown
 from reference.program import Answer, Program, Row
 from reference.proof import proof_lines
 from reference.rows import Generated
-from reference.source import NAMES as SOURCE_NAMES
 from reference.source import SourceFault, split_lines
 from reference.state import State
 from reference.symbols import Element, Symbol
@@ -17,8 +15,6 @@ from reference.texts import rounded
 from reference.tree import Shown, Solve
 from reference.values import Stop, checked_size
 
-EXECUTION_NAMES = {1: 'Limit', 2: 'Divide', 3: 'LagNotWhole', 4: 'EmptyExtreme', 5: 'Exponent', 7: 'DomainSize', 8: 'TooManyRows',
-                   9: 'TooManyColumns', 10: 'NoSolver', 11: 'Aborted', 12: 'Undefined'}
 MODEL_STATUS = {1: 'Optimal', 3: 'Unbounded', 4: 'Infeasible', 6: 'Intermediate Infeasible', 7: 'Intermediate Nonoptimal',
                 13: 'Error No Solution'}
 SOLVER_STATUS = {1: 'Normal Completion', 2: 'Iteration Interrupt', 4: 'Terminated By Solver'}
@@ -30,17 +26,13 @@ def echo(source: str, first: int = 1) -> list[str]:
     return ['%6d  %s' % (number, line) for number, line in enumerate(split_lines(source), first)]
 
 
-def source_error(fault: SourceFault) -> str:
-    return '*** Source error %d %s at line %d column %d' % ((fault.code, SOURCE_NAMES[fault.code]) + fault.at)
-
-
-def compile_error(error: CompileError) -> str:
-    return '*** Compile error %d %s at line %d column %d' % ((error.code, COMPILE_NAMES[error.code]) + error.at)
+def error_line(it: Union[SourceFault, CompileError, Stop]) -> str:
+    return '*** %s error %d %s at line %d column %d' % (type(it.code).__name__, it.code, it.code.name, it.at.line, it.at.column)
 
 
 def execution_error(stop: Stop, state: State) -> str:
     """The fault with its place, the controlled sets there with their labels, and the count."""
-    text = '*** Execution error %d %s at line %d column %d' % ((stop.kind, EXECUTION_NAMES[stop.kind]) + stop.at)
+    text = error_line(stop)
     if stop.binding:
         text += ' with ' + ','.join('%s=%s' % (state.name_text(name), state.label_text((label,))) for name, label in stop.binding.items())
     return text if stop.count is None else '%s count %d' % (text, stop.count)

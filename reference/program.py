@@ -1,5 +1,5 @@
-"""Linear programs and their answers (docs/SOLVER.md, "A linear program", "What proves an answer",
-"The search").
+"""Linear programs and their answers (docs/internals/SOLVER.md, "A linear program", "What proves an
+answer", "The search").
 
 Columns and rows are named as the listing names them. Each list of numbers in an answer goes by
 columns or by rows of the program.
@@ -83,12 +83,12 @@ class Answer:
 
     @property
     def has_point(self) -> bool:
-        """Whether there are levels: docs/LANGUAGE.md, "Solve", says when they are put."""
+        """Whether there are levels: docs/LANGUAGE.md, "solve", says when they are put."""
         return self.status in ('Optimal', 'Unbounded') or self.status == 'Interrupted' and self.phase == 2
 
     @property
     def statuses(self) -> tuple[int, int]:
-        """The model status and the solver status (docs/LANGUAGE.md, "Solve")."""
+        """The model status and the solver status (docs/LANGUAGE.md, "solve")."""
         if self.status == 'Interrupted':
             return (7 if self.phase == 2 else 6), 2
         return {'Optimal': (1, 1), 'Unbounded': (3, 1), 'Infeasible': (4, 1), 'Refused': (13, 4)}[self.status]

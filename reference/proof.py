@@ -4,8 +4,7 @@ hand").
 from fractions import Fraction
 from typing import Union
 
-from reference.certificate import CheckStep, dual_bound
-from reference.exact import text
+from reference.certificate import CheckStep, Sum, dual_bound
 from reference.program import Answer, Column, Program, Row, Step
 
 WORDS = {'Standard': ('row', 'column', 'part'), 'Exchange': ('row', 'column', 'part'), 'Ratio': ('row',),
@@ -15,13 +14,13 @@ Named = Union[list[Column], list[Row]]
 
 def not_zero(word: str, named: Named, values: list[Fraction]) -> list[str]:
     """A line for each column or row whose number is not 0."""
-    return ['  %s %s = %s' % (word, it.name, text(value)) for it, value in zip(named, values) if value]
+    return ['  %s %s = %s' % (word, it.name, value) for it, value in zip(named, values) if value]
 
 
 def bound_line(program: Program, answer: Answer) -> str:
     """The bound that the duals prove, or the number of the step that does not fit."""
     try:
-        return '  bound ' + text(dual_bound(program, answer.duals, answer.status == 'Optimal'))
+        return '  bound %s' % dual_bound(program, answer.duals, answer.status == 'Optimal', Sum())
     except CheckStep as check:
         return '  bound not shown, Check part %d' % check.number
 
@@ -43,7 +42,7 @@ def proof_lines(program: Program, answer: Answer) -> list[str]:
                 + not_zero('marginal', columns, answer.reduced) + [bound_line(program, answer)])
     if answer.crossed is not None:
         column = columns[answer.crossed]
-        return head + ['  crossed %s %s %s' % (column.name, text(column.lower), text(column.upper))]
+        return head + ['  crossed %s %s %s' % (column.name, column.lower, column.upper)]
     if answer.status == 'Infeasible':
         return head + not_zero('row', rows, answer.duals) + [bound_line(program, answer)]
     if answer.status == 'Unbounded':

@@ -1,5 +1,5 @@
-"""How far a right side or a cost of a solved program may move (docs/SOLVER.md, "Ranges";
-docs/LISTING.md, "Said lines").
+"""How far a right side or a cost of a solved program may move (docs/internals/SOLVER.md,
+"Ranges"; docs/LISTING.md, "Messages").
 
 All is read off the final dictionary. A right side may move by t while no constant falls below 0, a
 cost while no variable improves.
@@ -7,7 +7,7 @@ cost while no variable improves.
 from fractions import Fraction
 from typing import Iterable, Optional
 
-from reference.exact import DoesNotFit, step, text
+from reference.exact import DoesNotFit, step
 from reference.program import Answer, Program
 from reference.simplex import CONSTANT, ZERO, Dictionary
 from reference.standard import Shift, Standard, standard
@@ -74,8 +74,7 @@ def line(word: str, name: str, number: Fraction, kept: Iterable[tuple[Fraction, 
         low, high = interval(number, kept)
     except DoesNotFit:
         return '  %s %s not shown' % (word, name)
-    ends = ('-INF' if low is None else text(low), '+INF' if high is None else text(high))
-    return '  %s %s from %s to %s' % ((word, name) + ends)
+    return '  %s %s from %s to %s' % (word, name, '-INF' if low is None else low, '+INF' if high is None else high)
 
 
 def range_lines(program: Program, answer: Answer) -> list[str]:

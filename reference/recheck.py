@@ -13,7 +13,7 @@ from typing import Optional, Sequence
 
 from reference.command import DEEPEST, outcome_of
 from reference.exact import is_within
-from reference.listing import echo, last_line, program_lines, source_error
+from reference.listing import echo, error_line, last_line, program_lines
 from reference.program import Answer, Program, Step
 from reference.rows import Generated
 from reference.run import Run
@@ -64,22 +64,22 @@ class Answers:
             raise FalseListing(place, 'the listing ends within a solve')
         return self.lines[place]
 
-    def match(self, pattern: 're.Pattern[str]', place: int) -> 're.Match[str]':
+    def match(self, pattern: 're.Pattern[str]', place: int, form: str) -> 're.Match[str]':
         match = pattern.fullmatch(self.line(place))
         if match is None:
-            raise FalseListing(place, 'this is no line of an answer')
+            raise FalseListing(place, '%r is listed, and a line %r is expected' % (self.line(place), form))
         return match
 
     def read(self, level_lines: int) -> Answer:
         """The answer; `level_lines` is how many lines levels and marginals take."""
-        pivots, status = self.match(SOLVER, self.place)[1], int(self.match(MODEL, self.place + 2)[1])
+        pivots = self.match(SOLVER, self.place, 'SOLVER NAME PIVOTS p LIMIT i')[1]
+        status = int(self.match(MODEL, self.place + 2, 'MODEL STATUS m TEXT')[1])
         if status not in STATUS_WORDS:
             raise FalseListing(self.place + 2, 'no answer has the model status %d' % status)
         answer = Answer(STATUS_WORDS[status], phase={6: 1, 7: 2}.get(status, 0))
         answer.pivots = range(int(pivots))
         self.proof = self.place + 4 + (level_lines if self.has_levels and answer.has_point else 0)
-        if self.line(self.proof) != 'PROOF ' + answer.status:
-            raise FalseListing(self.proof, 'the line PROOF %s is expected here' % answer.status)
+        compare(self.lines, self.proof, ['PROOF ' + answer.status])
         self.read_proof(answer, self.proof + 1)
         if answer.has_point:
             answer.row_levels = [row_sum(row, answer.levels) for row in self.program.rows]
@@ -99,7 +99,7 @@ class Answers:
             self.read_contradiction(answer, start, end)
         elif answer.status == 'Refused':
             answer.step = self.step(start)
-        elif int(self.match(PHASE, start)[1]) != answer.phase:
+        elif int(self.match(PHASE, start, '  phase %d pivots p' % answer.phase)[1]) != answer.phase:
             raise FalseListing(start, 'the phase is not that of the model status')
 
     def read_contradiction(self, answer: Answer, start: int, end: int) -> None:
@@ -113,7 +113,7 @@ class Answers:
         answer.crossed = names.index(crossed[1])
 
     def step(self, place: int) -> Step:
-        match = self.match(STEP, place)
+        match = self.match(STEP, place, '  step NAME ..')
         return Step(match[1], tuple(map(int, re.findall('[0-9]+', match[2]))))
 
     def numbers(self, start: int, end: int, words: tuple[str, ...], with_rows: bool = False) -> tuple[list[Fraction], list[Fraction]]:
@@ -224,7 +224,7 @@ def verdict(source: str, text: str, save: Optional[str], is_replayed: bool) -> l
     try:
         saved = restore(save) if save is not None else None
     except SourceFault as fault:
-        compare(lines, 0, [source_error(fault), last_line(2, 0)])
+        compare(lines, 0, [error_line(fault), last_line(2, 0)])
         return ['%d lines, no solve' % len(lines)]
     run = checked(source, lines, saved, is_replayed)
     solves = len(run.solved) if run else 0

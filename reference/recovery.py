@@ -1,4 +1,5 @@
-"""From a final dictionary back to the numbers of the program (docs/SOLVER.md, "The way back").
+"""From a final dictionary back to the numbers of the program (docs/internals/SOLVER.md, "The way
+back").
 
 The steps are `Recover` steps: 0 levels of columns, 1 levels of rows, 2 duals, 3 reduced costs, 4
 the ray (docs/LISTING.md, "PROOF Refused").

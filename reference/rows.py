@@ -1,11 +1,12 @@
-"""The linear program of a solve (docs/LANGUAGE.md, "Solve"; docs/SOLVER.md, "From a model to a
-linear program").
+"""The linear program of a solve (docs/LANGUAGE.md, "solve"; docs/internals/SOLVER.md, "From a model
+to a linear program").
 """
 from dataclasses import dataclass
 from fractions import Fraction
 from typing import Optional
 
-from reference.extended import TOO_MANY_COLUMNS, TOO_MANY_ROWS, Special
+from reference import errors
+from reference.extended import Special
 from reference.forms import Form, Forms, Key, minus
 from reference.program import Column, Program, Row
 from reference.state import State
@@ -58,9 +59,9 @@ def checked_sizes(program: Program, s: Solve) -> None:
     rows += sum(it.lower is not None and it.upper is not None for it in program.columns)
     columns = sum(2 if it.lower is None and it.upper is None else 1 for it in program.columns)
     if rows > MOST_ROWS:
-        raise Stop(TOO_MANY_ROWS, s.at, {}, rows)
+        raise Stop(errors.Execution.TooManyRows, s.at, {}, rows)
     if columns > MOST_COLUMNS:
-        raise Stop(TOO_MANY_COLUMNS, s.at, {}, columns)
+        raise Stop(errors.Execution.TooManyColumns, s.at, {}, columns)
 
 
 def generate(state: State, definitions: dict[int, Definition], s: Solve) -> Generated:

@@ -1,9 +1,10 @@
-"""The run of a program, statement by statement (docs/LANGUAGE.md, "Assignments", "Solve", "Options,
-display, abort, loop").
+"""The run of a program, statement by statement (docs/LANGUAGE.md, "assignment", "Sets that are
+assigned", "solve", "display, abort", "loop", "option").
 """
 from typing import Iterable
 
-from reference.extended import ABORTED, INF, MINUS_INF, UNDEFINED, ZERO, Special, Value
+from reference import errors
+from reference.extended import INF, MINUS_INF, ZERO, Special, Value
 from reference.listing import displayed, execution_error, solve_lines
 from reference.program import Answer, Program
 from reference.rows import Generated, generate, index_sets
@@ -12,8 +13,6 @@ from reference.state import State
 from reference.symbols import Element, Symbol
 from reference.tree import (Abort, Assignment, Control, Definition, Display, Loop, Options, Reference, Setting, Solve, Statement)
 from reference.values import Binding, Evaluator, Stop
-
-SOLVERS = ('bland', 'dantzig')
 
 
 class Run:
@@ -61,7 +60,7 @@ class Run:
     def abort(self, s: Abort, binding: Binding) -> None:
         if self.evaluator.holds(s.condition, binding):
             self.lines += displayed(self.state, s.shown, s.at.line, binding)
-            raise Stop(ABORTED, s.at, binding)
+            raise Stop(errors.Execution.Aborted, s.at, binding)
 
     def set(self, setting: Setting) -> None:
         """Options that have no effect change nothing."""
@@ -92,7 +91,7 @@ class Run:
             return self.evaluator.is_member(s.right, binding)
         value = self.evaluator.value(s.right, binding)
         if symbol.kind == 'variable' and not is_possible(s.target.suffix, value):
-            raise Stop(UNDEFINED, s.right.start, binding)
+            raise Stop(errors.Execution.Undefined, s.right.start, binding)
         return value
 
     def put(self, symbol: Symbol, target: Reference, element: Element, value: object) -> None:

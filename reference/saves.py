@@ -1,4 +1,4 @@
-"""Saved states (docs/SAVES.md).
+"""Saved states (docs/SAVES.md; docs/internals/DESIGN.md, "States that may be restored").
 
 A state has one text. So a text is read without care, what is read is looked at, and then it is
 written again: where that is not the text, it is no save.
@@ -8,17 +8,18 @@ from dataclasses import dataclass
 from fractions import Fraction
 from typing import Iterator, TypeVar
 
+from reference import errors
 from reference.checks import MOST_OF_OPTION, Checks
+from reference.choice import SOLVERS
 from reference.exact import is_within
 from reference.extended import INF, MINUS_INF, NA, ZERO, Value, exactly
-from reference.run import SOLVERS, is_possible
+from reference.run import is_possible
 from reference.source import MOST_BYTES, Place, SourceFault, read_source
 from reference.state import Entry, Settings, State, first_entry, first_state
 from reference.statements import read_program
 from reference.symbols import Element, Symbol, dynamic_sets
 
 MOST_SAVED = 67_108_864
-SAVE_SHAPE, SAVE_TOO_LONG, SAVE_SOLVER = 41, 42, 43
 HEAD = re.compile(r'gams25 save 1\nsource ([0-9]{1,8})\n')
 SOLVER_NAME = re.compile(r'[A-Za-z][A-Za-z0-9_]{0,62}')
 FRACTION = re.compile(r'-?[0-9]{1,39}(?:/[0-9]{1,39})?')
@@ -89,13 +90,13 @@ def restore(text: str) -> Saved:
     order.
     """
     if len(text) > MOST_SAVED:
-        raise SourceFault(SAVE_TOO_LONG, Place(1, 1))
+        raise SourceFault(errors.Source.SaveTooLong, Place(1, 1))
     try:
         saved = read_save(text)
     except (NoSave, SourceFault):
-        raise SourceFault(SAVE_SHAPE, Place(1, 1)) from None
+        raise SourceFault(errors.Source.SaveShape, Place(1, 1)) from None
     if saved.state.settings.lp.lower() not in SOLVERS:
-        raise SourceFault(SAVE_SOLVER, Place(1, 1))
+        raise SourceFault(errors.Source.SaveSolver, Place(1, 1))
     saved.state.settings.lp = saved.state.settings.lp.lower()
     return saved
 

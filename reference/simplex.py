@@ -1,12 +1,11 @@
 """Dictionaries and their pivots, by the textbook (Chvatal, "Linear Programming", chapters 2 and 3).
 
-docs/SOLVER.md, "The dictionary" and "Which variable enters". A dictionary says of each basic
-variable, and of the objective, what it is: a constant less the sum of entry times variable. So the
-objective's row has its coefficients negated, and one rule of exchange serves all rows.
+docs/internals/SOLVER.md, "The dictionary", "Steps". A dictionary says of each basic variable, and
+of the objective, what it is: a constant less the sum of entry times variable. So the objective's
+row has its coefficients negated, and one rule of exchange serves all rows.
 """
 from dataclasses import dataclass
 from fractions import Fraction
-from typing import Optional
 
 from reference.program import Program
 from reference.standard import CONSTANT, Standard, negated, taken
@@ -107,42 +106,9 @@ def first_dictionary(program: Program, form: Standard) -> Dictionary:
     return Dictionary(basis, rows + [objective], opening_due)
 
 
-class Rule:
-    """Which variable enters: `bland`, the least that improves, or `dantzig`, the one with the
-    greatest coefficient.
-
-    The largest coefficient turns to Bland's rule for the rest of a phase once the pivots in a row
-    that gain nothing are as many as all variables are.
-    """
-
-    def __init__(self, name: str, variables: int) -> None:
-        self.name, self.variables = name, variables
-        self.idle = 0           # pivots in a row without a gain, in this phase
-        self.turned = False
-
-    def entering(self, improving: dict[int, Fraction]) -> int:
-        """The variable that enters, of those that improve."""
-        if self.name == 'bland' or self.turned:
-            return min(improving)
-        return min(improving, key=lambda variable: (-improving[variable], variable))
-
-    def after(self, constant: Fraction, new_phase: bool) -> None:
-        """Counts a pivot by the constant of the variable that left."""
-        self.idle = 0 if constant or new_phase else self.idle + 1
-        self.turned = not new_phase and (self.turned or self.idle >= self.variables)
-
-
 def opening_row(dictionary: Dictionary) -> int:
     """The row that leaves in the opening pivot: the one with the least constant, and of these that
     with the least variable.
     """
     rows = list(range(len(dictionary.basis)))
     return dictionary.least(rows, [dictionary.number(row, CONSTANT) for row in rows])
-
-
-def chosen(dictionary: Dictionary, rule: Rule) -> Optional[int]:
-    """The variable that enters: 0 in the opening pivot; None where no variable improves."""
-    if dictionary.opening_due:
-        return 0
-    improving = dictionary.improving()
-    return rule.entering(improving) if improving else None

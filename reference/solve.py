@@ -1,16 +1,26 @@
-"""From a program to its answer (docs/SOLVER.md, "The search").
+"""From a program to its answer (docs/internals/SOLVER.md, "The search").
 
     solve(program, 'bland', 1000)
 """
+from reference.choice import SOLVERS, Rule
 from reference.program import Answer, Program
 from reference.recovery import recovered
-from reference.simplex import Dictionary, Rule, chosen, first_dictionary, opening_row
+from reference.simplex import Dictionary, first_dictionary, opening_row
 from reference.standard import CONSTANT, Refusal, standard
 
 
-def solve(program: Program, rule: str, iteration_limit: int) -> Answer:
-    """The answer by `bland` or `dantzig`: bounds first, then the standard form, then the pivots;
-    the first misfit refuses.
+def solve(program: Program, solver: str, iteration_limit: int) -> Answer:
+    """The first answer of the solver's rules that is not Refused, or that of the last one."""
+    for rule in SOLVERS[solver]:
+        answer = answer_by(program, rule, iteration_limit)
+        if answer.status != 'Refused':
+            break
+    return answer
+
+
+def answer_by(program: Program, rule: str, iteration_limit: int) -> Answer:
+    """The answer by a rule: bounds first, then the standard form, then the pivots; the first misfit
+    refuses.
     """
     for place, column in enumerate(program.columns):
         if column.lower is not None and column.upper is not None and column.lower > column.upper:
@@ -32,8 +42,8 @@ def searched(dictionary: Dictionary, rule: Rule, limit: int, pivots: list[tuple[
     into the list.
     """
     while True:
-        entering = chosen(dictionary, rule)
-        if entering is None:
+        entering = rule.entering(dictionary)
+        if entering < 0:
             return Answer('Infeasible' if dictionary.phase == 1 else 'Optimal')
         if entering and not dictionary.limiting(entering):
             return Answer('Unbounded', entering=entering)

@@ -8,13 +8,11 @@ from bisect import bisect_right
 from dataclasses import dataclass
 from typing import NamedTuple, Optional
 
+from reference import errors
+
 MOST_BYTES = 1_048_576
 MOST_LINE = 32_768
 CONTROLS = set('$title $ontext $offtext $offsymxref $offsymlist $offlisting $onlisting $offupper $onupper $eject'.split())
-
-NAMES = {1: 'BadByte', 2: 'OpenQuote', 3: 'OpenText', 4: 'LongLabel', 5: 'LongLine', 6: 'UnknownControl', 9: 'TooLong',
-         11: 'Expected', 12: 'Depth', 13: 'Number', 14: 'NotInProfile', 15: 'TooManyLabels', 21: 'NoColumn', 22: 'TwoColumns',
-         23: 'RepeatedEntry', 24: 'BadRow', 25: 'NoHeading', 41: 'SaveShape', 42: 'SaveTooLong', 43: 'SaveSolver'}
 
 
 class Place(NamedTuple):
@@ -26,9 +24,9 @@ class Place(NamedTuple):
 
 
 class SourceFault(Exception):
-    """A source error of this number, at this place."""
+    """A source error, at this place."""
 
-    def __init__(self, code: int, at: Place) -> None:
+    def __init__(self, code: errors.Source, at: Place) -> None:
         super().__init__(code, at)
         self.code, self.at = code, at
 
@@ -79,11 +77,11 @@ def line_faults(line: str, number: int, is_control: bool) -> list[SourceFault]:
     faults = []
     bad = first_bad(line, is_control)
     if bad is not None:
-        faults.append(SourceFault(1, Place(number, column_after(line[:bad]))))
+        faults.append(SourceFault(errors.Source.BadByte, Place(number, column_after(line[:bad]))))
     if len(line) > MOST_LINE:
-        faults.append(SourceFault(5, Place(number, 1)))
+        faults.append(SourceFault(errors.Source.LongLine, Place(number, 1)))
     if is_control and first_word(line) not in CONTROLS:
-        faults.append(SourceFault(6, Place(number, 1)))
+        faults.append(SourceFault(errors.Source.UnknownControl, Place(number, 1)))
     return faults
 
 
@@ -102,7 +100,7 @@ def read_source(text: str) -> Source:
         if is_control and first_word(line) == '$ontext':
             inside = True
             if last_close <= number:
-                faults.append(SourceFault(3, Place(number, 1)))
+                faults.append(SourceFault(errors.Source.OpenText, Place(number, 1)))
             code.append(' ' * len(line))
         elif inside or is_control or line.startswith('*'):
             inside = inside and not is_close(line)

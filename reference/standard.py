@@ -1,7 +1,7 @@
 """The standard form: variables at least 0, rows at most their right sides, an objective to be
 greatest.
 
-docs/SOLVER.md, "The standard form"; docs/LISTING.md, "PROOF Refused", for the names of the steps.
+docs/internals/SOLVER.md, "The standard form"; docs/LISTING.md, "PROOF Refused".
 """
 from dataclasses import dataclass, field
 from fractions import Fraction
@@ -67,16 +67,6 @@ class Standard:
     def all_variables(self) -> int:
         """How many variables there are, with slacks and variable 0."""
         return self.variables + len(self.rows) + 1
-
-
-def count(program: Program) -> tuple[int, int]:
-    """How many rows and columns the standard form has (docs/LANGUAGE.md, "Execution errors" 8 and
-    9).
-    """
-    two = sum(column.lower is not None and column.upper is not None for column in program.columns)
-    free = sum(column.lower is None and column.upper is None for column in program.columns)
-    rows = sum({'E': 2, 'L': 1, 'G': 1, 'N': 0}[row.sense] for row in program.rows)
-    return rows + two, len(program.columns) + free
 
 
 def shifts_of(columns: list[Column]) -> tuple[list[Shift], int]:

@@ -1,5 +1,5 @@
-"""What a run knows at a point (docs/LANGUAGE.md, "Sets and labels", "Data", "Variables, equations,
-models", "Options").
+"""What a run knows at a point (docs/LANGUAGE.md, "set", "scalar, parameter", "variable", "model",
+"option").
 """
 from dataclasses import dataclass, field
 from typing import NamedTuple

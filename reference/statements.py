@@ -1,9 +1,10 @@
-"""Statements, declarations and lists of data (docs/LANGUAGE.md, "Grammar", "Sets and labels",
-"Data", "Tables").
+"""Statements, declarations and lists of data (docs/LANGUAGE.md, "Appendix: grammar",
+"Declarations", "Statements that act").
 """
 import re
 from typing import Callable, Optional, TypeVar
 
+from reference import errors
 from reference.extended import INF, NA, Value, negated
 from reference.grammar import Grammar
 from reference.source import Source, SourceFault
@@ -23,7 +24,7 @@ Read = TypeVar('Read')
 
 def range_form(first: str, last: str) -> Optional[tuple[str, int, range]]:
     """The text of a range, the width of its numbers, and these; None where its ends make none
-    (docs/LANGUAGE.md, "A range").
+    (docs/LANGUAGE.md, "set").
     """
     from_end, to_end = split_end(first), split_end(last)
     if from_end is None or to_end is None or from_end[0].lower() != to_end[0].lower():
@@ -227,7 +228,7 @@ class Statements(Grammar):
         if not (self.token.kind == END or self.is_next(';') or self.is_statement_word()):
             raise self.unexpected()
         if lines.headings is None:
-            raise SourceFault(25, named.at)
+            raise SourceFault(errors.Source.NoHeading, named.at)
         items = tuple(Item(entry.at, tuple((label,) for label in entry.labels), entry.value) for entry in lines.entries)
         return Declaration(at, 'table', (Declared(named, domain, items),))
 

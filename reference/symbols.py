@@ -1,4 +1,4 @@
-"""Declared names (docs/LANGUAGE.md, "Sets and labels", "Data", "Variables, equations, models").
+"""Declared names (docs/LANGUAGE.md, "Declarations", "alias", "Sets that are assigned").
 
 An alias is the very symbol of its set, so two names are one set where their symbols are one object.
 """
@@ -7,7 +7,8 @@ from itertools import product
 from typing import Iterable, Iterator, Optional
 
 from reference.extended import Value
-from reference.tree import Alias, Assignment, Declaration, Item, Loop, Models, Statement
+from reference.tree import (Alias, Assignment, Call, Chain, Declaration, Expression, Fold, Guarded, Item, Loop, Models, Negative,
+                            Reference, Statement)
 
 MOST_POSITIONS = 10
 MOST_ELEMENTS = 1_048_576               # of one name's lists
@@ -55,6 +56,21 @@ def is_below(inner: Symbol, outer: Symbol) -> bool:
         return True
     position = inner.domain[0] if inner.is_index else None
     return position is not None and position is not NO_SET and is_below(position, outer)
+
+
+def has_variables(e: Expression, symbols: dict[int, Symbol]) -> bool:
+    """Whether a variable occurs in a side of an equation, outside of conditions, relations,
+    operands of logic and lags.
+    """
+    if isinstance(e, Reference):
+        return e.name in symbols and symbols[e.name].kind == 'variable' and not e.suffix
+    if isinstance(e, Chain):
+        return e.level in ('sum', 'product', 'power') and any(has_variables(part.operand, symbols) for part in e.parts)
+    if isinstance(e, (Negative, Guarded)):
+        return has_variables(e.operand, symbols)
+    if isinstance(e, Fold):
+        return has_variables(e.body, symbols)
+    return isinstance(e, Call) and any(has_variables(argument, symbols) for argument in e.arguments)
 
 
 def elements_of(item: Item) -> Iterator[Element]:

@@ -1,9 +1,10 @@
-"""The lines of a table (docs/LANGUAGE.md, "Tables")."""
+"""The lines of a table (docs/LANGUAGE.md, "table")."""
 import re
 from dataclasses import dataclass
 from fractions import Fraction
 from typing import Callable, NamedTuple, Optional
 
+from reference import errors
 from reference.source import Place, SourceFault, column_after
 from reference.texts import TooWide, decimal
 from reference.tokens import LABEL_FORM, MOST_LABEL
@@ -68,14 +69,14 @@ class Table:
         else:
             self.read_row(line, number)
 
-    def fault(self, code: int, line: str, number: int, start: int) -> SourceFault:
+    def fault(self, code: errors.Source, line: str, number: int, start: int) -> SourceFault:
         return SourceFault(code, Place(number, column_after(line[:start])))
 
     def labels(self, line: str, number: int, start: int) -> tuple[tuple[int, ...], int]:
         """The labels of a heading or a row, and where they end."""
         found = labels_at(line, start)
         if found is None:
-            raise self.fault(24, line, number, start)
+            raise self.fault(errors.Source.BadRow, line, number, start)
         at = Place(number, column_after(line[:start]))
         return tuple(self.enter(text, at) for text in found[0]), found[1]
 
@@ -104,14 +105,14 @@ class Table:
         except TooWide:
             value, is_within = Fraction(0), False
         if value is None:
-            raise self.fault(24, line, number, word.start())
+            raise self.fault(errors.Source.BadRow, line, number, word.start())
         first, end = column_after(line[:word.start()]), column_after(line[:word.end()])
         met = [it for it in self.headings or [] if first < it.end and it.first < end]
         if len(met) != 1:
-            raise self.fault(22 if met else 21, line, number, word.start())
+            raise self.fault(errors.Source.TwoColumns if met else errors.Source.NoColumn, line, number, word.start())
         if (row, met[0].labels) in self.given:
-            raise self.fault(23, line, number, word.start())
+            raise self.fault(errors.Source.RepeatedEntry, line, number, word.start())
         if not is_within:
-            raise self.fault(24, line, number, word.start())
+            raise self.fault(errors.Source.BadRow, line, number, word.start())
         self.given.add((row, met[0].labels))
         self.entries.append(Entry(Place(number, first), row + met[0].labels, -value if text[0] == '-' else value))

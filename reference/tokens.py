@@ -1,5 +1,5 @@
-"""The tokens of a source (docs/LANGUAGE.md, "Words, numbers, symbols", "Grammar", "Sets and
-labels", "Tables").
+"""The tokens of a source (docs/LANGUAGE.md, "Words, numbers, symbols", "Declarations";
+docs/internals/DESIGN.md, "Tokens after an error"; docs/internals/DECISIONS.md, "Tokens").
 
 Which token may come next depends on the tokens before it: this is the mode. Code has words,
 numbers, texts in quotation marks and symbols; a text follows a declared name; a list has labels; a
@@ -9,6 +9,7 @@ import re
 from dataclasses import dataclass
 from typing import NamedTuple, Optional
 
+from reference import errors
 from reference.source import Place, Source, SourceFault
 from reference.words import STATEMENT_WORDS
 
@@ -22,7 +23,7 @@ SYMBOL_FORM = re.compile(r'=[eElLgGnN]=|\*\*|\.\.|<=|>=|<>|\+\+|--|[-+*/=<>(),;.
 BLANKS = re.compile(r'[ \t]*')
 GAP = re.compile(r'[ \t\n]*')
 PLAIN_TEXT = re.compile(r'[^/,;\r\n]+')
-TABLE_HEADS = ('table_named', 'table_bare', 'table_texted')
+TABLE_HEADS = ('table_named', 'table_bare', 'table_rest')
 
 SHAPES = {'set': 'set', 'sets': 'set', 'variable': 'set', 'variables': 'set', 'equation': 'set', 'equations': 'set',
           'parameter': 'parameter', 'parameters': 'parameter', 'scalar': 'scalar', 'scalars': 'scalar',
@@ -39,6 +40,10 @@ class Token(NamedTuple):
     written: str
 
 
+# The modes that read a token of code, with the mode after it, and the one after a word that begins no statement.
+AFTER_CODE = {'code': ('code', 'code'), 'item': ('item', 'named'), 'table': ('code', 'table_named'), 'table_rest': ('code', 'code')}
+
+
 @dataclass
 class Mode:
     """What may come next.
@@ -48,11 +53,11 @@ class Mode:
     named        after a declared name
     domain       in the parentheses after it
     bare         after those
-    rest         after a text or a list
+    rest         after that, or after a text or a list
     element      in a list, where a label is expected; `is_fresh` at the start of an element
     after        in a list, after a label; `is_spaced` after a blank
     tail         in a list, where numbers and names may occur; `is_fresh` before the first of them
-    table, table_named, table_domain, table_bare, table_texted
+    table, table_named, table_domain, table_bare, table_rest
                  the same after the word `table`, up to the end of that line
     lines        the lines of a table
 
@@ -75,7 +80,7 @@ class Lexer:
         self.mode = Mode()
         self.tokens: list[Token] = []
 
-    def fault(self, code: int, offset: Optional[int] = None) -> SourceFault:
+    def fault(self, code: errors.Source, offset: Optional[int] = None) -> SourceFault:
         return SourceFault(code, self.source.place(self.offset if offset is None else offset))
 
     def put(self, kind: str, end: int, text: Optional[str] = None) -> None:
@@ -135,7 +140,7 @@ class Lexer:
         end = self.quoted_end()
         text = self.text[self.offset + 1:end - 1]
         if kind == LABEL and len(text) > MOST_LABEL:
-            raise self.fault(4)
+            raise self.fault(errors.Source.LongLabel)
         self.ascii_up_to(end)
         self.put(kind, end, text)
 
@@ -143,20 +148,20 @@ class Lexer:
         line_end = self.text.find('\n', self.offset)
         close = self.text.find(self.text[self.offset], self.offset + 1, len(self.text) if line_end < 0 else line_end)
         if close < 0:
-            raise self.fault(2)
+            raise self.fault(errors.Source.OpenQuote)
         return close + 1
 
     def ascii_up_to(self, end: int) -> None:
         for k in range(self.offset, end):
             if self.text[k] > '\x7f':
-                raise self.fault(1, k)
+                raise self.fault(errors.Source.BadByte, k)
 
     def code(self, quoted_kind: str) -> None:
         """A word, a number, a text in quotation marks or a symbol."""
         word, number = WORD_FORM.match(self.text, self.offset), NUMBER_FORM.match(self.text, self.offset)
         if word:
             if len(word[0]) > MOST_LABEL:
-                raise self.fault(4)
+                raise self.fault(errors.Source.LongLabel)
             self.put(WORD, word.end())
         elif number:
             self.put(NUMBER, number.end())
@@ -169,7 +174,7 @@ class Lexer:
             return
         symbol = SYMBOL_FORM.match(self.text, self.offset)
         if symbol is None:
-            raise self.fault(1)
+            raise self.fault(errors.Source.BadByte)
         self.put(SYMBOL, symbol.end())
 
     def label(self) -> None:
@@ -179,7 +184,7 @@ class Lexer:
             self.quoted_or_symbol(LABEL)
             return
         if len(label[0]) > MOST_LABEL:
-            raise self.fault(4)
+            raise self.fault(errors.Source.LongLabel)
         self.put(LABEL, label.end(), label[0])
 
     def remark(self) -> None:
@@ -195,7 +200,11 @@ class Lexer:
     # ---- modes
     def read(self) -> list[Token]:
         while self.gap():
-            getattr(self, 'read_' + self.mode.state)()
+            if self.mode.state in AFTER_CODE:
+                self.code(TEXT)
+                self.after_code(*AFTER_CODE[self.mode.state])
+            else:
+                getattr(self, 'read_' + self.mode.state.removeprefix('table_'))()
         self.put(END, self.offset)
         return self.tokens
 
@@ -218,65 +227,62 @@ class Lexer:
         else:
             self.go(otherwise)
 
-    def after_code(self, state: str, named: str, with_keywords: bool = True) -> None:
-        """The mode after a token of code: its own state, except that a word leads to another one
-        and `;` ends it.
+    def after_code(self, state: str, named: str) -> None:
+        """The mode after a token of code: that state, except that a word leads to another one and
+        `;` ends it.
         """
         if self.is_symbol(';'):
             self.mode = Mode()
-        elif self.tokens[-1].kind == WORD and with_keywords:
+        elif self.tokens[-1].kind == WORD:
             self.keyword(named)
         else:
             self.go(state)
 
-    def read_code(self) -> None:
-        self.code(TEXT)
-        self.after_code('code', 'code')
-
-    def read_item(self) -> None:
-        self.code(TEXT)
-        self.after_code('item', 'named')
+    @property
+    def prefix(self) -> str:
+        """What the names of a table's modes begin with."""
+        return 'table_' if self.mode.state.startswith('table_') else ''
 
     def read_named(self) -> None:
-        self.named('(/,;', 'domain', 'rest')
+        """After a declared name: its domain, or else as after its domain."""
+        if self.text[self.offset] == '(':
+            self.put(SYMBOL, self.offset + 1)
+            self.go(self.prefix + 'domain')
+        else:
+            self.read_bare()
 
     def read_bare(self) -> None:
-        self.named('/,;', 'domain', 'rest')
-
-    def named(self, symbols: str, domain: str, texted: str) -> None:
-        """After a declared name: a domain, a list, the end of the item, or a text."""
-        if self.text[self.offset] not in symbols:
+        """After the domain of a declared name: a list, the end of the item, or a text."""
+        if self.text[self.offset] not in '/,;':
             self.remark()
-            self.go(texted)
+            self.go(self.prefix + 'rest')
             return
         self.put(SYMBOL, self.offset + 1)
-        self.after_symbol(domain)
+        if self.prefix:
+            self.mode = Mode()
+        else:
+            self.after_item()
 
-    def after_symbol(self, domain: str) -> None:
-        symbol = self.tokens[-1].text
-        if symbol == '(':
-            self.go(domain)
-        elif symbol == '/':
+    def after_item(self) -> None:
+        if self.is_symbol('/'):
             self.start()
-        elif symbol == ',':
+        elif self.is_symbol(','):
             self.go('item')
         else:
             self.mode = Mode()
 
     def read_domain(self) -> None:
-        self.inside_domain('domain', 'bare')
-
-    def inside_domain(self, state: str, following: str) -> None:
         """In a domain a word that begins statements changes nothing."""
         self.code(TEXT)
-        self.after_code(state, state, with_keywords=False)
-        if self.is_symbol(')'):
-            self.go(following)
+        if self.is_symbol(';'):
+            self.mode = Mode()
+        elif self.is_symbol(')'):
+            self.go(self.prefix + 'bare')
 
     def read_rest(self) -> None:
         self.code(TEXT)
         if self.is_symbol('/,;'):
-            self.after_symbol('rest')
+            self.after_item()
         else:
             self.after_code('rest', 'rest')
 
@@ -341,32 +347,6 @@ class Lexer:
             self.go('tail')
 
     # ---- tables
-    def read_table(self) -> None:
-        self.code(TEXT)
-        self.after_code('code', 'table_named')
-
-    def read_table_named(self) -> None:
-        self.table_named('(/,;')
-
-    def read_table_bare(self) -> None:
-        self.table_named('/,;')
-
-    def table_named(self, symbols: str) -> None:
-        """After a table's name: its domain, or its text."""
-        if self.text[self.offset] not in symbols:
-            self.remark()
-            self.go('table_texted')
-            return
-        self.put(SYMBOL, self.offset + 1)
-        self.go('table_domain' if self.is_symbol('(') else 'code')
-
-    def read_table_domain(self) -> None:
-        self.inside_domain('table_domain', 'table_bare')
-
-    def read_table_texted(self) -> None:
-        self.code(TEXT)
-        self.after_code('code', 'code')
-
     def read_lines(self) -> None:
         """A line of a table, up to a `;`, or a statement that ends the table."""
         start = self.text.rfind('\n', 0, self.offset) + 1

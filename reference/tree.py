@@ -1,4 +1,4 @@
-"""The tree of a program (docs/LANGUAGE.md, "Grammar").
+"""The tree of a program (docs/LANGUAGE.md, "Appendix: grammar").
 
 Names and labels are numbers, in the order in which the source first has them. `start` of an
 expression is its first character, a sign and parentheses before it included; `at` of a part is the

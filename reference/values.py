@@ -1,4 +1,4 @@
-"""The values of expressions (docs/LANGUAGE.md, "Values", "Order", "Execution errors").
+"""The values of expressions (docs/LANGUAGE.md, "Expressions", "Execution errors"; docs/NUMBERS.md).
 
 A binding gives each controlled set its label, in the order in which they were controlled. Operands
 are computed from the left, conditions after `$` before their operand, and the first fault stops.
@@ -7,7 +7,8 @@ from fractions import Fraction
 from itertools import product
 from typing import Callable, Collection, Iterable, Iterator, Optional
 
-from reference.extended import (DOMAIN_SIZE, EMPTY_EXTREME, FUNCTIONS, LAG_NOT_WHOLE, ONE, RELATIONS, ZERO, StepFault, Value, added, divided,
+from reference import errors
+from reference.extended import (FUNCTIONS, ONE, RELATIONS, ZERO, StepFault, Value, added, divided,
                                 greater, lesser, multiplied, negated, power, subtracted)
 from reference.source import Place
 from reference.state import State
@@ -24,13 +25,13 @@ FOLDS = {'sum': added, 'prod': multiplied, 'smin': lesser, 'smax': greater}
 
 
 class Stop(Exception):
-    """A fault that stops the run: its number, its place, the controlled sets there, and perhaps a
+    """A fault that stops the run: the error, its place, the controlled sets there, and perhaps a
     count.
     """
 
-    def __init__(self, kind: int, at: Place, binding: Binding, count: Optional[int] = None) -> None:
-        super().__init__(kind, at)
-        self.kind, self.at, self.binding, self.count = kind, at, binding, count
+    def __init__(self, code: errors.Execution, at: Place, binding: Binding, count: Optional[int] = None) -> None:
+        super().__init__(code, at)
+        self.code, self.at, self.binding, self.count = code, at, binding, count
 
 
 def checked_size(sizes: Iterable[int], at: Place, binding: Binding) -> None:
@@ -39,7 +40,7 @@ def checked_size(sizes: Iterable[int], at: Place, binding: Binding) -> None:
     for size in sizes:
         count *= size
     if count > MOST_IN_DOMAIN:
-        raise Stop(DOMAIN_SIZE, at, binding, min(count, MOST_COUNTED))
+        raise Stop(errors.Execution.DomainSize, at, binding, min(count, MOST_COUNTED))
 
 
 def factors(condition: Optional[Expression]) -> Iterator[Expression]:
@@ -89,7 +90,7 @@ class Evaluator:
         try:
             return operator(*operands)
         except StepFault as fault:
-            raise Stop(fault.kind, at, binding) from None
+            raise Stop(fault.code, at, binding) from None
 
     # ---- references
     def reference(self, e: Reference, binding: Binding) -> Value:
@@ -122,7 +123,7 @@ class Evaluator:
             return binding[index.name]
         amount = self.value(index.lag.amount, binding)
         if not isinstance(amount, Fraction) or amount.denominator != 1:
-            raise Stop(LAG_NOT_WHOLE, index.lag.at, binding)
+            raise Stop(errors.Execution.LagNotWhole, index.lag.at, binding)
         return self.lagged(self.state.symbols[index.name], binding[index.name], index.lag.operator, int(amount))
 
     def lagged(self, symbol: Symbol, label: int, operator: str, amount: int) -> Optional[int]:
@@ -189,7 +190,7 @@ class Evaluator:
         """
         inside = self.domain(e.control, e.at, binding)
         if e.word in ('smin', 'smax') and not inside:
-            raise Stop(EMPTY_EXTREME, e.at, binding)
+            raise Stop(errors.Execution.EmptyExtreme, e.at, binding)
         value: Optional[Value] = {'sum': ZERO, 'prod': ONE}.get(e.word)
         for inner in inside:
             body = self.value(e.body, inner)

@@ -6,7 +6,8 @@ nothing is solved.
 from fractions import Fraction
 from typing import Iterable, Optional
 
-from reference.program import Answer, Column, Program, Row
+from reference.certificate import ExactSum, NoBound, dual_bound, reduced_costs
+from reference.program import Answer, Program, Row
 
 ZERO = Fraction(0)
 Reason = Optional[str]
@@ -35,35 +36,12 @@ def first(reasons: Iterable[Reason]) -> Reason:
     return next((reason for reason in reasons if reason is not None), None)
 
 
-def reduced_costs(program: Program, costs: list[Fraction], duals: list[Fraction]) -> list[Fraction]:
-    """The cost of each column less the dual value of each row times the row's number for it."""
-    reduced = list(costs)
-    for row, dual in zip(program.rows, duals):
-        if dual:
-            for place, number in row.coefficients.items():
-                reduced[place] -= dual * number
-    return reduced
-
-
-def bounds_of(it: object) -> tuple[Optional[Fraction], Optional[Fraction]]:
-    """What a column or a row is at least and at most."""
-    if isinstance(it, Column):
-        return it.lower, it.upper
-    return it.right if it.sense in 'EG' else None, it.right if it.sense in 'EL' else None
-
-
-def proved_bound(program: Program, duals: list[Fraction], reduced: list[Fraction], is_low: bool) -> tuple[Fraction, Reason]:
-    """The sum of all parts; each is a factor times the bound that its sign selects, which has to be
-    there.
-    """
-    total = ZERO
-    for it, factor in list(zip(program.rows, duals)) + list(zip(program.columns, reduced)):
-        if factor:
-            bound = bounds_of(it)[0 if (factor > 0) == is_low else 1]
-            if bound is None:
-                return total, 'the factor %s of %s uses a bound that is not there' % (factor, it.name)
-            total += factor * bound
-    return total, None
+def proved_bound(program: Program, duals: list[Fraction], with_objective: bool) -> tuple[Fraction, Reason]:
+    """The bound that the duals prove, or why they prove none."""
+    try:
+        return dual_bound(program, duals, with_objective, ExactSum()), None
+    except NoBound as fault:
+        return ZERO, str(fault)
 
 
 def optimal_fault(program: Program, answer: Answer) -> Reason:
@@ -73,12 +51,11 @@ def optimal_fault(program: Program, answer: Answer) -> Reason:
     fault = point_fault(program, answer.levels)
     if fault:
         return fault
-    costs = [program.cost(place) for place in range(len(program.columns))]
-    reduced = reduced_costs(program, costs, answer.duals)
+    reduced = reduced_costs(program, answer.duals, True, ExactSum())
     for column, right, listed in zip(program.columns, reduced, answer.reduced):
         if right != listed:
-            return 'the marginal of %s is %s by those of the rows, and not %s' % (column.name, right, listed)
-    total, fault = proved_bound(program, answer.duals, reduced, not program.maximize)
+            return 'the marginal of %s is %s by those of the rows, and %s is listed' % (column.name, right, listed)
+    total, fault = proved_bound(program, answer.duals, True)
     objective = answer.levels[program.objective]
     if not fault and total != objective:
         return 'the marginals prove the bound %s, and the objective is %s' % (total, objective)
@@ -92,11 +69,10 @@ def infeasible_fault(program: Program, answer: Answer) -> Reason:
     crossed = next((place for place, it in enumerate(program.columns)
                     if it.lower is not None and it.upper is not None and it.lower > it.upper), None)
     if answer.crossed != crossed:
-        return 'the first column with crossed bounds is ' + ('none' if crossed is None else program.columns[crossed].name)
+        return 'the bounds of no column cross' if crossed is None else 'the bounds of %s cross' % program.columns[crossed].name
     if crossed is not None:
         return None
-    reduced = reduced_costs(program, [ZERO] * len(program.columns), answer.duals)
-    total, fault = proved_bound(program, answer.duals, reduced, True)
+    total, fault = proved_bound(program, answer.duals, False)
     return fault or (None if total > 0 else 'the rows make the bound %s, which is not above 0' % total)
 
 
@@ -118,7 +94,7 @@ def unbounded_fault(program: Program, answer: Answer) -> Reason:
 def interrupted_fault(program: Program, answer: Answer, limit: int) -> Reason:
     """The pivots are as many as the limit allows, and in phase 2 the point is possible."""
     if len(answer.pivots) != limit:
-        return 'the solver was not interrupted at %d pivots of %d' % (len(answer.pivots), limit)
+        return 'a solve is interrupted after %d pivots, and %d are listed' % (limit, len(answer.pivots))
     return point_fault(program, answer.levels) if answer.phase == 2 else None
 
 

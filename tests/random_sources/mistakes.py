@@ -54,7 +54,7 @@ COMPILE = {
         SET + 'q3(q1) = q1(q1)/q1(q1);', SET + 'q3(q1) = q1(q1)**q1(q1);', SET + 'q3(q1) = q1(q1) and q1(q1);', SET + 'q3(q1) = q1(q1) + (1 < 2);',
         SET + 'q3(q1) = 1$qs;', SET + 'q3(q1) = -inf;', SET + 'q3(q1) = sum(q2, 1);', SET + 'qs$yes = 1;', SET + 'qs = qs + 2$yes;', SET + 'qs = sum(q1$yes, 1);',
         SET + MODEL + 'qe.. yes =e= qx;', SET + 'solve qs using lp minimizing qs;', SET + MODEL + 'qm.modelstat = 1;', 'model qm; qm.modelstat = 1;',
-        'model qm; display qm;', SET + 'display qs.l;', SET + 'qs = q3;', SET + 'qs = card(qp);', SET + 'qs = ord(qp);',
+        'model qm; display qm;', SET + 'display qs.l;', SET + 'qs = q3;', SET + 'qs = card(qp);', SET + 'qs = ord(qp);', SET + 'scalar qt /1/; qs = ord(qt);', SET + 'scalar qt /1/; loop(q1, qp(q1+qt) = qp(q1-qs) + card(qt));',
         SET + MODEL + 'model qm /qe/, qn /qm/;', SET + 'qp.. 1 =e= 1;', SET + MODEL + 'qe.. qx =e= q1("qa");', SET + 'set q6(q1,q2); qs = sum(q6, 1);',
         SET + 'set q6(q1,q2); qp(q6) = 1;', SET + 'loop(q1, q1 = 1);', SET + 'qs = max(yes, 1);', SET + 'abort$yes;', SET + 'loop(q1$no, qs = 1);'],
     4: [SET + 'qp = 1;', SET + 'qs("qa") = 1;', SET + 'qs = qp;', SET + 'qs = qp("qa","qc");', SET + 'parameter qr(q1) /qa.qc 1/;', 'parameter qr(*,*,*,*,*,*,*,*,*,*,*);',
@@ -120,6 +120,8 @@ EXECUTION = {
          SET + MODEL + 'qf(q1).. qx*qs =l= na; model qm /qf/; solve qm using lp minimizing qz;', SET + 'qs = mod(inf,2);', SET + MODEL + 'qe.. inf - inf + qx =e= qz; model qm /qe/; solve qm using lp minimizing qz;'],
 }
 TOKEN = re.compile(r'"[^"\n]*"|\'[^\'\n]*\'|[A-Za-z_]\w*|\d+\.?\d*|=[eElLgGnN]=|\*\*|\.\.|<=|>=|<>|\+\+|--|\s+|.', re.S)
+KEYWORDS = frozenset('set sets parameter parameters scalar scalars table variable variables equation equations model models alias option options solve '
+                     'using lp minimizing maximizing display abort loop positive negative free yes no not and or xor'.split())
 SPARE = ['(', ')', ',', ';', '.', '$', '+', '-', '*', '/', '=', '<', '=e=', '..', '++', '**', '1', '0', '2.5', 'a', 'i', 't', 'x', '"a"', 'sum', 'set', 'yes',
          'inf', 'na', 'not', 'and', 'display', 'loop', 'l', 'all', ' ', '\n', '\n*', '\n$', '"', "'", 'abs', 'ord', 'table', '\t', 'parameter', 'solve', 'alias']
 
@@ -139,10 +141,20 @@ def among(draw: Draw, text: str, added: str) -> str:
 
 
 def changed(draw: Draw, text: str) -> str:
-    """The source with one to three tokens or lines changed."""
+    """The source with one to three tokens, names or lines changed."""
     for _ in range(draw.weighted((6, 1), (2, 2), (1, 3))):
-        text = draw.call((8, lambda: token_changed(draw, text)), (2, lambda: line_changed(draw, text)), (1, lambda: byte_changed(draw, text)))
+        text = draw.call((7, lambda: token_changed(draw, text)), (5, lambda: name_changed(draw, text)),
+                         (2, lambda: line_changed(draw, text)), (1, lambda: byte_changed(draw, text)))
     return text
+
+
+def name_changed(draw: Draw, text: str) -> str:
+    """One name, label or function in place of another one: of the wrong kind, dimension or domain."""
+    tokens = TOKEN.findall(text)
+    places = [it for it, token in enumerate(tokens) if token[0].isalpha() and token.lower() not in KEYWORDS]
+    if places:
+        tokens[draw.pick(places)] = tokens[draw.pick(places)]
+    return ''.join(tokens)
 
 
 def token_changed(draw: Draw, text: str) -> str:

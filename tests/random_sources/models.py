@@ -48,7 +48,7 @@ def settings(draw: Draw) -> str:
     if draw.chance(0.45):
         parts += ['limrow = %s' % draw.pick(['0', '1', '2', '50']), 'limcol = %s' % draw.pick(['0', '1', '2', '50'])]
     if draw.chance(0.3):
-        parts.append('lp = %s' % draw.pick(['dantzig', 'dantzig', 'bland', 'DANTZIG']))
+        parts.append('lp = %s' % draw.pick(['dantzig', 'steepest', 'any', 'bland', 'DANTZIG']))
     if draw.chance(0.22):
         parts.append('iterlim = %d' % draw.weighted((1, 0), (2, 1), (2, 2), (2, 3), (1, 4), (1, 6)))
     if draw.chance(0.12):
@@ -175,7 +175,7 @@ def first_phase_stall(draw: Draw) -> str:
     for row in rows:
         text += '%s.. %s =%s= 0;\n' % (row, terms(draw, names), draw.pick('lge'))
     text += 'model m /all/;\n' + settings(draw)
-    return text + 'option lp = %s;' % draw.pick(['dantzig', 'bland']) + solve(draw, 'm', 'z') + again(draw, names, rows)
+    return text + 'option lp = %s;' % draw.pick(['dantzig', 'bland', 'steepest', 'any']) + solve(draw, 'm', 'z') + again(draw, names, rows)
 
 
 def transport(draw: Draw) -> str:

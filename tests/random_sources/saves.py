@@ -3,7 +3,7 @@ import re
 
 from tests.random_sources.draw import Draw
 
-SOLVERS = [b'dantzig', b'BLAND', b'none', b'None', b'x' * 64, b'a-b']
+SOLVERS = [b'dantzig', b'BLAND', b'steepest', b'Any', b'none', b'None', b'x' * 64, b'a-b']
 
 
 def damaged(text: bytes, seed: int) -> bytes:

@@ -89,7 +89,7 @@ def option(scope: Scope) -> Tokens:
         name = draw.pick(['limrow', 'limcol', 'iterlim', 'decimals', 'decimals', 'solprint', 'lp', 'lp', 'other'])
         draw.note('option ' + name)
         values = {'limrow': ['0', '1', '2', '100'], 'limcol': ['0', '1', '2', '100'], 'iterlim': ['0', '1', '2', '3', '1000', '2e3'],
-                  'decimals': ['0', '1', '2', '4', '6', '8'], 'solprint': ['on', 'off', 'on'], 'lp': ['bland', 'dantzig', 'Dantzig'],
+                  'decimals': ['0', '1', '2', '4', '6', '8'], 'solprint': ['on', 'off', 'on'], 'lp': ['bland', 'dantzig', 'Dantzig', 'steepest', 'any'],
                   'other': ['5', '.5', 'xyz', 'on']}
         word = draw.pick(IGNORED) if name == 'other' else name
         parts.append([draw.cased(word), '=', draw.pick(values[name])])
