@@ -5,7 +5,9 @@ Times are processor times of whole runs, the least of several. From them goes th
 import argparse
 import os
 import re
+import resource
 import shutil
+import signal
 import subprocess
 import sys
 import tempfile
@@ -31,14 +33,18 @@ def own_program():
     return os.path.join(TOP, said.rstrip("\n"))
 
 
-def used_by(words, folder, ends=(0, 3)):
+def used_by(words, folder, ends=(0, 3), seconds=None):
     """Runs a command in a folder, and tells its processor time and its peak memory in megabytes. It has to end with one of these statuses;
-    3 is that of a run which a fault stops. The memory is never less than that of the script itself, from which the command was started."""
+    3 is that of a run which a fault stops. The memory is never less than that of the script itself, from which the command was started.
+    Where it may take so many seconds of the processor, it is ended after them."""
     with open(f"{folder}/said", "w", encoding="utf-8") as said:
         running = subprocess.Popen(words, cwd=folder, stdout=said, stderr=subprocess.STDOUT)
+        if seconds:
+            resource.prlimit(running.pid, resource.RLIMIT_CPU, (seconds, seconds + 1))
         _, status, used = os.wait4(running.pid, 0)
     running.returncode = os.waitstatus_to_exitcode(status)
-    if running.returncode not in ends:
+    is_over = seconds and running.returncode in (-signal.SIGXCPU, -signal.SIGKILL)
+    if running.returncode not in ends and not is_over:
         sys.exit(f"{' '.join(words)} ended with status {running.returncode} and said {text_in(f'{folder}/said')!r}")
     return used.ru_utime + used.ru_stime, used.ru_maxrss / 1024
 
