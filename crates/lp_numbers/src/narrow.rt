@@ -41,6 +41,15 @@ pub(crate) fn spread(len: usize) -> usize {
     lines.saturating_mul(8).saturating_sub(2)
 }
 
+/// The same numbers in a list of their own. The error is out of memory.
+pub(crate) fn copied(alloc: Global, numbers: &[i64]) -> Result<Vec<i64>, AllocError>
+    ensures { IfOk result (λ list. list.items ≡ numbers.now) }
+{
+    let mut list = Vec::with_capacity(alloc, spread(numbers.len()))?;
+    list.extend_from_slice(numbers)?;
+    Ok(list)
+}
+
 /// Zeros of one word each. The error is out of memory.
 pub fn zero_words(alloc: Global, count: usize) -> Result<Vec<i64>, AllocError>
     ensures sized { IfOk result (λ list. length list.items ≡ count) }
@@ -106,12 +115,13 @@ pub(crate) fn lessen_at(
     most
 }
 
-/// A divisor of each number and of a denominator.
+/// The greatest divisor of each number and of a denominator.
 pub(crate) fn divisor_of(numbers: &[i64], denominator: u64) -> u64
     requires { 0 < denominator }
     ensures positive { 0 < result }
     ensures denominator { result ∣ denominator }
     ensures numbers { AreDivided numbers.now result }
+    ensures greatest { (k : ℕ) → k ∣ denominator → AreDivided numbers.now k → k ∣ result }
 {
     let mut divisor = denominator;
     for n in numbers {

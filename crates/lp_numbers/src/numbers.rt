@@ -88,6 +88,26 @@ impl Numbers {
         }
     }
 
+    /// The same numbers in a list of their own. The error is out of memory.
+    pub fn copy(&self, alloc: Global) -> Result<Numbers, AllocError>
+        ensures { IfOk result (λ list. list ≡ self.now) }
+    {
+        match &self.kept {
+            Kept::Narrow(list) => {
+                let list = narrow::copied(alloc, list.as_slice())?;
+                Ok(Numbers {
+                    kept: Kept::Narrow(list),
+                })
+            }
+            Kept::Wide(list) => {
+                let list = Vec::from_slice(alloc, list.as_slice())?;
+                Ok(Numbers {
+                    kept: Kept::Wide(list),
+                })
+            }
+        }
+    }
+
     /// How many there are.
     pub fn len(&self) -> usize
         ensures { result ≡ length self.now }
@@ -275,12 +295,13 @@ impl Numbers {
         None
     }
 
-    /// A divisor of each number and of a denominator, number by number.
+    /// The greatest divisor of each number and of a denominator, number by number.
     fn divisor_of_any(&self, denominator: u128) -> u128
         requires { 0 < denominator }
         ensures positive { 0 < result }
         ensures denominator { result ∣ denominator }
         ensures numbers { AreDivided self.now result }
+        ensures greatest { (k : ℕ) → k ∣ denominator → AreDivided self.now k → k ∣ result }
     {
         let mut divisor = denominator;
         for place in 0..self.len() {
@@ -292,12 +313,13 @@ impl Numbers {
         divisor
     }
 
-    /// A divisor of each number and of a denominator.
+    /// The greatest divisor of each number and of a denominator.
     pub fn divisor_of(&self, denominator: u128) -> u128
         requires { 0 < denominator }
         ensures positive { 0 < result }
         ensures denominator { result ∣ denominator }
         ensures numbers { AreDivided self.now result }
+        ensures greatest { (k : ℕ) → k ∣ denominator → AreDivided self.now k → k ∣ result }
     {
         if denominator > WORD {
             return self.divisor_of_any(denominator);

@@ -12,9 +12,12 @@ pub mod Sameness
 pub mod Largest
 pub mod Wholes
 pub mod Putting
+pub mod Arriving
+pub mod Settling
 pub mod Pivoting
 pub mod Crowding
 pub mod Answering
 pub mod Pairing
+pub mod Lowest
 pub mod Results
 pub mod Filling

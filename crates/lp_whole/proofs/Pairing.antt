@@ -14,13 +14,13 @@ use Rattle.lp_whole.specs.declared.line.Line.{Line}
 use Rattle.lp_whole.specs.declared.pairs.Measure.{Measure}
 use Rattle.lp_numbers.specs.Lines.{whole_at}
 use Rattle.lp_whole.specs.Form.{wholes, lines_number, numbers_above, IsLine, AreFactors, AreBounded}
-use Rattle.lp_whole.specs.Room.{AreWhole, most_or_one, denominator_or_one, zero_or_one, row_denominator, row_most}
-use Rattle.lp_whole.specs.Pairs.{HasPairRoom, HasNoPairRoom, IsSomePairCrowded, IsMeasured, IsRoomy, IsPairFit, ArePairsFit, rows_top}
+use Rattle.lp_whole.specs.Room.{AreWhole, most_or_one, denominator_or_one, zero_or_one, whole_or_zero, row_denominator, row_most, row_number}
+use Rattle.lp_whole.specs.Pairs.{HasPairRoom, HasNoPairRoom, IsSomePairCrowded, IsMeasured, IsRowOver, IsLowestRow, IsRoomy, IsPairFit, ArePairsFit, rows_top}
 use Rattle.lp_whole.specs.Whole.{row_of, WholeTableau, dictionary, IsWhole}
 use Rattle.lp_whole.proofs.Bounds.{fits_by_means, pair_product, pair_difference}
 use Rattle.lp_whole.proofs.Lessening.{with_sign, with_sign_within, quotient_means}
 use Rattle.lp_whole.proofs.Plans.{some_at}
-use Rattle.lp_whole.proofs.Reading.{at_line, own_number_is, other_number_is, own_shared, other_shared, some_v, top_within, low_within}
+use Rattle.lp_whole.proofs.Reading.{at_line, own_number_is, other_number_is, own_shared, other_shared, own_named, other_named, some_v, top_within, low_within}
 use Rattle.lp_whole.proofs.Steps.{exchange_fits, BothFit}
 use Rattle.lp_whole.proofs.Updating.{ratio_none}
 use Rattle.lp_whole.proofs.Wholes.{row_within, row_below, row_apart}
@@ -34,6 +34,7 @@ pub record IsRow (lines : List Line) (o : Option ℕ) (bound i : ℕ) : Type 0 w
   pub high : row_most o lines i ≤ bound
   pub number : ℕ → ℤ
   pub number_is : (c : ℕ) → ratio (number c) (row_denominator o lines i) ≡ numbers_above o (lines_number lines) i c
+  pub named : (c : ℕ) → number c ≡ row_number o lines i c
   pub within : (c : ℕ) → nat_abs (number c) ≤ row_most o lines i
 
 -- nothing is put off
@@ -49,6 +50,7 @@ plain_row lines width bound i w less =
       high = subst (λ m. m ≤ bound) (sym most_is) (w.room i l.0 l.1);
       number = λ c. whole_at (wholes l.0) c;
       number_is = λ c. ap (ratio (whole_at (wholes l.0) c)) low_is ∙ sym (at_line lines i l.0 l.1 c);
+      named = λ c. sym (ap (λ o. whole_or_zero o c) l.1);
       within = λ c. subst (λ m. nat_abs (whole_at (wholes l.0) c) ≤ m) (sym most_is) (of_line.numbers_within c);
     }
 
@@ -76,6 +78,7 @@ module _ (lines : List Line) (k width bound : ℕ) (w : AreWhole lines (Some k) 
         high = subst (λ m. m ≤ bound) (sym own_most) w.room.room.own;
         number = λ c. whole_at (wholes p) c;
         number_is = λ c. ap (ratio (whole_at (wholes p) c)) (sym low_is) ∙ own_number_is lines k width bound w c;
+        named = λ c. own_named lines k width bound w c;
         within = λ c. subst (λ m. nat_abs (whole_at (wholes p) c) ≤ m) (sym own_most) (of_pivot.numbers_within c);
       }
 
@@ -99,6 +102,7 @@ module _ (lines : List Line) (k width bound : ℕ) (w : AreWhole lines (Some k) 
           number_is = λ c.
               ap (ratio (whole_at (wholes p) 1 *ℤ whole_at (wholes l) c -ℤ whole_at (wholes l) 1 *ℤ whole_at (wholes p) c)) (sym low_is)
               ∙ other_number_is lines k width bound w i c l other there;
+          named = λ c. other_named lines k width bound w i c l other there;
           within = λ c. subst (λ m. nat_abs (whole_at (wholes p) 1 *ℤ whole_at (wholes l) c -ℤ whole_at (wholes l) 1 *ℤ whole_at (wholes p) c) ≤ m) (sym other_most) (top_within l p of_line of_pivot c);
         }
 
@@ -126,28 +130,51 @@ most_other lines o k i l p is other there at =
     ∙ sym (ap (λ b. cond b (most_or_one (slice_get lines k)) (most_or_one (slice_get lines i) * zero_or_one (slice_get lines k) + zero_or_one (slice_get lines i) * most_or_one (slice_get lines k))) (ne_eqb i k other))
     ∙ sym (ap (λ t. row_most t lines i) is)
 
-pub fit_of : (lines : List Line) (o : Option ℕ) (leaving column bound i : ℕ) (row last : Measure) → IsMeasured lines o i column row → IsMeasured lines o leaving column last → HasPairRoom row.number last.number row.most last.most bound → IsPairFit lines o leaving column bound i
-fit_of lines o leaving column bound i row last m k h =
+-- a row as whole numbers over its denominator
+row_at : (lines : List Line) (o : Option ℕ) (bound i column : ℕ) → (r : IsRow lines o bound i) → IsRowOver lines o i column (r.number column) (row_denominator o lines i) (row_most o lines i)
+row_at lines o bound i column r =
+    record { positive = r.positive; low = r.low; number_is = r.number_is column; each = λ c. (r.number c, r.number_is c, r.within c) }
+
+measured_over : (lines : List Line) (o : Option ℕ) (bound i column : ℕ) (m : Measure) → IsRow lines o bound i → IsMeasured lines o i column m → IsRowOver lines o i column m.number (row_denominator o lines i) m.most
+measured_over lines o bound i column m r is =
     record {
-      number = row.number;
-      of_leaving = last.number;
-      number_is = m.number;
-      leaving_is = k.number;
-      room = subst₂ (λ a b. HasPairRoom row.number last.number a b bound) m.most k.most h;
+      positive = r.positive;
+      low = subst (λ t. row_denominator o lines i ≤ t) (sym is.most) r.low;
+      number_is = is.number;
+      each = λ c. (r.number c, r.number_is c, subst (λ t. nat_abs (r.number c) ≤ t) (sym is.most) (r.within c));
     }
 
-pub crowded_of : (lines : List Line) (o : Option ℕ) (leaving column bound i : ℕ) (row last : Measure) → i < length lines → i ≢ leaving → IsMeasured lines o i column row → IsMeasured lines o leaving column last → HasNoPairRoom row.number last.number row.most last.most bound → IsSomePairCrowded lines o leaving column bound
-crowded_of lines o leaving column bound i row last within other m k h =
+pub fit_of : (lines : List Line) (o : Option ℕ) (width bound leaving column i : ℕ) (row last : Measure) → AreWhole lines o width bound → i < length lines → leaving < length lines → IsMeasured lines o i column row → IsMeasured lines o leaving column last → HasPairRoom row.number last.number row.most last.most bound → IsPairFit lines o leaving column bound i
+fit_of lines o width bound leaving column i row last w within also m k h =
     record {
-      at = i;
-      within = within;
-      other = other;
       number = row.number;
       of_leaving = last.number;
-      number_is = m.number;
-      leaving_is = k.number;
-      no_room = subst₂ (λ a b. HasNoPairRoom row.number last.number a b bound) m.most k.most h;
+      denominator = row_denominator o lines i;
+      denominator_leaving = row_denominator o lines leaving;
+      most = row.most;
+      most_leaving = last.most;
+      row = measured_over lines o bound i column row (rows_are lines o width bound i w within) m;
+      row_leaving = measured_over lines o bound leaving column last (rows_are lines o width bound leaving w also) k;
+      room = h;
     }
+
+pub lowest_fit : (lines : List Line) (o : Option ℕ) (leaving column bound i : ℕ) (row last : Measure) → IsLowestRow lines o i column row → IsLowestRow lines o leaving column last → HasPairRoom row.number last.number row.most last.most bound → IsPairFit lines o leaving column bound i
+lowest_fit lines o leaving column bound i row last m k h =
+    record {
+      number = row.number;
+      of_leaving = last.number;
+      denominator = m.denominator;
+      denominator_leaving = k.denominator;
+      most = row.most;
+      most_leaving = last.most;
+      row = m.row;
+      row_leaving = k.row;
+      room = h;
+    }
+
+pub crowded_of : (lines : List Line) (o : Option ℕ) (leaving column bound i : ℕ) (row last : Measure) → i < length lines → i ≢ leaving → IsLowestRow lines o i column row → IsLowestRow lines o leaving column last → HasNoPairRoom row.number last.number row.most last.most bound → IsSomePairCrowded lines o leaving column bound
+crowded_of lines o leaving column bound i row last within other m k h =
+    record { at = i; within = within; other = other; row = row; row_leaving = last; row_is = m; leaving_is = k; no_room = h }
 
 pub fit_more : (lines : List Line) (o : Option ℕ) (leaving column bound n : ℕ) → ArePairsFit lines o leaving column bound n → (n ≢ leaving → IsPairFit lines o leaving column bound n) → ArePairsFit lines o leaving column bound (n + 1)
 fit_more lines o leaving column bound n h here i less other = elim (cases_eq i n) [
@@ -223,8 +250,12 @@ roomy_fits lines o width bound leaving column w within h i less other =
     record {
       number = row.number column;
       of_leaving = last.number column;
-      number_is = row.number_is column;
-      leaving_is = last.number_is column;
+      denominator = row_denominator o lines i;
+      denominator_leaving = row_denominator o lines leaving;
+      most = row_most o lines i;
+      most_leaving = row_most o lines leaving;
+      row = row_at lines o bound i column row;
+      row_leaving = row_at lines o bound leaving column last;
       room = room_plain (row.number column) (last.number column) (row_most o lines i) (row_most o lines leaving) bound (omega arith);
     }
 
@@ -249,17 +280,11 @@ module _ (t : WholeTableau) (w : IsWhole t) (q k : ℕ) (less : k < length t.bas
   abbrev low : ℕ → ℕ
   low i = row_denominator t.deferred t.lines i
 
-  abbrev most : ℕ → ℕ
-  most i = row_most t.deferred t.lines i
-
   abbrev at : ℕ → ℕ
   at i = row_of (length t.basic) i
 
   at_within : (i : ℕ) → at i < length t.lines
   at_within i = let e = w.paired in let f = row_below (length t.basic) i in omega arith
-
-  row : (i : ℕ) → IsRow t.lines t.deferred t.bound (at i)
-  row i = rows_are t.lines t.deferred (t.variables + 2) t.bound (at i) w.are_whole (at_within i)
 
   leaving : IsRow t.lines t.deferred t.bound k
   leaving = rows_are t.lines t.deferred (t.variables + 2) t.bound k w.are_whole (let e = w.paired in omega arith)
@@ -270,15 +295,15 @@ module _ (t : WholeTableau) (w : IsWhole t) (q k : ℕ) (less : k < length t.bas
   leaving_is : (c : ℕ) → ratio (leaving.number c) (low k) ≡ d.numbers k c
   leaving_is c = leaving.number_is c ∙ own_number c
 
-  not_zero : (p : ℤ) → ratio p (low k) ≡ d.numbers k (q + 1) → p ≢ pos 0
-  not_zero p is none = some (sym is ∙ ap (λ z. ratio z (low k)) none ∙ ratio_none (low k))
+  not_zero : (p : ℤ) (m : ℕ) → ratio p m ≡ d.numbers k (q + 1) → p ≢ pos 0
+  not_zero p m is none = some (sym is ∙ ap (λ z. ratio z m) none ∙ ratio_none m)
 
   quotient : (c : ℕ) → quotient_fits limit (d.numbers k c) (entry_at d k q) ≡ true
   quotient c =
       let n : ℤ = leaving.number c in
       let p : ℤ = leaving.number (q + 1) in
       let means : Means (d.numbers k c /ℚ d.numbers k (q + 1)) (with_sign p n) (nat_abs p) =
-      subst₂ (λ x y. Means (x /ℚ y) (with_sign p n) (nat_abs p)) (leaving_is c) (leaving_is (q + 1)) (quotient_means n p (low k) leaving.positive (not_zero p (leaving_is (q + 1)))) in
+      subst₂ (λ x y. Means (x /ℚ y) (with_sign p n) (nat_abs p)) (leaving_is c) (leaving_is (q + 1)) (quotient_means n p (low k) leaving.positive (not_zero p (low k) (leaving_is (q + 1)))) in
       let top = leaving.within c in
       let below = leaving.within (q + 1) in
       let high = leaving.high in
@@ -288,18 +313,19 @@ module _ (t : WholeTableau) (w : IsWhole t) (q k : ℕ) (less : k < length t.bas
   others : (i : ℕ) → i ≢ k → (c : ℕ) → BothFit limit pivot d q k i c
   others i other c =
       let fit = h (at i) (at_within i) (row_apart (length t.basic) i k less other) in
-      let ni : ℤ = (row i).number c in
-      let nk : ℤ = leaving.number c in
+      let x = fit.row.each c in
+      let y = fit.row_leaving.each c in
       let f : ℤ = fit.number in
       let p : ℤ = fit.of_leaving in
-      let p_is : ratio p (low k) ≡ d.numbers k (q + 1) = fit.leaving_is ∙ own_number (q + 1) in
+      let y_is : ratio y.0 fit.denominator_leaving ≡ d.numbers k c = y.1 ∙ own_number c in
+      let p_is : ratio p fit.denominator_leaving ≡ d.numbers k (q + 1) = fit.row_leaving.number_is ∙ own_number (q + 1) in
       let both = wider room fit.room in (
-        subst (λ e. product_fits limit e (d.numbers k c /ℚ d.numbers k (q + 1)) ≡ true) fit.number_is
-            (subst₂ (λ y z. product_fits limit (ratio f (low (at i))) (y /ℚ z) ≡ true) (leaving_is c) p_is
-            (pair_product limit ni nk f p (low (at i)) (low k) (most (at i)) (most k) (row i).positive leaving.positive (not_zero p p_is) ((row i).within c) (row i).low (leaving.within c) both)),
-        subst₂ (λ v e. difference_fits limit v (e *ℚ (d.numbers k c /ℚ d.numbers k (q + 1))) ≡ true) ((row i).number_is c) fit.number_is
-            (subst₂ (λ y z. difference_fits limit (ratio ni (low (at i))) (ratio f (low (at i)) *ℚ (y /ℚ z)) ≡ true) (leaving_is c) p_is
-            (pair_difference limit ni nk f p (low (at i)) (low k) (most (at i)) (most k) (row i).positive leaving.positive (not_zero p p_is) ((row i).within c) (row i).low (leaving.within c) both)),
+        subst (λ e. product_fits limit e (d.numbers k c /ℚ d.numbers k (q + 1)) ≡ true) fit.row.number_is
+            (subst₂ (λ s z. product_fits limit (ratio f fit.denominator) (s /ℚ z) ≡ true) y_is p_is
+            (pair_product limit x.0 y.0 f p fit.denominator fit.denominator_leaving fit.most fit.most_leaving fit.row.positive fit.row_leaving.positive (not_zero p fit.denominator_leaving p_is) x.2 fit.row.low y.2 both)),
+        subst₂ (λ v e. difference_fits limit v (e *ℚ (d.numbers k c /ℚ d.numbers k (q + 1))) ≡ true) x.1 fit.row.number_is
+            (subst₂ (λ s z. difference_fits limit (ratio x.0 fit.denominator) (ratio f fit.denominator *ℚ (s /ℚ z)) ≡ true) y_is p_is
+            (pair_difference limit x.0 y.0 f p fit.denominator fit.denominator_leaving fit.most fit.most_leaving fit.row.positive fit.row_leaving.positive (not_zero p fit.denominator_leaving p_is) x.2 fit.row.low y.2 both)),
       )
 
   pub steps_fit : AllFit (exchange_steps limit pivot d q k)

@@ -1,9 +1,8 @@
 -- A pivot: what the lines after it stand for, and that there is room for it.
-use Rattle.std.proofs.Common.{◌≡◌, ◌≢◌, ℕ, ◌+◌, ◌*◌, ◌<◌, ◌≤◌, ◌==◌, ◌&&◌, inl, inr, pos, nat_abs, cond, List, length, length-set, Option, Some, None, refl, sym, ap, ◌∙◌, subst, arith}
+use Rattle.std.proofs.Common.{◌≡◌, ◌≢◌, ℕ, ◌+◌, ◌*◌, ◌<◌, ◌≤◌, ◌==◌, ◌&&◌, inl, inr, pos, nat_abs, cond, List, length, length-set, Option, Some, None, refl, sym, ap, ◌∙◌, subst, subst₂, arith}
 use mathlib.Core.Path.{fun_ext}
 use Rattle.std.specs.Prelude.{slice_get, slice_set, Contains}
 use Rattle.std.proofs.lemmas.Bool.{cases_eq, eq-eqb, ne_eqb}
-use Rattle.std.proofs.Math.Nat.{mul-le-mul}
 use Rattle.gq_number.specs.Number.{Number, whole, ratio, neg_ℚ}
 use Rattle.gq_number.specs.Order.{◌<ℚ◌}
 use Rattle.gq_number.proofs.Signs.{≢-zero_above}
@@ -14,16 +13,14 @@ use Rattle.lp_exact.specs.Tableau.{IsPlace}
 use Rattle.lp_exact.proofs.Proper.{proper_after, place_within, pivot_some, enters_there, basic_after}
 use Rattle.lp_exact.proofs.Kept.{get_index, contains_get}
 use Rattle.lp_whole.specs.declared.line.Line.{Line}
-use Rattle.lp_whole.specs.declared.line.Factors.{Factors}
 use Rattle.lp_numbers.specs.Lines.{whole_at}
-use Rattle.lp_whole.specs.Form.{wholes, line_number, number_or_none, lines_number, numbers_above, IsLine, AreLines, AreBounded, IsWithinFactors, AreForgotten, IsRaisedAt, IsRaisedLine, AreSwapped}
-use Rattle.lp_whole.specs.Room.{IsPutOff, HasRoom, AreWhole, KeepsRoom, zero_after, AreTurnedInRoom}
+use Rattle.lp_whole.specs.Form.{wholes, line_number, number_or_none, lines_number, numbers_above, IsLine, AreLines, AreBounded, AreForgotten, IsRaisedAt, IsRaisedLine, AreSwapped}
+use Rattle.lp_whole.specs.Room.{HasRoomFor, IsPutOff, AreWhole, AreTurnedInRoom}
 use Rattle.lp_whole.specs.Turning.{turned_at, swapped, negated, IsAbove}
 use Rattle.lp_whole.specs.Whole.{row_of, WholeTableau, dictionary, IsWhole}
 use Rattle.lp_whole.proofs.Turning.{turned_same, turned_negated, swapped_first, swapped_second, swapped_third, above, leaves}
 use Rattle.lp_whole.proofs.Plans.{get_within, index_get, some_at, same_some, set_other}
 use Rattle.lp_whole.proofs.Reading.{at_line, above_number, bounded_lines}
-use Rattle.lp_whole.proofs.Sameness.{same_are, same_bounded, same_numbers}
 use Rattle.lp_whole.proofs.Wholes.{row_within, row_below, row_apart, row_turned, sign_off}
 use Rattle.lp_whole.proofs.Updating.{ratio_none}
 
@@ -31,63 +28,18 @@ use Rattle.lp_whole.proofs.Updating.{ratio_none}
 
 module _ (bound column place leaving rows : ℕ) (before after : List Line) (paired : length before ≡ rows + 1) (within : place < rows) (h : AreTurnedInRoom bound column place leaving before after) where
   pub turned_sized : length after ≡ length before
-  turned_sized = h.turned.sized ∙ h.same.sized
+  turned_sized = h.sized
 
   pub turned_are : (width : ℕ) → AreLines width before → AreLines width after
-  turned_are width are = h.turned.are_lines width (same_are before h.divided h.same width are)
+  turned_are width are = h.are_lines width are
 
   pub turned_numbers : (i c : ℕ) → lines_number after (row_of rows i) c ≡ turned_at (λ j. lines_number before (row_of rows j)) column place i c
   turned_numbers i c =
-      let less : row_of rows i < length h.divided = let e = row_below rows i in let f = h.same.sized in omega arith in
-      h.turned.numbers (row_of rows i) c less
-      ∙ turned_same (lines_number h.divided) (lines_number before) column place (row_of rows i) c (same_numbers before h.divided h.same)
-      ∙ row_turned rows (lines_number before) column place i c within
+      let less : row_of rows i < length before = let e = row_below rows i in omega arith in
+      h.numbers (row_of rows i) c less ∙ row_turned rows (lines_number before) column place i c within
 
-  -- the line of a place after it, with what it came from
-  pub record IsFrom (i : ℕ) (y : Line) : Type 0 where
-    pub p : Line
-    pub x : Line
-    pub f : Factors
-    pub p_at : slice_get h.divided place ≡ Some p
-    pub x_at : slice_get h.divided i ≡ Some x
-    pub f_at : slice_get h.plans i ≡ Some f
-    pub is : IsWithinFactors x p y f
-    pub most : f.most ≤ bound
-
-  plans_sized : length h.plans ≡ length h.divided
-  plans_sized =
-      let p = some_at h.divided place (let e = h.same.sized in omega arith) in
-      (h.roomy.planned p.0 p.1).planned.sized
-
-  pub from : AreBounded bound before → (i : ℕ) (y : Line) → slice_get after i ≡ Some y → IsFrom i y
-  from bounded i y at =
-      let less : i < length h.divided = let e = get_within after i y at in let f = h.turned.sized in omega arith in
-      let p = some_at h.divided place (let e = h.same.sized in omega arith) in
-      let x = some_at h.divided i less in
-      let f = some_at h.plans i (let e = plans_sized in omega arith) in
-      let plan = (h.roomy.planned p.0 p.1).planned in
-      record {
-        p = p.0;
-        x = x.0;
-        f = f.0;
-        p_at = p.1;
-        x_at = x.1;
-        f_at = f.1;
-        is = h.turned.within i p.0 x.0 y f.0 p.1 x.1 at f.1;
-        most = elim (cases_eq i place) [
-          | inl same ↦
-              let own = plan.own f.0 (subst (λ k. slice_get h.plans k ≡ Some f.0) same f.1) in
-              subst (λ (g : Factors). g.most ≤ bound) (sym own) (same_bounded before h.divided h.same bound bounded place p.0 p.1)
-          | inr other ↦ (plan.each i x.0 f.0 other x.1 f.1).within
-        ];
-      }
-
-  pub turned_bounded : AreBounded bound before → AreBounded bound after
-  turned_bounded bounded i y at =
-      let o = from bounded i y at in
-      let low = o.is.most in
-      let high = o.most in
-      omega arith
+  pub turned_bounded : AreBounded bound after
+  turned_bounded = h.room.bounded
 
 -- ---- what holds of every pivot
 
@@ -165,16 +117,13 @@ module _ (t : WholeTableau) (w : IsWhole t) (p : Pivot) (k : ℕ) (legal : IsLeg
         ∙ sym (turned_same d.numbers kept (p.enter + 1) k i c (plain_numbers is))
         ∙ sym (stays_numbers (plain_stays is) i c)
 
-    plain_bounded : AreBounded t.bound t.lines
-    plain_bounded = subst (λ o. HasRoom o t.lines t.bound) is w.are_whole.room
-
     plain_whole : AreWhole lines None (t.variables + 2) t.bound
     plain_whole =
         record {
           are_lines = turned_are t.bound (p.enter + 1) k k (length t.basic) t.lines lines w.paired k_in h (t.variables + 2) w.are_whole.are_lines;
           wide = w.are_whole.wide;
           small = w.are_whole.small;
-          room = turned_bounded t.bound (p.enter + 1) k k (length t.basic) t.lines lines w.paired k_in h plain_bounded;
+          room = turned_bounded t.bound (p.enter + 1) k k (length t.basic) t.lines lines w.paired k_in h;
         }
 
     -- neither the one that enters nor the others are variable 0
@@ -253,7 +202,7 @@ module _ (t : WholeTableau) (w : IsWhole t) (p : Pivot) (k : ℕ) (legal : IsLeg
             room = λ i y at.
                 let x = some_at mid i (let e = get_within lines i y at in let g = f.sized in omega arith) in
                 let low = (f.each i x.0 y x.1 at).most in
-                let high = turned_bounded t.bound (p.enter + 1) k k (length t.basic) t.lines mid w.paired k_in h off_bounded i x.0 x.1 in
+                let high = turned_bounded t.bound (p.enter + 1) k k (length t.basic) t.lines mid w.paired k_in h i x.0 x.1 in
                 omega arith;
           }
 
@@ -349,30 +298,16 @@ module _ (t : WholeTableau) (w : IsWhole t) (p : Pivot) (k : ℕ) (legal : IsLeg
           ∙ sym ((above d kept p.enter z off_above enters k apart other_stays pivot_there).numbers i c)
 
       -- the room after it
-      from_line : (i : ℕ) (y : Line) → slice_get mid i ≡ Some y → IsFrom t.bound (p.enter + 1) z k (length t.basic) t.lines mid w.paired z_in h i y
-      from_line i y at = from t.bound (p.enter + 1) z k (length t.basic) t.lines mid w.paired z_in h off_bounded i y at
-
       abbrev first : Line
       first = raised_there.0
 
-      first_from : IsFrom t.bound (p.enter + 1) z k (length t.basic) t.lines mid w.paired z_in h k first
-      first_from = from_line k first (sym s.first ∙ raised_there.1)
-
-      keeps : KeepsRoom k first_from.p first_from.x first_from.f h.divided h.plans t.bound
-      keeps = h.roomy.room first_from.p first_from.x first_from.f apart first_from.p_at first_from.x_at first_from.f_at
+      first_room : HasRoomFor k first mid t.bound
+      first_room = h.room.others first apart (sym s.first ∙ raised_there.1)
 
       -- a line of the others that came from the place i
       line_room : (i : ℕ) (l : Line) → i ≢ k → slice_get mid i ≡ Some l → l.most * nat_abs (whole_at (wholes lines_there.0) 1) + nat_abs (whole_at (wholes l) 1) * lines_there.0.most ≤ t.bound
       line_room i l not_k at =
-          let o = from_line i l at in
-          let p_is : o.p ≡ first_from.p = same_some o.p first_from.p (sym o.p_at ∙ first_from.p_at) in
-          let is : IsWithinFactors o.x first_from.p l o.f = subst (λ x. IsWithinFactors o.x x l o.f) p_is o.is in
-          let room = keeps i o.x o.f not_k o.x_at o.f_at in
-          let u : nat_abs (whole_at (wholes lines_there.0) 1) ≤ zero_after first_from.x first_from.p first_from.f = subst (λ m. m ≤ zero_after first_from.x first_from.p first_from.f) (sym (raised.magnitudes 1)) (first_from.is.magnitudes 1) in
-          let most : lines_there.0.most ≤ first_from.f.most = subst (λ m. m ≤ first_from.f.most) (sym raised.most) first_from.is.most in
-          let left : l.most * nat_abs (whole_at (wholes lines_there.0) 1) ≤ o.f.most * zero_after first_from.x first_from.p first_from.f = mul-le-mul is.most u in
-          let right : nat_abs (whole_at (wholes l) 1) * lines_there.0.most ≤ zero_after o.x first_from.p o.f * first_from.f.most = mul-le-mul (is.magnitudes 1) most in
-          omega arith
+          subst₂ (λ u m. l.most * u + nat_abs (whole_at (wholes l) 1) * m ≤ t.bound) (sym (raised.magnitudes 1)) (sym raised.most) (first_room.others i l not_k at)
 
       other_room : IsPutOff z lines t.bound
       other_room =
@@ -381,7 +316,7 @@ module _ (t : WholeTableau) (w : IsWhole t) (p : Pivot) (k : ℕ) (legal : IsLeg
             there = lines_there.1;
             above = raised.above;
             room = record {
-              own = let a = raised.most in let b = first_from.is.most in let c = first_from.most in omega arith;
+              own = subst (λ m. m ≤ t.bound) (sym raised.most) first_room.own;
               others = λ i l not_z at.
                   let in_swap : slice_get swap i ≡ Some l = sym (r.others i not_z) ∙ at in
                   elim (cases_eq i k) [

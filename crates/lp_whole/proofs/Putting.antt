@@ -10,7 +10,8 @@ use Rattle.lp_whole.specs.declared.line.Line.{Line}
 use Rattle.lp_numbers.specs.Lines.{whole_at}
 use Rattle.lp_whole.specs.Form.{wholes, IsLine, line_number, IsForgottenLine, IsRaisedLine, AreForgotten, IsRaisedAt, AreSwapped}
 use Rattle.lp_whole.proofs.Plans.{get_within, set_same, set_other, same_some}
-use Rattle.lp_whole.proofs.Updating.{ratio_none}
+use Rattle.lp_whole.specs.Marks.{IsClear}
+use Rattle.lp_whole.proofs.Updating.{ratio_none, same_le, marked_below}
 
 pub ratio_negated : (n : ℤ) (d : ℕ) → ratio (neg_ℤ n) d ≡ neg_ℚ (ratio n d)
 ratio_negated n d =
@@ -23,14 +24,15 @@ pub raised_plain : (line : Line) → IsLine line → pos 0 <ℤ whole_at (wholes
 raised_plain line is above =
     record { is_line = is; sized = refl; most = refl; above = above; magnitudes = λ c. refl; numbers = inl (λ c. refl) }
 
-pub raised_negated : (before after : Line) → IsLine before → length (wholes after) ≡ length (wholes before) → ((c : ℕ) → whole_at (wholes after) c ≡ neg_ℤ (whole_at (wholes before) c)) → after.denominator ≡ before.denominator → after.most ≡ before.most → whole_at (wholes before) 1 <ℤ pos 0 → IsRaisedLine before after
-raised_negated before after is sized numbers denominator most below =
+pub raised_negated : (before after : Line) → IsLine before → length (wholes after) ≡ length (wholes before) → ((c : ℕ) → whole_at (wholes after) c ≡ neg_ℤ (whole_at (wholes before) c)) → after.denominator ≡ before.denominator → after.most ≡ before.most → after.marks ≡ before.marks → whole_at (wholes before) 1 <ℤ pos 0 → IsRaisedLine before after
+raised_negated before after is sized numbers denominator most marks below =
     record {
       is_line = record {
         positive = subst (λ d. 0 < d) (sym denominator) is.positive;
         numbers_within = λ c. subst₂ (λ a b. a ≤ b) (sym (ap nat_abs (numbers c) ∙ magnitude_negated (whole_at (wholes before) c))) (sym most) (is.numbers_within c);
         denominator_within = subst₂ (λ a b. a ≤ b) (sym denominator) (sym most) is.denominator_within;
         small = subst (λ m. m < 2 ^ 127) (sym most) is.small;
+        marked = marked_below before after is marks (λ c. same_le (ap nat_abs (numbers c) ∙ magnitude_negated (whole_at (wholes before) c)));
       };
       sized = sized;
       most = most;
@@ -40,8 +42,8 @@ raised_negated before after is sized numbers denominator most below =
     }
 
 -- a line without its number of variable 0
-pub forgotten_line : (before after : Line) → IsLine before → 1 < length (wholes before) → wholes after ≡ set (wholes before) 1 (pos 0) → after.denominator ≡ before.denominator → after.most ≡ before.most → IsForgottenLine before after
-forgotten_line before after is within items denominator most =
+pub forgotten_line : (before after : Line) → IsLine before → 1 < length (wholes before) → wholes after ≡ set (wholes before) 1 (pos 0) → after.denominator ≡ before.denominator → after.most ≡ before.most → after.marks ≡ before.marks → IsForgottenLine before after
+forgotten_line before after is within items denominator most marks =
     let zero_is : whole_at (wholes after) 1 ≡ pos 0 = ap (λ l. whole_at l 1) items ∙ get_or-set_same (wholes before) 1 (pos 0) (pos 0) within in
     let other : (c : ℕ) → c ≢ 1 → whole_at (wholes after) c ≡ whole_at (wholes before) c = λ c apart. ap (λ l. whole_at l c) items ∙ get_or-set_other (wholes before) 1 c (pos 0) (pos 0) apart in
     record {
@@ -53,6 +55,10 @@ forgotten_line before after is within items denominator most =
         ];
         denominator_within = subst₂ (λ a b. a ≤ b) (sym denominator) (sym most) is.denominator_within;
         small = subst (λ m. m < 2 ^ 127) (sym most) is.small;
+        marked = λ c clear. elim (cases_eq c 1) [
+          | inl same ↦ ap (whole_at (wholes after)) same ∙ zero_is
+          | inr apart ↦ other c apart ∙ is.marked c (subst (λ m. IsClear m c) marks clear)
+        ];
       };
       sized = ap length items ∙ length-set (wholes before) 1 (pos 0);
       most = omega arith;

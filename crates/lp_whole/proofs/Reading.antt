@@ -12,7 +12,7 @@ use Rattle.gq_number.proofs.Order
 use Rattle.lp_whole.specs.declared.line.Line.{Line}
 use Rattle.lp_numbers.specs.Lines.{whole_at}
 use Rattle.lp_whole.specs.Form.{wholes, line_number, number_or_none, lines_number, numbers_above, IsLine, AreBounded}
-use Rattle.lp_whole.specs.Room.{HasRoom, AreWhole, denominator_or_one, zero_or_one, row_denominator}
+use Rattle.lp_whole.specs.Room.{HasRoom, AreWhole, denominator_or_one, zero_or_one, whole_or_zero, row_denominator, row_number}
 use Rattle.lp_whole.proofs.Turning.{turned_row, turned_other}
 use Rattle.lp_whole.proofs.Lessening.{divided_line, lessened}
 use Rattle.lp_numbers.proofs.Lines.{left_within}
@@ -115,6 +115,16 @@ module _ (lines : List Line) (k width bound : ℕ) (w : AreWhole lines (Some k) 
   other_shared i l other there =
       sym (ap (λ b. cond b (zero_or_one (slice_get lines k)) (zero_or_one (slice_get lines k) * denominator_or_one (slice_get lines i))) (ne_eqb i k other) ∙ ap₂ (λ s t. s * t) (ap zero_or_one w.room.there) (ap denominator_or_one there))
 
+  pub own_named : (c : ℕ) → whole_at (wholes p) c ≡ row_number (Some k) lines k c
+  own_named c =
+      sym (ap (λ b. cond b (whole_or_zero (slice_get lines k) c) (whole_or_zero (slice_get lines k) 1 *ℤ whole_or_zero (slice_get lines k) c -ℤ whole_or_zero (slice_get lines k) 1 *ℤ whole_or_zero (slice_get lines k) c)) (eq-eqb k k refl)
+      ∙ ap (λ o. whole_or_zero o c) w.room.there)
+
+  pub other_named : (i c : ℕ) (l : Line) → i ≢ k → slice_get lines i ≡ Some l → whole_at (wholes p) 1 *ℤ whole_at (wholes l) c -ℤ whole_at (wholes l) 1 *ℤ whole_at (wholes p) c ≡ row_number (Some k) lines i c
+  other_named i c l other there =
+      sym (ap (λ b. cond b (whole_or_zero (slice_get lines k) c) (whole_or_zero (slice_get lines k) 1 *ℤ whole_or_zero (slice_get lines i) c -ℤ whole_or_zero (slice_get lines i) 1 *ℤ whole_or_zero (slice_get lines k) c)) (ne_eqb i k other)
+      ∙ ap₂ (λ s t. whole_or_zero s 1 *ℤ whole_or_zero t c -ℤ whole_or_zero t 1 *ℤ whole_or_zero s c) w.room.there there)
+
   pub own_within : (b c : ℕ) → HasRoom (Some k) lines b → (nat_abs (whole_at (wholes p) c) ≤ b) × (v ≤ b)
   own_within b c h =
       let same : h.pivot ≡ p = same_some h.pivot p (sym h.there ∙ w.room.there) in
@@ -154,6 +164,7 @@ module _ (lines : List Line) (k width bound : ℕ) (w : AreWhole lines (Some k) 
 pub record IsRead (lines : List Line) (deferred : Option ℕ) (place column : ℕ) (n : ℤ) (d : ℕ) : Type 0 where
   pub positive : 0 < d
   pub number : ratio n d ≡ numbers_above deferred (lines_number lines) place column
+  pub named : n ≡ row_number deferred lines place column
   pub shared : d ≡ row_denominator deferred lines place
   pub within : (bound : ℕ) → HasRoom deferred lines bound → (nat_abs n ≤ bound) × (d ≤ bound)
 
@@ -178,13 +189,14 @@ module _ (lines : List Line) (deferred : Option ℕ) (k width bound : ℕ) (is :
 
   read_own_is : (c : ℕ) → IsRead lines (Some k) k c (whole_at (wholes wk.room.pivot) c) (nat_abs (whole_at (wholes wk.room.pivot) 1))
   read_own_is c =
-      record { positive = some_v lines k width bound wk; number = own_number_is lines k width bound wk c; shared = own_shared lines k width bound wk; within = λ b h. own_within lines k width bound wk b c h }
+      record { positive = some_v lines k width bound wk; number = own_number_is lines k width bound wk c; named = own_named lines k width bound wk c; shared = own_shared lines k width bound wk; within = λ b h. own_within lines k width bound wk b c h }
 
   read_other_is : (i c : ℕ) (l : Line) → i ≢ k → slice_get lines i ≡ Some l → IsRead lines (Some k) i c (whole_at (wholes wk.room.pivot) 1 *ℤ whole_at (wholes l) c -ℤ whole_at (wholes l) 1 *ℤ whole_at (wholes wk.room.pivot) c) (nat_abs (whole_at (wholes wk.room.pivot) 1) * l.denominator)
   read_other_is i c l other there =
       record {
         positive = mul-pos (some_v lines k width bound wk) (wk.are_lines i l there).0.positive;
         number = other_number_is lines k width bound wk i c l other there;
+        named = other_named lines k width bound wk i c l other there;
         shared = other_shared lines k width bound wk i l other there;
         within = λ b h. other_within lines k width bound wk b i c l h other there;
       }
@@ -228,6 +240,7 @@ read_at_plain lines deferred width bound place c l n d is w there n_is d_is =
     (record {
       positive = subst (λ t. 0 < t) (sym d_is) of_line.positive;
       number = ap₂ ratio n_is d_is ∙ sym (at_line lines place l there c);
+      named = n_is ∙ sym (ap (λ o. whole_or_zero o c) there);
       shared = d_is ∙ sym (ap denominator_or_one there);
       within = λ b h.
           let most = h place l there in

@@ -1,10 +1,10 @@
 -- The factors of an exchange, and what a line becomes in it.
-use Rattle.std.proofs.Common.{◌≡◌, ℕ, zero, suc, ◌*◌, ◌/◌, ◌<◌, ◌≤◌, ◌^◌, inl, inr, ℤ, pos, negsuc, ◌-ℤ◌, ◌*ℤ◌, neg_ℤ, ◌<ℤ◌, nat_abs, int_div, length, FitsSigned, to_z, of_z, sym, refl, ap, ap₂, ◌∙◌, subst, arith, mul-pos, mul_comm, mul-one, ◌+◌}
+use Rattle.std.proofs.Common.{◌≡◌, ◌⊎◌, ℕ, zero, suc, ◌*◌, ◌/◌, ◌<◌, ◌≤◌, ◌^◌, inl, inr, ℤ, pos, negsuc, ◌-ℤ◌, ◌*ℤ◌, neg_ℤ, ◌<ℤ◌, nat_abs, int_div, length, FitsSigned, to_z, of_z, sym, refl, ap, ap₂, ◌∙◌, subst, arith, mul-pos, mul_comm, mul-one, ◌+◌}
 use Rattle.std.specs.Int.{◌∣◌, w128}
 use Rattle.std.proofs.lemmas.Int.{ints, to_z-of_z, to_z_pos, quot_fits}
 use Rattle.std.proofs.lemmas.Nat.Gcd.{le_of_dvd}
 use Rattle.std.proofs.lemmas.Bool.{cases_lt}
-use Rattle.std.proofs.Math.Nat.{div-mul_cancel, dvd-mul_right, pos_of_dvd_of_pos, le-div_iff_mul-le, div-le_self, mul-le-mul_left, mul-le-mul_right}
+use Rattle.std.proofs.Math.Nat.{div-mul_cancel, dvd-mul_right, pos_of_dvd_of_pos, le-div_iff_mul-le, div-le_self, mul-le-mul_left, mul-le-mul_right, mul-dvd-mul_right, dvd_of_mul-dvd-mul_right, eq-one_of_dvd-one, one-mul}
 use Rattle.gq_number.specs.Gcd.{gcd}
 use Rattle.gq_number.specs.Number.{Number, whole, ratio, ◌-ℚ◌, ◌*ℚ◌, ◌/ℚ◌}
 use Rattle.gq_number.proofs.Gcd.{gcd_pos, gcd-dvd_left, gcd-dvd_right, gcd_comm, gcd-zero}
@@ -14,8 +14,9 @@ use Rattle.gq_number.proofs.Quotients.{zero-/ℚ}
 use Rattle.gq_number.proofs.Ring.{ring_ℚ}
 use Rattle.lp_whole.specs.declared.line.Line.{Line}
 use Rattle.lp_whole.specs.declared.line.Factors.{Factors}
-use Rattle.lp_numbers.specs.Lines.{whole_at, AreWithin}
-use Rattle.lp_whole.specs.Form.{wholes, line_number, IsLine, AreFactors, IsPlanned, IsWithinFactors, IsLessenedLine, IsSameLine, IsDividedLine, own_factors}
+use Rattle.lp_numbers.specs.Lines.{whole_at, AreWithin, AreDivided}
+use Rattle.lp_whole.specs.Marks.{IsClear, AreMarked}
+use Rattle.lp_whole.specs.Form.{wholes, line_number, IsLine, AreFactors, IsPlanned, IsWithinFactors, IsLessenedLine, IsSameLine, IsDividedLine, IsReduced, IsLowest, own_factors}
 use Rattle.lp_numbers.proofs.Lines.{whole_past}
 use Rattle.lp_numbers.proofs.Places.{one_time, one_times, times_none, less_none}
 use Rattle.lp_whole.proofs.Lessening.{lessened, divided_line}
@@ -84,9 +85,18 @@ pub record IsUpdated (before pivot after : Line) (a b : ℤ) : Type 0 where
   pub denominator_within : after.denominator ≤ after.most
   pub most : after.most ≤ nat_abs a * before.most + nat_abs b * pivot.most
   pub small : after.most < 2 ^ 127
+  pub marks : (c : ℕ) → IsClear after.marks c → IsClear before.marks c × IsClear pivot.marks c
 
-same_le : {x y : ℕ} → x ≡ y → x ≤ y
+pub same_le : {x y : ℕ} → x ≡ y → x ≤ y
 same_le is = omega arith
+
+none_below : (x y : ℤ) → nat_abs x ≤ nat_abs y → y ≡ pos 0 → x ≡ pos 0
+none_below x y low none = omega (arith, ints)
+
+-- the marks of a line serve for numbers of no greater magnitude
+pub marked_below : (before after : Line) → IsLine before → after.marks ≡ before.marks → ((c : ℕ) → nat_abs (whole_at (wholes after) c) ≤ nat_abs (whole_at (wholes before) c)) → AreMarked (wholes after) after.marks
+marked_below before after is marks low c clear =
+    none_below (whole_at (wholes after) c) (whole_at (wholes before) c) (low c) (is.marked c (subst (λ m. IsClear m c) marks clear))
 
 le_times : (n g : ℕ) → 0 < g → n ≤ n * g
 le_times n g some =
@@ -135,7 +145,13 @@ module _ (before pivot after : Line) (column : ℕ) (a b : ℤ) (f : Factors) (o
   pub lessened_line : IsLessenedLine column before pivot after f
   lessened_line =
       record {
-        is_line = record { positive = positive_after; numbers_within = u.numbers_within; denominator_within = u.denominator_within; small = u.small };
+        is_line = record {
+          positive = positive_after;
+          numbers_within = u.numbers_within;
+          denominator_within = u.denominator_within;
+          small = u.small;
+          marked = λ c clear. every_number c ∙ sym (none_left a b ∙ sym (ap₂ (λ x y. a *ℤ x -ℤ b *ℤ y) (of_before.marked c (u.marks c clear).0) (of_pivot.marked c (u.marks c clear).1)));
+        };
         sized = u.sized;
         numbers = numbers_after;
         within = within_factors;
@@ -241,30 +257,75 @@ same_then before mid after s t =
 
 -- ---- a line divided by what its parts share
 
-pub same_line : (before after : Line) (g : ℕ) → IsLine before → 0 < g → g ∣ before.denominator → length (wholes after) ≡ length (wholes before) → ((c : ℕ) → whole_at (wholes after) c *ℤ pos g ≡ whole_at (wholes before) c) → after.denominator ≡ before.denominator / g → after.most ≡ before.most / g → IsSameLine before after
-same_line before after g of_before positive divides sized numbers denominator_is most_is =
+pub same_line : (before after : Line) (g : ℕ) → IsLine before → 0 < g → g ∣ before.denominator → length (wholes after) ≡ length (wholes before) → ((c : ℕ) → whole_at (wholes after) c *ℤ pos g ≡ whole_at (wholes before) c) → after.denominator ≡ before.denominator / g → after.most ≡ before.most / g → after.marks ≡ before.marks → IsSameLine before after
+same_line before after g of_before positive divides sized numbers denominator_is most_is marks_is =
     let times : after.denominator * g ≡ before.denominator = ap (λ d. d * g) denominator_is ∙ div-mul_cancel g divides in
     let above : 0 < after.denominator = pos_of_dvd_of_pos (subst (λ d. after.denominator ∣ d) times (dvd-mul_right after.denominator g)) of_before.positive in
+    let low : (c : ℕ) → nat_abs (whole_at (wholes after) c) ≤ nat_abs (whole_at (wholes before) c) =
+    λ c.
+    let grown = le_times (nat_abs (whole_at (wholes after) c)) g positive in
+    let is : nat_abs (whole_at (wholes after) c) * g ≡ nat_abs (whole_at (wholes before) c) = sym (nat_abs-*ℤ (whole_at (wholes after) c) (pos g)) ∙ ap nat_abs (numbers c) in
+    omega arith in
     record {
       is_line = record {
         positive = above;
         numbers_within = λ c. subst (λ m. nat_abs (whole_at (wholes after) c) ≤ m) (sym most_is) ((le-div_iff_mul-le positive).1 (subst (λ m. m ≤ before.most) (ap nat_abs (sym (numbers c)) ∙ nat_abs-*ℤ (whole_at (wholes after) c) (pos g)) (of_before.numbers_within c)));
         denominator_within = subst (λ m. after.denominator ≤ m) (sym most_is) ((le-div_iff_mul-le positive).1 (subst (λ m. m ≤ before.most) (sym times) of_before.denominator_within));
         small = let less = div-le_self before.most g in let most = of_before.small in omega arith;
+        marked = marked_below before after of_before marks_is low;
       };
       sized = sized;
       numbers = λ c. sym (ratio-times (whole_at (wholes after) c) after.denominator g above positive) ∙ ap₂ ratio (numbers c) times;
       most = subst (λ m. m ≤ before.most) (sym most_is) (div-le_self before.most g);
-      magnitudes = λ c.
-          let grown = le_times (nat_abs (whole_at (wholes after) c)) g positive in
-          let is : nat_abs (whole_at (wholes after) c) * g ≡ nat_abs (whole_at (wholes before) c) = sym (nat_abs-*ℤ (whole_at (wholes after) c) (pos g)) ∙ ap nat_abs (numbers c) in
-          omega arith;
+      magnitudes = low;
     }
+
+-- over the greatest divisor of all its parts it has no other
+pub divided_reduced : (before after : Line) (g : ℕ) → 0 < g → g ∣ before.denominator → ((k : ℕ) → k ∣ before.denominator → AreDivided (wholes before) k → k ∣ g) → ((c : ℕ) → whole_at (wholes after) c *ℤ pos g ≡ whole_at (wholes before) c) → after.denominator ≡ before.denominator / g → IsReduced after
+divided_reduced before after g positive divides greatest numbers denominator_is d of_denominator of_all =
+    let times : after.denominator * g ≡ before.denominator = ap (λ m. m * g) denominator_is ∙ div-mul_cancel g divides in
+    let all : d * g ∣ g =
+    greatest (d * g) (subst (λ m. d * g ∣ m) times (mul-dvd-mul_right d of_denominator g))
+    (λ c. subst (λ m. d * g ∣ m) (sym (nat_abs-*ℤ (whole_at (wholes after) c) (pos g)) ∙ ap nat_abs (numbers c)) (mul-dvd-mul_right d (of_all c) g)) in
+    eq-one_of_dvd-one (dvd_of_mul-dvd-mul_right d positive (subst (λ m. d * g ∣ m) (sym (one-mul g)) all))
+
+-- measured anew it is the same, and where nothing divides it in lowest terms
+module _ (before line : Line) (same : IsSameLine before line) (greatest most : ℕ) (within : AreWithin (wholes line) greatest) (least : (m : ℕ) → AreWithin (wholes line) m → greatest ≤ m) (above : greatest ≤ most) (also : line.denominator ≤ most) (one : (most ≡ greatest) ⊎ (most ≡ line.denominator)) where
+  abbrev measured : Line
+  measured = record { numbers = line.numbers; denominator = line.denominator; most = most; marks = line.marks }
+
+  no_more : (m : ℕ) → AreWithin (wholes line) m → line.denominator ≤ m → most ≤ m
+  no_more m numbers denominator = elim one [
+    | inl is ↦ subst (λ n. n ≤ m) (sym is) (least m numbers)
+    | inr is ↦ subst (λ n. n ≤ m) (sym is) denominator
+  ]
+
+  kept_most : most ≤ line.most
+  kept_most = no_more line.most same.is_line.numbers_within same.is_line.denominator_within
+
+  pub measured_same : IsSameLine before measured
+  measured_same =
+      record {
+        is_line = record {
+          positive = same.is_line.positive;
+          numbers_within = λ c. let low = within c in omega arith;
+          denominator_within = also;
+          small = let low = kept_most in let high = same.is_line.small in omega arith;
+          marked = same.is_line.marked;
+        };
+        sized = same.sized;
+        numbers = same.numbers;
+        most = let low = kept_most in let high = same.most in omega arith;
+        magnitudes = same.magnitudes;
+      }
+
+  pub measured_lowest : IsReduced line → IsLowest measured
+  measured_lowest reduced = record { reduced = reduced; least = no_more }
 
 -- ---- the pivot line
 
-pub divided_by_pivot : (before after : Line) (column : ℕ) → IsLine before → pos 0 <ℤ whole_at (wholes before) column → wholes after ≡ wholes before → after.denominator ≡ nat_abs (whole_at (wholes before) column) → after.most ≡ before.most → IsDividedLine column before after
-divided_by_pivot before after column of_before above same denominator_is most_is =
+pub divided_by_pivot : (before after : Line) (column : ℕ) → IsLine before → pos 0 <ℤ whole_at (wholes before) column → wholes after ≡ wholes before → after.denominator ≡ nat_abs (whole_at (wholes before) column) → after.most ≡ before.most → after.marks ≡ before.marks → IsDividedLine column before after
+divided_by_pivot before after column of_before above same denominator_is most_is marks_is =
     let p : ℤ = whole_at (wholes before) column in
     let p_is : p ≡ pos (nat_abs p) = omega (arith, ints) in
     let some : 0 < nat_abs p = omega (arith, ints) in
@@ -274,6 +335,7 @@ divided_by_pivot before after column of_before above same denominator_is most_is
         numbers_within = λ c. subst (λ m. nat_abs (whole_at (wholes after) c) ≤ m) (sym most_is) (subst (λ l. nat_abs (whole_at l c) ≤ before.most) (sym same) (of_before.numbers_within c));
         denominator_within = subst (λ m. after.denominator ≤ m) (sym most_is) (subst (λ d. d ≤ before.most) (sym denominator_is) (of_before.numbers_within column));
         small = subst (λ m. m < 2 ^ 127) (sym most_is) of_before.small;
+        marked = marked_below before after of_before marks_is (λ c. same_le (ap (λ l. nat_abs (whole_at l c)) same));
       };
       sized = ap length same;
       numbers = λ c.

@@ -1,11 +1,13 @@
 -- A dictionary as lines of whole numbers, with variable 0 put off.
 use Rattle.std.specs.Prelude.{◌≡◌, ◌≢◌, ℕ, ◌+◌, ◌*◌, ◌<◌, ◌≤◌, ◌^◌, ◌==◌, ◌⊎◌, if◌then◌else◌, ℤ, pos, ◌-ℤ◌, ◌*ℤ◌, ◌<ℤ◌, nat_abs, List, length, slice_get, Option, Some, None}
+use Rattle.std.specs.Int.{◌∣◌}
 use Rattle.gq_number.specs.Number.{Number, whole, ratio, ◌-ℚ◌, ◌*ℚ◌, ◌/ℚ◌, neg_ℚ}
 use Rattle.gq_number.specs.Gcd.{gcd}
 use Rattle.lp_whole.specs.declared.line.Line.{Line}
 use Rattle.lp_whole.specs.declared.line.Factors.{Factors}
-use Rattle.lp_numbers.specs.Lines.{whole_at, AreWithin}
+use Rattle.lp_numbers.specs.Lines.{whole_at, AreWithin, AreDivided}
 use Rattle.lp_whole.specs.Turning.{turned_at}
+use Rattle.lp_whole.specs.Marks.{AreMarked}
 
 -- the whole numbers of a line
 abbrev pub wholes : Line → List ℤ
@@ -15,12 +17,14 @@ wholes l = l.numbers
 abbrev pub line_number : Line → ℕ → Number
 line_number l c = ratio (whole_at (wholes l) c) l.denominator
 
--- What each line keeps: all its parts have at most 127 bits, and none passes its greatest magnitude.
+-- What each line keeps: all its parts have at most 127 bits, none passes its greatest magnitude, and each number other than 0 has a
+-- mark.
 pub record IsLine (l : Line) : Type 0 where
   pub positive : 0 < l.denominator
   pub numbers_within : AreWithin (wholes l) l.most
   pub denominator_within : l.denominator ≤ l.most
   pub small : l.most < 2 ^ 127
+  pub marked : AreMarked (wholes l) l.marks
 
 -- a and b are p and f without their greatest common divisor, and a is above 0.
 pub record AreFactors (f p a b : ℤ) : Type 0 where
@@ -56,6 +60,15 @@ pub record IsSameLine (before after : Line) : Type 0 where
   pub numbers : (c : ℕ) → line_number after c ≡ line_number before c
   pub most : after.most ≤ before.most
   pub magnitudes : (c : ℕ) → nat_abs (whole_at (wholes after) c) ≤ nat_abs (whole_at (wholes before) c)
+
+-- nothing but 1 divides all parts of a line
+abbrev pub IsReduced : Line → Type 0
+IsReduced l = (d : ℕ) → d ∣ l.denominator → AreDivided (wholes l) d → d ≡ 1
+
+-- A line is in lowest terms: nothing but 1 divides all its parts, and its greatest magnitude is that of some part.
+pub record IsLowest (l : Line) : Type 0 where
+  pub reduced : IsReduced l
+  pub least : (m : ℕ) → AreWithin (wholes l) m → l.denominator ≤ m → l.most ≤ m
 
 -- A line is another less the multiple of the pivot line that takes its number at the column, and within its factors.
 pub record IsLessenedLine (column : ℕ) (before pivot after : Line) (f : Factors) : Type 0 where
@@ -100,6 +113,10 @@ AreBounded bound lines = (i : ℕ) (l : Line) → slice_get lines i ≡ Some l �
 pub record AreSameLines (before after : List Line) : Type 0 where
   pub sized : length after ≡ length before
   pub each : (i : ℕ) (x y : Line) → slice_get before i ≡ Some x → slice_get after i ≡ Some y → IsSameLine x y
+
+-- each of these lines is in lowest terms
+abbrev pub AreLowest : List Line → Type 0
+AreLowest lines = (i : ℕ) (l : Line) → slice_get lines i ≡ Some l → IsLowest l
 
 -- Each line has lost its number of variable 0.
 pub record AreForgotten (before after : List Line) : Type 0 where

@@ -1,4 +1,5 @@
 pub mod Turning
+pub mod Marks
 pub mod Bounds
 pub mod Form
 pub mod Room

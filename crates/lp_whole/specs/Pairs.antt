@@ -1,5 +1,6 @@
 -- A bound for each two rows, by which every step of an exchange fits (Edmonds, and Bareiss, on integer pivoting).
 use Rattle.std.specs.Prelude.{◌≡◌, ◌≢◌, ℕ, ◌+◌, ◌*◌, ◌<◌, ◌≤◌, ℤ, pos, ◌*ℤ◌, ◌<ℤ◌, nat_abs, List, length, Option, Some, None}
+use Rattle.std.specs.Int.{◌∣◌}
 use Rattle.gq_number.specs.Number.{ratio}
 use Rattle.lp_whole.specs.declared.line.Line.{Line}
 use Rattle.lp_whole.specs.declared.pairs.Measure.{Measure}
@@ -30,7 +31,7 @@ pub record HasNoPairRoom (f p : ℤ) (most other limit : ℕ) : Type 0 where
   pub plain : limit < nat_abs p * most + nat_abs f * other
   pub reduced : pos 0 <ℤ p → HasNoReducedRoom f p most other limit
 
--- The measure of a row: its whole number at a column, and its greatest magnitude.
+-- The measure of a row as its lines are: its whole number at a column, and a magnitude that none of its parts passes.
 pub record IsMeasured (lines : List Line) (deferred : Option ℕ) (place column : ℕ) (m : Measure) : Type 0 where
   pub number : ratio m.number (row_denominator deferred lines place) ≡ numbers_above deferred (lines_number lines) place column
   pub most : m.most ≡ row_most deferred lines place
@@ -46,25 +47,43 @@ pub record IsRoomy (lines : List Line) (deferred : Option ℕ) (bound : ℕ) : T
   pub rows : (i : ℕ) → i < length lines → row_most deferred lines i ≤ top
   pub square : top * top + top * top ≤ bound
 
+-- A row is whole numbers over one denominator, and no magnitude of them passes another; at a column there is this one.
+pub record IsRowOver (lines : List Line) (deferred : Option ℕ) (place column : ℕ) (number : ℤ) (denominator most : ℕ) : Type 0 where
+  pub positive : 0 < denominator
+  pub low : denominator ≤ most
+  pub number_is : ratio number denominator ≡ numbers_above deferred (lines_number lines) place column
+  pub each : (c : ℕ) → (n : ℤ) × (ratio n denominator ≡ numbers_above deferred (lines_number lines) place c) × (nat_abs n ≤ most)
+
+-- A row is in lowest terms: nothing but 1 divides all its parts, and its magnitude is no greater than that of some part.
+pub record IsLowestRow (lines : List Line) (deferred : Option ℕ) (place column : ℕ) (m : Measure) : Type 0 where
+  pub denominator : ℕ
+  pub row : IsRowOver lines deferred place column m.number denominator m.most
+  pub reduced : (d : ℕ) → d ∣ denominator → ((c : ℕ) (n : ℤ) → ratio n denominator ≡ numbers_above deferred (lines_number lines) place c → d ∣ nat_abs n) → d ≡ 1
+  pub least : (b : ℕ) → denominator ≤ b → ((c : ℕ) (n : ℤ) → ratio n denominator ≡ numbers_above deferred (lines_number lines) place c → nat_abs n ≤ b) → m.most ≤ b
+
 -- The row i, and that of the variable that leaves, have room together.
 pub record IsPairFit (lines : List Line) (deferred : Option ℕ) (leaving column bound i : ℕ) : Type 0 where
   pub number : ℤ
   pub of_leaving : ℤ
-  pub number_is : ratio number (row_denominator deferred lines i) ≡ numbers_above deferred (lines_number lines) i column
-  pub leaving_is : ratio of_leaving (row_denominator deferred lines leaving) ≡ numbers_above deferred (lines_number lines) leaving column
-  pub room : HasPairRoom number of_leaving (row_most deferred lines i) (row_most deferred lines leaving) bound
+  pub denominator : ℕ
+  pub denominator_leaving : ℕ
+  pub most : ℕ
+  pub most_leaving : ℕ
+  pub row : IsRowOver lines deferred i column number denominator most
+  pub row_leaving : IsRowOver lines deferred leaving column of_leaving denominator_leaving most_leaving
+  pub room : HasPairRoom number of_leaving most most_leaving bound
 
 -- each other row of the first n has room together with that of the variable that leaves
 abbrev pub ArePairsFit : List Line → Option ℕ → ℕ → ℕ → ℕ → ℕ → Type 0
 ArePairsFit lines deferred leaving column bound n = (i : ℕ) → i < n → i ≢ leaving → IsPairFit lines deferred leaving column bound i
 
--- Some row and that of the variable that leaves have no room together.
+-- Some row and that of the variable that leaves have no room together, each in lowest terms.
 pub record IsSomePairCrowded (lines : List Line) (deferred : Option ℕ) (leaving column bound : ℕ) : Type 0 where
   pub at : ℕ
   pub within : at < length lines
   pub other : at ≢ leaving
-  pub number : ℤ
-  pub of_leaving : ℤ
-  pub number_is : ratio number (row_denominator deferred lines at) ≡ numbers_above deferred (lines_number lines) at column
-  pub leaving_is : ratio of_leaving (row_denominator deferred lines leaving) ≡ numbers_above deferred (lines_number lines) leaving column
-  pub no_room : HasNoPairRoom number of_leaving (row_most deferred lines at) (row_most deferred lines leaving) bound
+  pub row : Measure
+  pub row_leaving : Measure
+  pub row_is : IsLowestRow lines deferred at column row
+  pub leaving_is : IsLowestRow lines deferred leaving column row_leaving
+  pub no_room : HasNoPairRoom row.number row_leaving.number row.most row_leaving.most bound

@@ -1,9 +1,10 @@
 -- Lines with variable 0 put off or not, and the room below a bound of what they stand for.
-use Rattle.std.specs.Prelude.{◌≡◌, ◌≢◌, ℕ, ◌+◌, ◌*◌, ◌<◌, ◌≤◌, ◌^◌, ◌==◌, ◌⊎◌, pos, ◌-ℤ◌, ◌*ℤ◌, ◌<ℤ◌, nat_abs, List, slice_get, Option, Some, None, if◌then◌else◌}
+use Rattle.std.specs.Prelude.{◌≡◌, ◌≢◌, ℕ, ◌+◌, ◌*◌, ◌<◌, ◌≤◌, ◌^◌, ◌-◌, ◌==◌, ◌⊎◌, ℤ, pos, ◌-ℤ◌, ◌*ℤ◌, ◌<ℤ◌, nat_abs, List, length, slice_get, Option, Some, None, if◌then◌else◌}
 use Rattle.lp_whole.specs.declared.line.Line.{Line}
 use Rattle.lp_whole.specs.declared.line.Factors.{Factors}
 use Rattle.lp_numbers.specs.Lines.{whole_at}
-use Rattle.lp_whole.specs.Form.{wholes, AreLines, AreBounded, AreSameLines, AreTurned, IsPlan, IsSomeCrowded}
+use Rattle.lp_whole.specs.Form.{wholes, lines_number, AreLines, AreBounded, AreLowest, IsPlan, IsSomeCrowded}
+use Rattle.lp_whole.specs.Turning.{turned_at}
 
 -- Where the line p is that of the row k which variable 0 is to enter, there is room for what that exchange makes of each line.
 pub record HasRoomFor (k : ℕ) (p : Line) (lines : List Line) (bound : ℕ) : Type 0 where
@@ -68,9 +69,9 @@ pub record HasNoRoomAfter (bound column place leaving : ℕ) (lines : List Line)
   pub planned : IsPlan bound column place lines pivot plans
   pub crowded : ¬ (KeepsRoom leaving pivot line factors lines plans bound)
 
--- there is no room for an exchange of lines at a place and a column: in some line, or afterwards
-abbrev pub LinesHaveNoRoom : ℕ → ℕ → ℕ → ℕ → List Line → Type 0
-LinesHaveNoRoom bound column place leaving lines =
+-- by the factors of an exchange at a place and a column there is no room for it: in some line, or afterwards
+abbrev pub FactorsHaveNoRoom : ℕ → ℕ → ℕ → ℕ → List Line → Type 0
+FactorsHaveNoRoom bound column place leaving lines =
     ((pivot : Line) × (slice_get lines place ≡ Some pivot) × IsSomeCrowded bound column place lines pivot) ⊎ HasNoRoomAfter bound column place leaving lines
 
 -- The factors of an exchange at a place and a column, with room after it where a variable of another row leaves.
@@ -78,14 +79,36 @@ pub record IsRoomyPlan (bound column place leaving : ℕ) (lines : List Line) (p
   pub planned : (p : Line) → slice_get lines place ≡ Some p → IsPlan bound column place lines p plans
   pub room : (p l : Line) (g : Factors) → leaving ≢ place → slice_get lines place ≡ Some p → slice_get lines leaving ≡ Some l → slice_get plans leaving ≡ Some g → KeepsRoom leaving p l g lines plans bound
 
--- Lines are others after the exchange at a place and a column, perhaps after a division of each, with room where a variable of
--- another row leaves.
+-- Lines have room after an exchange at a place: no part of them passes a bound, and where a variable of another row leaves there
+-- is room for the exchange of variable 0 into its row.
+pub record HaveRoomAfter (bound place leaving : ℕ) (lines : List Line) : Type 0 where
+  pub bounded : AreBounded bound lines
+  pub others : (p : Line) → leaving ≢ place → slice_get lines leaving ≡ Some p → HasRoomFor leaving p lines bound
+
+-- Lines are others after the exchange at a place and a column, and have room.
 pub record AreTurnedInRoom (bound column place leaving : ℕ) (before after : List Line) : Type 0 where
-  pub divided : List Line
-  pub plans : List Factors
-  pub same : AreSameLines before divided
-  pub roomy : IsRoomyPlan bound column place leaving divided plans
-  pub turned : AreTurned column place plans divided after
+  pub sized : length after ≡ length before
+  pub are_lines : (width : ℕ) → AreLines width before → AreLines width after
+  pub numbers : (i c : ℕ) → i < length before → lines_number after i c ≡ turned_at (lines_number before) column place i c
+  pub room : HaveRoomAfter bound place leaving after
+
+-- Lines stand for what an exchange at a place and a column makes of others, in lowest terms.
+pub record AreMade (column place : ℕ) (before made : List Line) : Type 0 where
+  pub sized : length made ≡ length before
+  pub numbers : (i c : ℕ) → i < length before → lines_number made i c ≡ turned_at (lines_number before) column place i c
+  pub lowest : AreLowest made
+
+-- there is no room for the lines that an exchange makes: on the way to them some part might have more than 127 bits, or in lowest
+-- terms they have none
+abbrev pub HaveNoRoomMade : ℕ → ℕ → ℕ → ℕ → List Line → Type 0
+HaveNoRoomMade bound column place leaving lines =
+    ((pivot : Line) × (slice_get lines place ≡ Some pivot) × IsSomeCrowded (2 ^ 127 - 1) column place lines pivot)
+    ⊎ ((made : List Line) × AreMade column place lines made × ¬ (HaveRoomAfter bound place leaving made))
+
+-- There is no room for an exchange of lines at a place and a column: not by their factors, and not for the lines that it makes.
+pub record LinesHaveNoRoom (bound column place leaving : ℕ) (lines : List Line) : Type 0 where
+  pub factors : FactorsHaveNoRoom bound column place leaving lines
+  pub made : HaveNoRoomMade bound column place leaving lines
 
 -- the greatest magnitude of a line; 1 where there is none
 abbrev pub most_or_one : Option Line → ℕ
@@ -114,3 +137,16 @@ row_most (Some k) lines i =
     if i == k then
     most_or_one (slice_get lines k) else
     most_or_one (slice_get lines i) * zero_or_one (slice_get lines k) + zero_or_one (slice_get lines i) * most_or_one (slice_get lines k)
+
+-- the whole number of a line at a column; 0 where there is no line
+abbrev pub whole_or_zero : Option Line → ℕ → ℤ
+whole_or_zero None c = pos 0
+whole_or_zero (Some l) c = whole_at (wholes l) c
+
+-- the whole number of a row of what lines stand for, over the row's denominator
+abbrev pub row_number : Option ℕ → List Line → ℕ → ℕ → ℤ
+row_number None lines i c = whole_or_zero (slice_get lines i) c
+row_number (Some k) lines i c =
+    if i == k then
+    whole_or_zero (slice_get lines k) c else
+    whole_or_zero (slice_get lines k) 1 *ℤ whole_or_zero (slice_get lines i) c -ℤ whole_or_zero (slice_get lines i) 1 *ℤ whole_or_zero (slice_get lines k) c

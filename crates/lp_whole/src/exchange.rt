@@ -5,6 +5,7 @@ ghost use Rattle.lp_numbers.specs.Lines.{whole_at, ArePlaces};
 ghost use Rattle.lp_whole.specs.Form.{wholes, IsLine, AreLines, AreLinesBut, AreBounded, AreSameLines, IsDividedLine, ArePlanned, AreExchanged, AreTurned, IsPlan, IsSomeCrowded};
 
 use crate::line::{Factors, Line, apply, divide_pivot, plan, reduce};
+use crate::marks::Marks;
 use lp_numbers::Numbers;
 use std::alloc::{AllocError, Global};
 use std::mem;
@@ -94,6 +95,7 @@ pub(crate) fn no_line(alloc: Global) -> Line {
         numbers: Numbers::empty(alloc),
         denominator: 1,
         most: 1,
+        marks: Marks::everywhere(),
     }
 }
 

@@ -1,11 +1,13 @@
 //! Floor 4, linear programs. A dictionary as lines of whole numbers, each over one denominator, with variable 0 put off.
 #![tactic(auto)]
 
+mod apart;
 mod choice;
 mod coefficients;
 mod exchange;
 mod laws;
 mod line;
+mod marks;
 mod pairs;
 mod parts;
 mod put_off;

@@ -1,17 +1,20 @@
 //! A line of a dictionary: whole numbers, one for each column, over one denominator.
 ghost use Rattle.std.specs.Prelude.{◌≡◌, ◌⊎◌, ℕ, ◌+◌, ◌*◌, ◌<◌, ◌≤◌, ◌^◌, ◌-◌, pos, ◌<ℤ◌, nat_abs, length, true, false, IfOk, MatchOption};
 ghost use Rattle.lp_numbers.specs.Lines.{whole_at, AreWithin, ArePlaces};
-ghost use Rattle.lp_whole.specs.Form.{wholes, IsLine, AreFactors, IsPlanned, IsCrowded, IsLessenedLine, IsDividedLine, IsSameLine, own_factors};
+ghost use Rattle.lp_whole.specs.Marks.{AreMarked};
+ghost use Rattle.lp_whole.specs.Form.{wholes, IsLine, AreFactors, IsPlanned, IsCrowded, IsLessenedLine, IsDividedLine, IsSameLine, IsReduced, IsLowest, own_factors};
 
+use crate::marks::Marks;
 use lp_numbers::{Numbers, gcd, greatest, sum_within};
 use std::alloc::{AllocError, Global};
 
-/// A line: whole numbers over one denominator, and a magnitude that none of them passes.
+/// A line: whole numbers over one denominator, a magnitude that none of them passes, and marks on their columns.
 #[derive(Drop)]
 pub struct Line {
     pub(crate) numbers: Numbers,
     pub(crate) denominator: u128,
     pub(crate) most: u128,
+    pub(crate) marks: Marks,
 }
 
 impl Line {
@@ -31,14 +34,16 @@ impl Line {
             numbers,
             denominator,
             most,
+            marks: Marks::everywhere(),
         })
     }
 
-    /// The line of these whole numbers of one word each, one for each column, over this denominator.
-    pub(crate) fn of_words(words: Vec<i64>, denominator: u128) -> Line
+    /// The line of these whole numbers of one word each, one for each column, over this denominator, with these marks.
+    pub(crate) fn of_words(words: Vec<i64>, denominator: u128, marks: Marks) -> Line
         requires positive { 0 < denominator }
         requires small { denominator < 2 ^ 127 }
         requires words_small { AreWithin words.items (2 ^ 63 - 1) }
+        requires marked { AreMarked words.items marks }
         ensures line { IsLine result }
         ensures numbers { wholes result ≡ words.items }
         ensures denominator { result.denominator ≡ denominator }
@@ -49,8 +54,22 @@ impl Line {
             numbers,
             denominator,
             most: greatest.max(denominator),
+            marks,
         }
     }
+}
+
+/// The same line in a list of its own. The error is out of memory.
+pub(crate) fn copied_line(alloc: Global, line: &Line) -> Result<Line, AllocError>
+    ensures { IfOk result (λ copy. copy ≡ line.now) }
+{
+    let numbers = line.numbers.copy(alloc)?;
+    Ok(Line {
+        numbers,
+        denominator: line.denominator,
+        most: line.most,
+        marks: line.marks,
+    })
 }
 
 /// What a line, and what the pivot line is multiplied by in an exchange; and a magnitude that no new part of the line passes.
@@ -81,6 +100,19 @@ pub(crate) fn number_at(line: &Line, column: usize) -> i128
     ensures { result ≡ whole_at (wholes line.now) column }
 {
     line.numbers.at(column)
+}
+
+/// The same; the number is read only where a mark is on the column.
+#[inline(always)]
+pub(crate) fn marked_number_at(line: &Line, column: usize) -> i128
+    requires line { IsLine line.now }
+    requires within { column < length (wholes line.now) }
+    ensures { result ≡ whole_at (wholes line.now) column }
+{
+    if line.marks.includes(column) {
+        return number_at(line, column);
+    }
+    0
 }
 
 /// The magnitude of the whole number of a line at a column.
@@ -148,7 +180,7 @@ pub(crate) fn plan(line: &Line, column: usize, pivot: &Line, bound: u128) -> Opt
     requires bounded { line.now.most ≤ bound }
     ensures { MatchOption result (IsCrowded bound column line.now pivot.now) (IsPlanned bound column line.now pivot.now) }
 {
-    if number_at(line, column) == 0 {
+    if marked_number_at(line, column) == 0 {
         return Some(Factors::of_own(line));
     }
     plan_some(line, column, pivot, bound)
@@ -177,6 +209,7 @@ fn lessen_line(
     )?;
     line.denominator *= factors.line as u128;
     line.most = most.max(line.denominator);
+    line.marks = line.marks.joined(pivot.marks);
     Ok(())
 }
 
@@ -200,6 +233,7 @@ fn lessen_once(line: &mut Line, factors: Factors, pivot: &Line, places: &[usize]
         return false;
     };
     line.most = most;
+    line.marks = line.marks.joined(pivot.marks);
     true
 }
 
@@ -279,10 +313,11 @@ pub(crate) fn apply(
     reduce_due(alloc, line, factors.line)
 }
 
-/// Divides a line by what its numbers and its denominator have in common. The error is want of memory.
+/// Divides a line by all that its numbers and its denominator have in common. The error is out of memory.
 pub(crate) fn reduce(alloc: Global, line: &mut Line) -> Result<(), AllocError>
     requires { IsLine line.old }
-    ensures { IfOk result (λ _. IsSameLine line.old line.new) }
+    ensures same { IfOk result (λ _. IsSameLine line.old line.new) }
+    ensures reduced { IfOk result (λ _. IsReduced line.new) }
 {
     let divisor = line.numbers.divisor_of(line.denominator);
     if divisor == 1 {
@@ -291,6 +326,18 @@ pub(crate) fn reduce(alloc: Global, line: &mut Line) -> Result<(), AllocError>
     line.numbers.divide(alloc, divisor)?;
     line.denominator /= divisor;
     line.most /= divisor;
+    Ok(())
+}
+
+/// Brings a line to lowest terms, and measures it. The error is out of memory.
+pub(crate) fn settle(alloc: Global, line: &mut Line) -> Result<(), AllocError>
+    requires { IsLine line.old }
+    ensures same { IfOk result (λ _. IsSameLine line.old line.new) }
+    ensures lowest { IfOk result (λ _. IsLowest line.new) }
+{
+    reduce(alloc, line)?;
+    let greatest = line.numbers.greatest();
+    line.most = greatest.max(line.denominator);
     Ok(())
 }
 

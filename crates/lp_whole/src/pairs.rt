@@ -1,12 +1,13 @@
 //! Whether each step of an exchange fits, by a bound for each two rows.
-ghost use Rattle.std.specs.Prelude.{◌≡◌, ℕ, ◌<◌, ◌≤◌, ◌^◌, length, false, IsTrue, IfSome};
+ghost use Rattle.std.specs.Prelude.{◌≡◌, ◌≢◌, ℕ, ◌<◌, ◌≤◌, ◌^◌, pos, ◌*ℤ◌, nat_abs, length, false, IsTrue, IfSome};
+ghost use Rattle.std.specs.Int.{◌∣◌};
 ghost use Rattle.lp_whole.specs.Form.{AreBounded};
-ghost use Rattle.lp_whole.specs.Room.{AreWhole, row_most};
-ghost use Rattle.lp_whole.specs.Pairs.{HasPairRoom, HasNoPairRoom, ArePairsFit, IsSomePairCrowded, IsMeasured, IsRoomy, rows_top};
+ghost use Rattle.lp_whole.specs.Room.{AreWhole, row_most, row_denominator, row_number};
+ghost use Rattle.lp_whole.specs.Pairs.{HasPairRoom, HasNoPairRoom, IsPairFit, ArePairsFit, IsSomePairCrowded, IsMeasured, IsLowestRow, IsRoomy, rows_top};
 
 use crate::line::{Line, magnitude_at, reduced_pair, room};
 use crate::read::read;
-use lp_numbers::sum_within;
+use lp_numbers::{gcd, sum_within};
 
 /// A row in an exchange: its whole number for the variable that enters, and a magnitude that none of its parts passes.
 #[derive(Clone, Copy)]
@@ -43,6 +44,65 @@ fn measured(lines: &[Line], deferred: Option<usize>, place: usize, column: usize
     Measure {
         number: number.numerator,
         most: most_of(lines, deferred, place),
+    }
+}
+
+/// The greatest divisor of all parts of a row with so many columns.
+fn divisor_of_row(lines: &[Line], deferred: Option<usize>, place: usize, width: usize) -> u128
+    requires lines { (bound : ℕ) × AreWhole lines.now deferred width bound }
+    requires within { place < length lines.now }
+    ensures positive { 0 < result }
+    ensures denominator { result ∣ row_denominator deferred lines.now place }
+    ensures numbers { (c : ℕ) → c < width → result ∣ nat_abs (row_number deferred lines.now place c) }
+    ensures greatest { (d : ℕ) → d ∣ row_denominator deferred lines.now place → ((c : ℕ) → c < width → d ∣ nat_abs (row_number deferred lines.now place c)) → d ∣ result }
+{
+    let mut divisor = read(lines, deferred, place, 0).denominator;
+    for c in 0..width {
+        let number = read(lines, deferred, place, c).numerator;
+        divisor = gcd(number.unsigned_abs(), divisor);
+    }
+    divisor
+}
+
+/// The greatest magnitude of all parts of a row with so many columns.
+fn most_of_row(lines: &[Line], deferred: Option<usize>, place: usize, width: usize) -> u128
+    requires lines { (bound : ℕ) × AreWhole lines.now deferred width bound }
+    requires within { place < length lines.now }
+    ensures denominator { row_denominator deferred lines.now place ≤ result }
+    ensures numbers { (c : ℕ) → c < width → nat_abs (row_number deferred lines.now place c) ≤ result }
+    ensures least { (b : ℕ) → row_denominator deferred lines.now place ≤ b → ((c : ℕ) → c < width → nat_abs (row_number deferred lines.now place c) ≤ b) → result ≤ b }
+{
+    let mut most = read(lines, deferred, place, 0).denominator;
+    for c in 0..width {
+        let number = read(lines, deferred, place, c).numerator;
+        most = most.max(number.unsigned_abs());
+    }
+    most
+}
+
+/// A whole number over a divisor of it.
+fn quotient(n: i128, divisor: u128) -> i128
+    requires positive { 0 < divisor }
+    requires small { divisor < 2 ^ 127 }
+    requires divides { divisor ∣ nat_abs n }
+    ensures { result *ℤ pos divisor ≡ n }
+{
+    n / divisor as i128
+}
+
+/// The measure of a row at a column in lowest terms.
+fn measured_lowest(lines: &[Line], deferred: Option<usize>, place: usize, column: usize) -> Measure
+    requires lines { (width bound : ℕ) × AreWhole lines.now deferred width bound × (column < width) }
+    requires within { place < length lines.now }
+    ensures { IsLowestRow lines.now deferred place column result }
+{
+    let width = lines[place].numbers.len();
+    let divisor = divisor_of_row(lines, deferred, place, width);
+    let most = most_of_row(lines, deferred, place, width);
+    let number = read(lines, deferred, place, column).numerator;
+    Measure {
+        number: quotient(number, divisor),
+        most: most / divisor,
     }
 }
 
@@ -121,6 +181,33 @@ fn is_roomy(lines: &[Line], deferred: Option<usize>, bound: u128) -> bool
     rows_are_roomy(lines, deferred, bound)
 }
 
+/// Whether a row has room together with that of the variable that leaves: first by the measures of both as their lines are, then
+/// with both in lowest terms.
+fn pair_fits(
+    lines: &[Line],
+    deferred: Option<usize>,
+    place: usize,
+    leaving: usize,
+    of_leaving: Measure,
+    column: usize,
+    bound: u128,
+) -> bool
+    requires lines { (width : ℕ) × AreWhole lines.now deferred width bound × (column < width) }
+    requires within { (place < length lines.now) × (leaving < length lines.now) }
+    requires other { place ≢ leaving }
+    requires measured { IsMeasured lines.now deferred leaving column of_leaving }
+    ensures fits { IsTrue result → IsPairFit lines.now deferred leaving column bound place }
+    ensures none { result ≡ false → IsSomePairCrowded lines.now deferred leaving column bound }
+{
+    let row = measured(lines, deferred, place, column);
+    if has_pair_room(row, of_leaving, bound) {
+        return true;
+    }
+    let lowest = measured_lowest(lines, deferred, place, column);
+    let lowest_leaving = measured_lowest(lines, deferred, leaving, column);
+    has_pair_room(lowest, lowest_leaving, bound)
+}
+
 /// Whether each row has room together with that of the variable that leaves.
 pub(crate) fn pairs_fit(
     lines: &[Line],
@@ -139,8 +226,7 @@ pub(crate) fn pairs_fit(
     }
     let of_leaving = measured(lines, deferred, leaving, column);
     for i in 0..lines.len() {
-        let row = measured(lines, deferred, i, column);
-        if i != leaving && !has_pair_room(row, of_leaving, bound) {
+        if i != leaving && !pair_fits(lines, deferred, i, leaving, of_leaving, column, bound) {
             return false;
         }
     }

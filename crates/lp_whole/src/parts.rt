@@ -1,13 +1,15 @@
 //! A line of a row that is given by fractions.
-ghost use Rattle.std.specs.Prelude.{◌≡◌, ℕ, ◌*◌, ◌/◌, ◌<◌, ◌≤◌, ◌^◌, ◌-◌, nat_abs, length, slice_get, Some, IfOk, IfSome, MatchOption};
+ghost use Rattle.std.specs.Prelude.{◌≡◌, ◌≢◌, ℕ, ◌*◌, ◌/◌, ◌<◌, ◌≤◌, ◌^◌, ◌-◌, nat_abs, length, slice_get, Some, IfOk, IfSome, MatchOption};
 ghost use Rattle.std.specs.Int.{◌∣◌};
 ghost use Rattle.gq_number.specs.Number.{ratio};
 ghost use Rattle.lp_numbers.specs.Lines.{AreWithin};
 ghost use Rattle.lp_whole.specs.declared.parts.Part.{Part};
+ghost use Rattle.lp_whole.specs.Marks.{IsClear};
 ghost use Rattle.lp_whole.specs.Form.{wholes, IsLine, line_number};
 ghost use Rattle.lp_whole.specs.Parts.{AreZeros, AreThere, AreApart, IsMultiple, HaveNoMultiple, HaveNoCommonMultiple, IsSomePast, HaveNoLine, AreFilled, AreParts};
 
 use crate::line::Line;
+use crate::marks::Marks;
 use lp_numbers::{gcd, product_within, zero_words};
 use std::alloc::{AllocError, Global};
 
@@ -140,6 +142,17 @@ fn fill(
     Ok(Some(numbers))
 }
 
+/// Marks on the columns of parts.
+fn marks_of(parts: &[Part]) -> Marks
+    ensures { (c i : ℕ) (p : Part) → IsClear result c → slice_get parts.now i ≡ Some p → p.column ≢ c }
+{
+    let mut marks = Marks::nowhere();
+    for i in 0..parts.len() {
+        marks = marks.and_at(parts[i].column as usize);
+    }
+    marks
+}
+
 /// The line of so many columns that has these parts, and 0 elsewhere; or none, and then over each common multiple of the
 /// denominators that has at most 127 bits the whole number of some part has more. The error is want of memory.
 pub fn line_of_parts(
@@ -157,7 +170,8 @@ pub fn line_of_parts(
         return Ok(None);
     };
     if let Some(words) = fill_words(alloc, width, parts, multiple)? {
-        let line = Line::of_words(words, multiple);
+        let marks = marks_of(parts);
+        let line = Line::of_words(words, multiple, marks);
         return Ok(Some(line));
     }
     let filled = fill(alloc, width, parts, multiple)?;

@@ -3,9 +3,10 @@ ghost use Rattle.std.specs.Prelude.{◌≡◌, ℕ, ◌+◌, ◌*◌, ◌<◌, �
 ghost use Rattle.gq_number.specs.Number.{ratio};
 ghost use Rattle.lp_numbers.specs.Lines.{whole_at};
 ghost use Rattle.lp_whole.specs.Form.{wholes, IsLine, lines_number, numbers_above};
-ghost use Rattle.lp_whole.specs.Room.{AreWhole, HasRoom, row_denominator};
+ghost use Rattle.lp_whole.specs.Room.{AreWhole, HasRoom, row_denominator, row_number};
 
-use crate::line::{Line, magnitude_at, number_at};
+use crate::line::{Line, magnitude_at, marked_number_at, number_at};
+use lp_numbers::cross_difference;
 
 /// A number: a whole number over another that is above 0.
 #[derive(Clone, Copy)]
@@ -25,7 +26,7 @@ fn read_own(line: &Line, column: usize) -> Fraction
     ensures denominator { result.denominator ≡ line.now.denominator }
 {
     Fraction {
-        numerator: number_at(line, column),
+        numerator: marked_number_at(line, column),
         denominator: line.denominator,
     }
 }
@@ -44,6 +45,29 @@ fn read_pivot(pivot: &Line, column: usize) -> Fraction
     }
 }
 
+/// The whole number of a line at a column in the dictionary that the exchange of variable 0 into the pivot line makes; the line's own
+/// number there is read only where a mark is on the column.
+#[inline(always)]
+fn number_above(line: &Line, pivot: &Line, column: usize) -> i128
+    requires line { IsLine line.now }
+    requires pivot { IsLine pivot.now }
+    requires within { column < length (wholes line.now) }
+    requires sized { length (wholes pivot.now) ≡ length (wholes line.now) }
+    requires zero { 1 < length (wholes line.now) }
+    requires room { line.now.most * nat_abs (whole_at (wholes pivot.now) 1) + nat_abs (whole_at (wholes line.now) 1) * pivot.now.most < 2 ^ 127 }
+    ensures { result ≡ whole_at (wholes pivot.now) 1 *ℤ whole_at (wholes line.now) column -ℤ whole_at (wholes line.now) 1 *ℤ whole_at (wholes pivot.now) column }
+{
+    if line.marks.includes(column) {
+        return line.numbers.cross_at(&pivot.numbers, 1, column);
+    }
+    cross_difference(
+        number_at(pivot, 1),
+        0,
+        number_at(line, 1),
+        number_at(pivot, column),
+    )
+}
+
 /// The number of a line at a column in the dictionary that the exchange of variable 0 into the pivot line makes.
 #[inline(always)]
 fn read_above(line: &Line, pivot: &Line, column: usize) -> Fraction
@@ -56,7 +80,7 @@ fn read_above(line: &Line, pivot: &Line, column: usize) -> Fraction
     ensures numerator { result.numerator ≡ whole_at (wholes pivot.now) 1 *ℤ whole_at (wholes line.now) column -ℤ whole_at (wholes line.now) 1 *ℤ whole_at (wholes pivot.now) column }
     ensures denominator { result.denominator ≡ nat_abs (whole_at (wholes pivot.now) 1) * line.now.denominator }
 {
-    let numerator = line.numbers.cross_at(&pivot.numbers, 1, column);
+    let numerator = number_above(line, pivot, column);
     let denominator = magnitude_at(pivot, 1) * line.denominator;
     Fraction {
         numerator,
@@ -71,6 +95,7 @@ pub(crate) fn read(lines: &[Line], deferred: Option<usize>, place: usize, column
     requires within { place < length lines.now }
     ensures positive { 0 < result.denominator }
     ensures number { ratio result.numerator result.denominator ≡ numbers_above deferred (lines_number lines.now) place column }
+    ensures numerator { result.numerator ≡ row_number deferred lines.now place column }
     ensures shared { result.denominator ≡ row_denominator deferred lines.now place }
     ensures within { (bound : ℕ) → HasRoom deferred lines.now bound → (nat_abs result.numerator ≤ bound) × (result.denominator ≤ bound) }
 {

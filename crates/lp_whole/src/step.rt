@@ -3,8 +3,9 @@ ghost use Rattle.std.specs.Prelude.{◌≡◌, ℕ, ◌<◌, ◌^◌, pos, true,
 ghost use Rattle.gq_number.specs.Number.{whole};
 ghost use Rattle.gq_number.specs.Order.{◌<ℚ◌};
 ghost use Rattle.lp_whole.specs.Form.{AreLines, AreBounded, AreSameLines, lines_number};
-ghost use Rattle.lp_whole.specs.Room.{IsRoomyPlan, AreTurnedInRoom, LinesHaveNoRoom};
+ghost use Rattle.lp_whole.specs.Room.{IsRoomyPlan, AreTurnedInRoom, FactorsHaveNoRoom, LinesHaveNoRoom};
 
+use crate::apart::turn_apart;
 use crate::exchange::{exchange_lines, plan_lines, reduce_lines};
 use crate::line::{Factors, Line};
 use crate::room::keeps_room;
@@ -24,7 +25,7 @@ fn plan_once(
     requires small { bound < 2 ^ 127 }
     requires bounded { AreBounded bound lines.now }
     requires above { whole (pos 0) <ℚ lines_number lines.now place column }
-    ensures { IfOk result (λ o. MatchOption o (LinesHaveNoRoom bound column place leaving lines.now) (λ plans. IsRoomyPlan bound column place leaving lines.now plans.items)) }
+    ensures { IfOk result (λ o. MatchOption o (FactorsHaveNoRoom bound column place leaving lines.now) (λ plans. IsRoomyPlan bound column place leaving lines.now plans.items)) }
 {
     let plans = plan_lines(alloc, lines, place, column, &lines[place], bound)?;
     let Some(plans) = plans else {
@@ -54,7 +55,7 @@ fn plan_exchange(
     requires bounded { AreBounded bound lines.old.items }
     requires above { whole (pos 0) <ℚ lines_number lines.old.items place column }
     ensures same { IfOk result (λ _. AreSameLines lines.old.items lines.new.items) }
-    ensures planned { IfOk result (λ o. MatchOption o (LinesHaveNoRoom bound column place leaving lines.new.items) (λ plans. IsRoomyPlan bound column place leaving lines.new.items plans.items)) }
+    ensures planned { IfOk result (λ o. MatchOption o (FactorsHaveNoRoom bound column place leaving lines.new.items) (λ plans. IsRoomyPlan bound column place leaving lines.new.items plans.items)) }
 {
     let plans = plan_once(alloc, lines.as_slice(), place, leaving, column, bound)?;
     if plans.is_some() {
@@ -64,8 +65,36 @@ fn plan_exchange(
     plan_once(alloc, lines.as_slice(), place, leaving, column, bound)
 }
 
-/// Exchanges the lines at a place and a column, where there is room for it and for what comes after it; else they stand for the
-/// same numbers as before, and the answer is `false`. The error is want of memory.
+/// Exchanges the lines at a place and a column, where by their factors there is room for it and for what comes after it; else they
+/// stand for the same numbers as before, and the answer is `false`. The error is out of memory.
+fn turn_planned(
+    alloc: Global,
+    lines: &mut Vec<Line>,
+    place: usize,
+    leaving: usize,
+    column: usize,
+    bound: u128,
+) -> Result<bool, AllocError>
+    requires lines { (width : ℕ) × AreLines width lines.old.items × (1 < width) × (column < width) }
+    requires within { (place < length lines.old.items) × (leaving < length lines.old.items) }
+    requires small { bound < 2 ^ 127 }
+    requires bounded { AreBounded bound lines.old.items }
+    requires above { whole (pos 0) <ℚ lines_number lines.old.items place column }
+    ensures turned { IfOk result (λ done. done ≡ true → AreTurnedInRoom bound column place leaving lines.old.items lines.new.items) }
+    ensures same { IfOk result (λ done. done ≡ false → AreSameLines lines.old.items lines.new.items) }
+    ensures none { IfOk result (λ done. done ≡ false → FactorsHaveNoRoom bound column place leaving lines.new.items) }
+{
+    let plans = plan_exchange(alloc, lines, place, leaving, column, bound)?;
+    let Some(plans) = plans else {
+        return Ok(false);
+    };
+    exchange_lines(alloc, lines, plans.as_slice(), place, column)?;
+    Ok(true)
+}
+
+/// Exchanges the lines at a place and a column, where there is room for it and for what comes after it: first by their factors,
+/// then by the lines that it makes. Else they stand for the same numbers as before, and the answer is `false`. The error is out of
+/// memory.
 pub(crate) fn turn_lines(
     alloc: Global,
     lines: &mut Vec<Line>,
@@ -83,10 +112,9 @@ pub(crate) fn turn_lines(
     ensures same { IfOk result (λ done. done ≡ false → AreSameLines lines.old.items lines.new.items) }
     ensures none { IfOk result (λ done. done ≡ false → LinesHaveNoRoom bound column place leaving lines.new.items) }
 {
-    let plans = plan_exchange(alloc, lines, place, leaving, column, bound)?;
-    let Some(plans) = plans else {
-        return Ok(false);
-    };
-    exchange_lines(alloc, lines, plans.as_slice(), place, column)?;
-    Ok(true)
+    let planned = turn_planned(alloc, lines, place, leaving, column, bound)?;
+    if planned {
+        return Ok(true);
+    }
+    turn_apart(alloc, lines, place, leaving, column, bound)
 }

@@ -3,7 +3,7 @@ use Rattle.std.specs.Int.{◌∣◌}
 use Rattle.std.proofs.Math.Nat.{one-dvd, dvd_trans, dvd-zero}
 use Rattle.std.proofs.lemmas.Int.{to_z-of_z}
 use Rattle.std.proofs.lemmas.Bool.{cases_lt}
-use Rattle.gq_number.proofs.Gcd.{gcd_pos, gcd-dvd_left, gcd-dvd_right}
+use Rattle.gq_number.proofs.Gcd.{gcd_pos, gcd-dvd_left, gcd-dvd_right, dvd-gcd}
 use Rattle.lp_numbers.specs.Lines.{whole_at}
 use Rattle.lp_numbers.proofs.Lines.{whole_past}
 use Rattle.lp_numbers.proofs.narrow.divisor_of.Goals as goal
@@ -27,6 +27,7 @@ loop-n-preserved c =
       subst (λ g. g ∣ c.args.denominator) (sym is) (dvd_trans _ (gcd-dvd_right m c.loop-n.divisor) old.1),
       below_more _ _ (λ k less. subst (λ g. g ∣ nat_abs (whole_at c.args.numbers.now k)) (sym is) (dvd_trans _ (gcd-dvd_right m c.loop-n.divisor) (old.2 k less)))
           (subst (λ t. c.shared_by-divisor.result ∣ t) m_is (subst (λ g. g ∣ m) (sym is) (gcd-dvd_left m c.loop-n.divisor))),
+      λ k of_denominator of_all. subst (λ g. k ∣ g) (sym is) (dvd-gcd k m c.loop-n.divisor (subst (λ t. k ∣ t) (sym m_is) (of_all c.loop-n.n-index)) (old.3 k of_denominator of_all)),
     )
 
 pub returns-clause-numbers : goal.returns-clause-numbers
@@ -35,3 +36,9 @@ returns-clause-numbers c = λ v.
       | inl less ↦ c.loop-n.invariant.2 v less
       | inr more ↦ subst (λ z. c.loop-n.divisor ∣ nat_abs z) (sym (whole_past c.args.numbers.now v (omega arith))) (dvd-zero c.loop-n.divisor)
     ]
+
+pub returns-then-divisor-eq1-clause-greatest : goal.returns-then-divisor-eq1-clause-greatest
+returns-then-divisor-eq1-clause-greatest c = λ k of_denominator of_all. subst (λ g. k ∣ g) c.if-divisor-eq1.true (c.loop-n.invariant.3 k of_denominator of_all)
+
+pub returns-clause-greatest : goal.returns-clause-greatest
+returns-clause-greatest c = c.loop-n.invariant.3

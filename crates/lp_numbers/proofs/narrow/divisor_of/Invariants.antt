@@ -1,8 +1,8 @@
 use Rattle.std.specs.Prelude.{ℕ, ◌<◌, nat_abs}
 use Rattle.std.specs.Int.{◌∣◌}
-use Rattle.lp_numbers.specs.Lines.{whole_at}
+use Rattle.lp_numbers.specs.Lines.{whole_at, AreDivided}
 use Rattle.lp_numbers.proofs.narrow.divisor_of.Given as goal
 
 abbrev pub invariant-loop-n : goal.invariant-loop-n
 invariant-loop-n l =
-    (0 < l.divisor) × (l.divisor ∣ l.denominator) × ((c : ℕ) → c < l.n-index → l.divisor ∣ nat_abs (whole_at l.numbers c))
+    (0 < l.divisor) × (l.divisor ∣ l.denominator) × ((c : ℕ) → c < l.n-index → l.divisor ∣ nat_abs (whole_at l.numbers c)) × ((k : ℕ) → k ∣ l.denominator → AreDivided l.numbers k → k ∣ l.divisor)

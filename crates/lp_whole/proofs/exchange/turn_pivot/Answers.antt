@@ -13,4 +13,4 @@ returns c =
       numbers = λ v. r.numbers v ∙ d.numbers v;
       most = let low = r.most in let high = d.most in omega arith;
       magnitudes = λ v. let low = r.magnitudes v in let high = d.magnitudes v in omega arith;
-    }) c.reduce.ensures
+    }) c.reduce.ensures.same

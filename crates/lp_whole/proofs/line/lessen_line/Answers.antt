@@ -52,7 +52,7 @@ returns c = λ bound column limited above planned.
     omega arith) in
     let grown : c.args.line.now.denominator * nat_abs a ≤ c.args.line.now.most * nat_abs a = mul-le-mul_right (nat_abs a) c.requires.line.denominator_within in
     let turned = mul_comm c.args.line.now.most (nat_abs a) in
-    let after : Line = record { numbers = c.lessen.new.self; denominator = c.args.line.now.denominator * nat_abs a; most = c.max-line.result } in
+    let after : Line = record { numbers = c.lessen.new.self; denominator = c.args.line.now.denominator * nat_abs a; most = c.max-line.result; marks = c.joined-line.result } in
     let all_most : c.max-line.result ≤ most = omega arith in
     lessened_line c.args.line.now c.args.pivot.now after column a b c.args.factors c.requires.line c.requires.pivot c.requires.sized above factors
     (record {
@@ -63,4 +63,5 @@ returns c = λ bound column limited above planned.
       denominator_within = omega arith;
       most = all_most;
       small = omega arith;
+      marks = λ k clear. (c.joined-line.ensures.own k clear, c.joined-line.ensures.others k clear);
     }) a_is b_is planned.most

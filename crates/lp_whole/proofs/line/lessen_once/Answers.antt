@@ -3,6 +3,7 @@ use Rattle.std.specs.Int.{w128}
 use Rattle.std.proofs.lemmas.Int.{to_z-of_z}
 use Rattle.std.proofs.Math.Nat.{mul-le-mul_left}
 use Rattle.lp_whole.specs.declared.line.Line.{Line}
+use Rattle.lp_whole.specs.declared.marks.Marks.{Marks}
 use Rattle.lp_numbers.specs.Lines.{whole_at}
 use Rattle.lp_whole.specs.Form.{wholes, AreFactors}
 use Rattle.lp_whole.proofs.Updating.{lessened_line}
@@ -19,10 +20,10 @@ lessen_at-requires-clause-room c = λ k.
     omega arith
 
 pub returns-in_default-clause-same : goal.returns-in_default-clause-same
-returns-in_default-clause-same c = λ _. ap (λ l. made l c.args.line.now.denominator c.args.line.now.most) c.in_default.ensures
+returns-in_default-clause-same c = λ _. ap (λ l. made l c.args.line.now.denominator c.args.line.now.most c.args.line.now.marks) c.in_default.ensures
   where
-    made : List ℤ → ℕ → ℕ → Line
-    made l d m = record { numbers = l; denominator = d; most = m }
+    made : List ℤ → ℕ → ℕ → Marks → Line
+    made l d m k = record { numbers = l; denominator = d; most = m; marks = k }
 
 pub returns-clause-lessened : goal.returns-clause-lessened
 returns-clause-lessened c = λ _ bound column limited above planned.
@@ -42,7 +43,7 @@ returns-clause-lessened c = λ _ bound column limited above planned.
     omega arith) (omega arith) in
     let above_least : c.args.line.now.most ≤ c.in-Some.most = lessened.grown in
     let low = c.requires.line.denominator_within in
-    let after : Line = record { numbers = c.lessen_at.new.self; denominator = c.args.line.now.denominator; most = c.in-Some.most } in
+    let after : Line = record { numbers = c.lessen_at.new.self; denominator = c.args.line.now.denominator; most = c.in-Some.most; marks = c.joined-line.result } in
     lessened_line c.args.line.now c.args.pivot.now after column (pos 1) b c.args.factors c.requires.line c.requires.pivot c.requires.sized above factors
     (record {
       sized = lessened.sized;
@@ -52,4 +53,5 @@ returns-clause-lessened c = λ _ bound column limited above planned.
       denominator_within = omega arith;
       most = lessened_most;
       small = omega arith;
+      marks = λ k clear. (c.joined-line.ensures.own k clear, c.joined-line.ensures.others k clear);
     }) (sym c.requires.once) b_is planned.most

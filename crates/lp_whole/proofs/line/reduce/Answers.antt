@@ -1,7 +1,9 @@
-use Rattle.std.proofs.Common.{ℕ, ◌/◌, ◌≤◌, refl, arith}
+use Rattle.std.proofs.Common.{ℕ, ◌/◌, ◌≤◌, refl, subst, arith}
 use Rattle.std.proofs.lemmas.Nat.Gcd.{le_of_dvd}
+use Rattle.std.proofs.Math.Nat.{eq-one_of_dvd-one}
+use Rattle.std.specs.Int.{◌∣◌}
 use Rattle.lp_whole.specs.declared.line.Line.{Line}
-use Rattle.lp_whole.proofs.Updating.{same_line}
+use Rattle.lp_whole.proofs.Updating.{same_line, divided_reduced}
 use Rattle.lp_whole.proofs.line.reduce.Goals as goal
 
 pub divide-requires-clause-small : goal.divide-requires-clause-small
@@ -11,8 +13,17 @@ divide-requires-clause-small c =
     let high = c.requires.small in
     omega arith
 
-pub returns : goal.returns
-returns c =
+pub returns-clause-same : goal.returns-clause-same
+returns-clause-same c =
     let g : ℕ = c.divisor_of-divisor.result in
-    let after : Line = record { numbers = c.divide.new.self; denominator = c.args.line.now.denominator / g; most = c.args.line.now.most / g } in
-    same_line c.args.line.now after g c.requires c.divisor_of-divisor.ensures.positive c.divisor_of-divisor.ensures.denominator c.in_ok-divide.ensures.sized c.in_ok-divide.ensures.numbers refl refl
+    let after : Line = record { numbers = c.divide.new.self; denominator = c.args.line.now.denominator / g; most = c.args.line.now.most / g; marks = c.args.line.now.marks } in
+    same_line c.args.line.now after g c.requires c.divisor_of-divisor.ensures.positive c.divisor_of-divisor.ensures.denominator c.in_ok-divide.ensures.sized c.in_ok-divide.ensures.numbers refl refl refl
+
+pub returns-clause-reduced : goal.returns-clause-reduced
+returns-clause-reduced c =
+    let g : ℕ = c.divisor_of-divisor.result in
+    let after : Line = record { numbers = c.divide.new.self; denominator = c.args.line.now.denominator / g; most = c.args.line.now.most / g; marks = c.args.line.now.marks } in
+    divided_reduced c.args.line.now after g c.divisor_of-divisor.ensures.positive c.divisor_of-divisor.ensures.denominator c.divisor_of-divisor.ensures.greatest c.in_ok-divide.ensures.numbers refl
+
+pub returns-then-divisor-eq1-clause-reduced : goal.returns-then-divisor-eq1-clause-reduced
+returns-then-divisor-eq1-clause-reduced c = λ d of_denominator of_all. eq-one_of_dvd-one (subst (λ g. d ∣ g) c.if-divisor-eq1.true (c.divisor_of-divisor.ensures.greatest d of_denominator of_all))

@@ -17,8 +17,8 @@ returns-then-number-lt0 c =
     let is = to_z-of_z w128 c.number_at-number.result fits in
     let told = c.if-number-lt0.true in
     let below : c.number_at-number.result <ℤ pos 0 = omega (arith, ints) in
-    let after : Line = record { numbers = c.negate.new.self; denominator = c.args.line.now.denominator; most = c.args.line.now.most } in
-    raised_negated c.args.line.now after c.requires.line c.negate.ensures.sized c.negate.ensures.numbers refl refl (subst (λ z. z <ℤ pos 0) c.number_at-number.ensures below)
+    let after : Line = record { numbers = c.negate.new.self; denominator = c.args.line.now.denominator; most = c.args.line.now.most; marks = c.args.line.now.marks } in
+    raised_negated c.args.line.now after c.requires.line c.negate.ensures.sized c.negate.ensures.numbers refl refl refl (subst (λ z. z <ℤ pos 0) c.number_at-number.ensures below)
 
 pub returns-else-number-lt0 : goal.returns-else-number-lt0
 returns-else-number-lt0 c =

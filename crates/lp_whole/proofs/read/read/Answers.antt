@@ -75,3 +75,12 @@ returns-in_default-clause-shared c = (read_at_plain c.args.lines.now c.args.defe
 
 pub returns-in_default-clause-within : goal.returns-in_default-clause-within
 returns-in_default-clause-within c = (read_at_plain c.args.lines.now c.args.deferred c.requires.lines.0 c.requires.lines.1 c.args.place c.args.column c.index-lines-place.result _ _ c.in_default.is c.requires.lines.2 (index_get c.args.lines.now c.args.place c.index-lines-place.result c.index-lines-place.result c.requires.within (sym c.index-lines-place.is)) c.read_own.ensures.numerator c.read_own.ensures.denominator).within
+
+pub returns-then-place-k-clause-numerator : goal.returns-then-place-k-clause-numerator
+returns-then-place-k-clause-numerator c = (read_at_pivot c.args.lines.now c.args.deferred c.in-Some.k c.requires.lines.0 c.requires.lines.1 c.in-Some.is c.requires.lines.2 c.args.place c.args.column c.index-lines-k.result _ _ c.if-place-k.true c.index-lines-k.is c.read_pivot.ensures.numerator c.read_pivot.ensures.denominator).named
+
+pub returns-clause-numerator : goal.returns-clause-numerator
+returns-clause-numerator c = (read_at_other c.args.lines.now c.args.deferred c.in-Some.k c.requires.lines.0 c.requires.lines.1 c.in-Some.is c.requires.lines.2 c.args.place c.args.column c.index-lines-place.result c.index-lines-k.result _ _ c.if-place-k.false c.requires.within c.index-lines-place.is c.index-lines-k.is c.read_above.ensures.numerator c.read_above.ensures.denominator).named
+
+pub returns-in_default-clause-numerator : goal.returns-in_default-clause-numerator
+returns-in_default-clause-numerator c = (read_at_plain c.args.lines.now c.args.deferred c.requires.lines.0 c.requires.lines.1 c.args.place c.args.column c.index-lines-place.result _ _ c.in_default.is c.requires.lines.2 (index_get c.args.lines.now c.args.place c.index-lines-place.result c.index-lines-place.result c.requires.within (sym c.index-lines-place.is)) c.read_own.ensures.numerator c.read_own.ensures.denominator).named

@@ -1,32 +1,42 @@
-use Rattle.std.proofs.Common.{sym, subst}
-use Rattle.std.specs.Prelude.{MatchOption}
-use Rattle.lp_whole.specs.Form.{IsPlan, AreTurned}
-use Rattle.lp_whole.specs.Room.{IsRoomyPlan, LinesHaveNoRoom}
-use Rattle.lp_whole.proofs.Sameness.{same_are}
+use Rattle.std.proofs.Common.{◌≡◌, ◌<◌, true, false, true≢false, length, pos, sym, ◌∙◌, subst, arith}
+use Rattle.gq_number.specs.Number.{whole}
+use Rattle.gq_number.specs.Order.{◌<ℚ◌}
+use Rattle.lp_whole.specs.Form.{AreLines, AreSameLines, lines_number}
+use Rattle.lp_whole.specs.Room.{AreTurnedInRoom, FactorsHaveNoRoom, HaveNoRoomMade, LinesHaveNoRoom}
+use Rattle.lp_whole.proofs.Sameness.{same_are, same_numbers}
+use Rattle.lp_whole.proofs.Arriving.{same_turned}
+use Rattle.lp_whole.proofs.Results.{if_ok, if_both}
 use Rattle.lp_whole.proofs.step.turn_lines.Goals as goal
 
-pub exchange_lines-requires-clause-lines : goal.exchange_lines-requires-clause-lines
-exchange_lines-requires-clause-lines c =
-    (c.requires.lines.0, same_are c.args.lines.now.items c.plan_exchange.new.lines.items c.in_ok-plans.ensures.same c.requires.lines.0 c.requires.lines.1, c.requires.lines.3)
+pub returns-then-planned-clause-turned : goal.returns-then-planned-clause-turned
+returns-then-planned-clause-turned c = λ _. c.in_ok-planned.ensures.turned c.if-planned.true
 
-pub exchange_lines-requires-clause-planned : goal.exchange_lines-requires-clause-planned
-exchange_lines-requires-clause-planned c =
-    let roomy : IsRoomyPlan c.args.bound c.args.column c.args.place c.args.leaving c.plan_exchange.new.lines.items c.in-Some.plans.items =
-    subst (λ o. MatchOption o (LinesHaveNoRoom c.args.bound c.args.column c.args.place c.args.leaving c.plan_exchange.new.lines.items) (λ plans. IsRoomyPlan c.args.bound c.args.column c.args.place c.args.leaving c.plan_exchange.new.lines.items plans.items)) c.in-Some.is c.in_ok-plans.ensures.planned in
-    (c.args.bound, λ l at. subst (IsPlan c.args.bound c.args.column c.args.place c.plan_exchange.new.lines.items l) (sym c.as_slice.ensures.value) (roomy.planned l at))
+pub turn_apart-requires-clause-lines : goal.turn_apart-requires-clause-lines
+turn_apart-requires-clause-lines c =
+    (c.requires.lines.0, same_are c.args.lines.now.items c.turn_planned.new.lines.items (c.in_ok-planned.ensures.same c.if-planned.false) c.requires.lines.0 c.requires.lines.1, c.requires.lines.2, c.requires.lines.3)
+
+pub turn_apart-requires-clause-within : goal.turn_apart-requires-clause-within
+turn_apart-requires-clause-within c =
+    let sized = (c.in_ok-planned.ensures.same c.if-planned.false).sized in
+    let first = c.requires.within.0 in
+    let second = c.requires.within.1 in
+    (omega arith, omega arith)
+
+pub turn_apart-requires-clause-above : goal.turn_apart-requires-clause-above
+turn_apart-requires-clause-above c =
+    subst (λ x. whole (pos 0) <ℚ x) (sym (same_numbers c.args.lines.now.items c.turn_planned.new.lines.items (c.in_ok-planned.ensures.same c.if-planned.false) c.args.place c.args.column)) c.requires.above
 
 pub returns-clause-turned : goal.returns-clause-turned
-returns-clause-turned c = λ yes.
-    let roomy : IsRoomyPlan c.args.bound c.args.column c.args.place c.args.leaving c.plan_exchange.new.lines.items c.in-Some.plans.items =
-    subst (λ o. MatchOption o (LinesHaveNoRoom c.args.bound c.args.column c.args.place c.args.leaving c.plan_exchange.new.lines.items) (λ plans. IsRoomyPlan c.args.bound c.args.column c.args.place c.args.leaving c.plan_exchange.new.lines.items plans.items)) c.in-Some.is c.in_ok-plans.ensures.planned in
-    record {
-      divided = c.plan_exchange.new.lines.items;
-      plans = c.in-Some.plans.items;
-      same = c.in_ok-plans.ensures.same;
-      roomy = roomy;
-      turned = subst (λ ps. AreTurned c.args.column c.args.place ps c.plan_exchange.new.lines.items c.exchange_lines.new.lines.items) c.as_slice.ensures.value c.in_ok-exchange_lines.ensures;
-    }
+returns-clause-turned c =
+    if_ok (λ done. done ≡ true → AreTurnedInRoom c.args.bound c.args.column c.args.place c.args.leaving c.turn_planned.new.lines.items c.turn_apart.new.lines.items) (λ done. done ≡ true → AreTurnedInRoom c.args.bound c.args.column c.args.place c.args.leaving c.args.lines.now.items c.turn_apart.new.lines.items) c.turn_apart.result
+    (λ _ turned yes. same_turned c.args.bound c.args.column c.args.place c.args.leaving c.args.lines.now.items c.turn_planned.new.lines.items c.turn_apart.new.lines.items (c.in_ok-planned.ensures.same c.if-planned.false) (turned yes)) c.turn_apart.ensures.turned
 
-pub returns-in_default-clause-none : goal.returns-in_default-clause-none
-returns-in_default-clause-none c = λ _.
-    subst (λ o. MatchOption o (LinesHaveNoRoom c.args.bound c.args.column c.args.place c.args.leaving c.plan_exchange.new.lines.items) (λ plans. IsRoomyPlan c.args.bound c.args.column c.args.place c.args.leaving c.plan_exchange.new.lines.items plans.items)) c.in_default.is c.in_ok-plans.ensures.planned
+pub returns-clause-same : goal.returns-clause-same
+returns-clause-same c =
+    if_ok (λ done. done ≡ false → c.turn_apart.new.lines.items ≡ c.turn_planned.new.lines.items) (λ done. done ≡ false → AreSameLines c.args.lines.now.items c.turn_apart.new.lines.items) c.turn_apart.result
+    (λ _ same no. subst (AreSameLines c.args.lines.now.items) (sym (same no)) (c.in_ok-planned.ensures.same c.if-planned.false)) c.turn_apart.ensures.same
+
+pub returns-clause-none : goal.returns-clause-none
+returns-clause-none c =
+    if_both (λ done. done ≡ false → c.turn_apart.new.lines.items ≡ c.turn_planned.new.lines.items) (λ done. done ≡ false → HaveNoRoomMade c.args.bound c.args.column c.args.place c.args.leaving c.turn_planned.new.lines.items) (λ done. done ≡ false → LinesHaveNoRoom c.args.bound c.args.column c.args.place c.args.leaving c.turn_apart.new.lines.items) c.turn_apart.result
+    (λ _ same none no. subst (LinesHaveNoRoom c.args.bound c.args.column c.args.place c.args.leaving) (sym (same no)) (record { factors = c.in_ok-planned.ensures.none c.if-planned.false; made = none no })) c.turn_apart.ensures.same c.turn_apart.ensures.none

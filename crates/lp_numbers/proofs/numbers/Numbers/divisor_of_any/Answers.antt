@@ -3,7 +3,7 @@ use Rattle.std.specs.Int.{◌∣◌, w128}
 use Rattle.std.proofs.Math.Nat.{one-dvd, dvd_trans, dvd-zero}
 use Rattle.std.proofs.lemmas.Int.{to_z-of_z}
 use Rattle.std.proofs.lemmas.Bool.{cases_lt}
-use Rattle.gq_number.proofs.Gcd.{gcd_pos, gcd-dvd_left, gcd-dvd_right}
+use Rattle.gq_number.proofs.Gcd.{gcd_pos, gcd-dvd_left, gcd-dvd_right, dvd-gcd}
 use Rattle.lp_numbers.specs.Lines.{whole_at}
 use Rattle.lp_numbers.proofs.Lines.{whole_past}
 use Rattle.lp_numbers.proofs.numbers.Numbers.divisor_of_any.Goals as goal
@@ -25,6 +25,7 @@ loop-place-preserved c =
       subst (λ g. g ∣ c.args.denominator) (sym is) (dvd_trans _ (gcd-dvd_right m c.loop-place.divisor) old.1),
       below_more _ _ (λ k less. subst (λ g. g ∣ nat_abs (whole_at c.args.self.now k)) (sym is) (dvd_trans _ (gcd-dvd_right m c.loop-place.divisor) (old.2 k less)))
           (subst (λ t. c.gcd-divisor.result ∣ t) m_is (subst (λ g. g ∣ m) (sym is) (gcd-dvd_left m c.loop-place.divisor))),
+      λ k of_denominator of_all. subst (λ g. k ∣ g) (sym is) (dvd-gcd k m c.loop-place.divisor (subst (λ t. k ∣ t) (sym m_is) (of_all c.loop-place.place)) (old.3 k of_denominator of_all)),
     )
 
 pub returns-clause-numbers : goal.returns-clause-numbers
@@ -33,3 +34,9 @@ returns-clause-numbers c = λ v.
       | inl less ↦ c.loop-place.invariant.2 v less
       | inr more ↦ subst (λ z. c.loop-place.divisor ∣ nat_abs z) (sym (whole_past c.args.self.now v (omega arith))) (dvd-zero c.loop-place.divisor)
     ]
+
+pub returns-then-divisor-eq1-clause-greatest : goal.returns-then-divisor-eq1-clause-greatest
+returns-then-divisor-eq1-clause-greatest c = λ k of_denominator of_all. subst (λ g. k ∣ g) c.if-divisor-eq1.true (c.loop-place.invariant.3 k of_denominator of_all)
+
+pub returns-clause-greatest : goal.returns-clause-greatest
+returns-clause-greatest c = c.loop-place.invariant.3

@@ -11,6 +11,7 @@ returns-clause-line c =
       numbers_within = λ k. subst (λ l. nat_abs (whole_at l k) ≤ c.greatest-most.result) (c.as_slice.ensures.value ∙ sym c.in_ok-numbers.ensures) (c.greatest-most.ensures.within k);
       denominator_within = c.greatest-most.ensures.above;
       small = omega arith;
+      marked = λ k clear. absurd (c.everywhere.ensures k clear);
     }
 
 pub of-requires : goal.of-requires

@@ -1,4 +1,4 @@
-use Rattle.std.proofs.Common.{◌≤◌, ◌<◌, ◌^◌, ◌-◌, nat_abs, sym, subst, arith}
+use Rattle.std.proofs.Common.{◌≤◌, ◌^◌, ◌-◌, sym, ap, ◌∙◌, subst, arith}
 use Rattle.lp_numbers.specs.Lines.{whole_at, AreWithin}
 use Rattle.lp_whole.proofs.line.Line.of_words.Goals as goal
 
@@ -12,4 +12,5 @@ returns-clause-line c =
       numbers_within = λ k. let here = c.greatest-greatest.ensures.within k in omega arith;
       denominator_within = omega arith;
       small = omega arith;
+      marked = λ k clear. ap (λ l. whole_at l k) c.of_words-numbers.ensures ∙ c.requires.marked k clear;
     }

@@ -1,0 +1,53 @@
+//! Marks on the columns of a line, by which a column without a number is known unread.
+ghost use Rattle.std.specs.Prelude.{◌≡◌, ◌≢◌, ℕ, false};
+ghost use Rattle.lp_whole.specs.Marks.{IsClear};
+
+/// Which columns of a line may have a number other than 0: one mark for all columns with one remainder by 64.
+#[derive(Clone, Copy)]
+pub(crate) struct Marks {
+    pub(crate) bits: u64,
+}
+
+impl Marks {
+    /// No marks.
+    pub(crate) fn nowhere() -> Marks {
+        Marks { bits: 0 }
+    }
+
+    /// Marks on all columns.
+    pub(crate) fn everywhere() -> Marks
+        ensures { (c : ℕ) → ¬ (IsClear result c) }
+    {
+        Marks { bits: u64::MAX }
+    }
+
+    /// Whether there is a mark on a column.
+    #[inline(always)]
+    pub(crate) fn includes(self, column: usize) -> bool
+        ensures { result ≡ false → IsClear self column }
+    {
+        let place = (column % 64) as u32;
+        (self.bits >> place) % 2 != 0
+    }
+
+    /// These marks and others.
+    pub(crate) fn joined(self, others: Marks) -> Marks
+        ensures own { (c : ℕ) → IsClear result c → IsClear self c }
+        ensures others { (c : ℕ) → IsClear result c → IsClear others c }
+    {
+        Marks {
+            bits: self.bits | others.bits,
+        }
+    }
+
+    /// These marks and one on a column.
+    pub(crate) fn and_at(self, column: usize) -> Marks
+        ensures own { (c : ℕ) → IsClear result c → IsClear self c }
+        ensures column { (c : ℕ) → IsClear result c → c ≢ column }
+    {
+        let place = (column % 64) as u32;
+        Marks {
+            bits: self.bits | 1 << place,
+        }
+    }
+}
