@@ -1,5 +1,7 @@
 mod Faultless
+mod Forms
 mod Lines
+mod Parts
 mod PlainWords
 mod Rows
 mod Sizes

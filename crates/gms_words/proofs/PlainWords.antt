@@ -16,15 +16,15 @@ other : (b : Bool) → not b ≡ true → b ≡ false
 other true e = sym e
 other false e = refl
 
-no_dashes : (word : Text) → is_plain word ≡ true → bytes_eq word (45 ∷ 45 ∷ []) ≡ false
+pub no_dashes : (word : Text) → is_plain word ≡ true → bytes_eq word (45 ∷ 45 ∷ []) ≡ false
 no_dashes [] plain = refl
 no_dashes (b ∷ word) plain = rw (other (b == 45) plain) refl
 
-no_long : (word : Text) → is_plain word ≡ true → long_of word ≡ None
+pub no_long : (word : Text) → is_plain word ≡ true → long_of word ≡ None
 no_long [] plain = refl
 no_long (b ∷ word) plain = rw (other (b == 45) plain) refl
 
-no_short : (word : Text) → is_plain word ≡ true → short_of word ≡ None
+pub no_short : (word : Text) → is_plain word ≡ true → short_of word ≡ None
 no_short [] plain = refl
 no_short (b ∷ word) plain = rw (other (b == 45) plain) refl
 
@@ -38,7 +38,7 @@ passes s word h plain =
     ap₂ (λ (d : Bool) (l : Option (Text × Option Text)). d || flag_word_passes s.rules s.args_override_self l word h) (no_dashes word plain) (no_long word plain) ∙ ap (λ (o : Option Text). option_map_or (λ flags. bundle_passes s.rules s.args_override_self flags h) o true) (no_short word plain)
 
 -- the command as it is built
-abbrev shape : Shape
+abbrev pub shape : Shape
 shape = (built gams25).top
 
 turn : (word : Text) → is_plain word ≡ true → turn_passes shape [] (walk_from nothing_held) word ≡ true

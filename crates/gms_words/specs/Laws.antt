@@ -1,12 +1,138 @@
--- What words of a plain form mean.
-use Rattle.std.specs.Prelude.{◌≡◌, ℕ, ◌==◌, Bool, true, false, not, List, [], ◌∷◌, Some, None}
-use Rattle.gms_words.specs.CommandLine.{in_file, output_name, request_of}
+-- What words that are written part by part request.
+use Rattle.std.specs.Prelude.{◌≡◌, ◌&&◌, ℕ, ◌==◌, Bool, true, false, not, if◌then◌else◌, List, [], ◌∷◌, ◌++◌, find, codes, Option, Some, None, option_map}
+use Rattle.std.specs.List.{list_all, list_any}
+use Rattle.std.specs.Str.{bytes_eq}
+use Rattle.gms_words.specs.CommandLine.{Asked, asked, generated, in_file, origin_of, output_name, request_of, restarted, size_of}
 
 -- the word does not begin with `-`
 abbrev pub is_plain : List ℕ → Bool
 is_plain [] = true
 is_plain (b ∷ word) = not (b == 45)
 
--- one such word is the name of a file, the output is named after it, nothing is saved, and no ranges are said
+-- ---- parts of the words
+
+-- an option with a value
+pub data Valued : Type 0 where
+  out_option : Valued
+  save_option : Valued
+  restart_option : Valued
+  generate_option : Valued
+
+-- a part of the words: the name of a FILE, an option with its value in the next word, or the flag
+-- `--ranges`
+pub data Part : Type 0 where
+  file_name : List ℕ → Part
+  option_with : Valued → List ℕ → Part
+  ranges_flag : Part
+
+-- the name of an option, as it is written after `--`
+abbrev pub option_name : Valued → List ℕ
+option_name out_option = codes "out"
+option_name save_option = codes "save"
+option_name restart_option = codes "restart"
+option_name generate_option = codes "generate"
+
+-- what a part names: FILE, an option, or the flag
+abbrev pub part_name : Part → List ℕ
+part_name (file_name file) = codes "file"
+part_name (option_with option value) = option_name option
+part_name ranges_flag = codes "ranges"
+
+-- the value that a part has: the file, the value of the option, or `true`
+abbrev pub part_value : Part → List ℕ
+part_value (file_name file) = file
+part_value (option_with option value) = value
+part_value ranges_flag = codes "true"
+
+-- the words of a part
+abbrev pub words_of : Part → List (List ℕ)
+words_of (file_name file) = file ∷ []
+words_of (option_with option value) = (codes "--" ++ option_name option) ∷ value ∷ []
+words_of ranges_flag = codes "--ranges" ∷ []
+
+-- the words of all parts, in their order
+abbrev pub all_words : List Part → List (List ℕ)
+all_words [] = []
+all_words (part ∷ parts) = words_of part ++ all_words parts
+
+-- no file's name and no value begins with `-`
+abbrev pub are_plain : List Part → Bool
+are_plain parts = list_all (λ part. is_plain (part_value part)) parts
+
+-- ---- what they request
+
+-- a part has this name
+abbrev pub has_part : List ℕ → List Part → Bool
+has_part name parts = list_any (λ part. bytes_eq (part_name part) name) parts
+
+-- no part has the name of one before it, nor of these
+abbrev pub differ_from : List Part → List Part → Bool
+differ_from before [] = true
+differ_from before (part ∷ parts) = not (has_part (part_name part) before) && differ_from (before ++ part ∷ []) parts
+
+-- each part is given once
+abbrev pub are_once : List Part → Bool
+are_once parts = differ_from [] parts
+
+-- the value that is given to a name
+abbrev pub value_given : List ℕ → List Part → Option (List ℕ)
+value_given name parts = option_map part_value (find (λ part. bytes_eq (part_name part) name) parts)
+
+-- what the parts request, where each is given once: the source of FILE, `--restart` and
+-- `--generate`; the output of `--out`, or else of the source; the save of `--save`; and the ranges,
+-- where `--ranges` is there
+abbrev pub requested : List Part → Option Asked
+requested parts =
+    option_map (asked (has_part (codes "ranges") parts) (value_given (codes "save") parts) (value_given (codes "out") parts)) (origin_of (value_given (codes "file") parts) (value_given (codes "generate") parts) (value_given (codes "restart") parts))
+
+-- The words request what their parts request, in whatever order the parts are; they are refused
+-- where a part is given twice.
+abbrev pub IsByParts : Type 0
+IsByParts = (parts : List Part) → are_plain parts ≡ true → request_of (all_words parts) ≡ (if are_once parts then requested parts else None)
+
+-- ---- single forms
+
+-- what a FILE alone requests: its run, whose output is named after it; nothing is saved, and no
+-- ranges are printed
+abbrev pub run_of : List ℕ → Asked
+run_of file = record { source = in_file file; output = output_name file; save = None; ranges = false }
+
+-- what `--generate` alone requests: the run of the model of a size
+abbrev pub run_of_model : ℕ → Asked
+run_of_model size = record { source = generated size; output = codes "generate.lst"; save = None; ranges = false }
+
+-- a FILE alone
 abbrev pub IsFile : Type 0
-IsFile = (file : List ℕ) → is_plain file ≡ true → request_of (file ∷ []) ≡ Some (record { source = in_file file; output = output_name file; save = None; ranges = false })
+IsFile = (file : List ℕ) → is_plain file ≡ true → request_of (file ∷ []) ≡ Some (run_of file)
+
+-- `--out` names the output
+abbrev pub IsOut : Type 0
+IsOut = (name file : List ℕ) → is_plain name ≡ true → is_plain file ≡ true → request_of (codes "--out" ∷ name ∷ file ∷ []) ≡ Some (record (run_of file) { output = name })
+
+-- `--save` names the file for the last state
+abbrev pub IsSave : Type 0
+IsSave = (name file : List ℕ) → is_plain name ≡ true → is_plain file ≡ true → request_of (codes "--save" ∷ name ∷ file ∷ []) ≡ Some (record (run_of file) { save = Some name })
+
+-- `--restart` names the saved state from which FILE resumes
+abbrev pub IsRestart : Type 0
+IsRestart = (saved file : List ℕ) → is_plain saved ≡ true → is_plain file ≡ true → request_of (codes "--restart" ∷ saved ∷ file ∷ []) ≡ Some (record (run_of file) { source = restarted saved file })
+
+-- `--ranges` requests ranges
+abbrev pub IsRanges : Type 0
+IsRanges = (file : List ℕ) → is_plain file ≡ true → request_of (codes "--ranges" ∷ file ∷ []) ≡ Some (record (run_of file) { ranges = true })
+
+-- `--generate` requests the model of a size, and is refused where its value is no size
+abbrev pub IsGenerate : Type 0
+IsGenerate = (text : List ℕ) → is_plain text ≡ true → request_of (codes "--generate" ∷ text ∷ []) ≡ option_map run_of_model (size_of text)
+
+-- no words are refused
+abbrev pub IsRefusedEmpty : Type 0
+IsRefusedEmpty = request_of [] ≡ None
+
+-- a FILE beside `--generate` is refused, and so is `--restart` beside it
+abbrev pub IsRefusedBesideGenerate : Type 0
+IsRefusedBesideGenerate = (text other : List ℕ) → is_plain text ≡ true → is_plain other ≡ true → (request_of (codes "--generate" ∷ text ∷ other ∷ []) ≡ None) × (request_of (codes "--generate" ∷ text ∷ codes "--restart" ∷ other ∷ []) ≡ None)
+
+-- two FILEs, or an option given twice, are refused, whatever stands before, between and after them
+abbrev pub IsRefusedTwice : Type 0
+IsRefusedTwice = (before between after : List Part) (one other : Part) → part_name one ≡ part_name other → are_plain (before ++ one ∷ (between ++ other ∷ after)) ≡ true → request_of (all_words (before ++ one ∷ (between ++ other ∷ after))) ≡ None

@@ -1,6 +1,7 @@
 //! The words of the command line, what they ask for, and what is said on standard output.
-ghost use Rattle.std.specs.Prelude.{◌≡◌, false, IfOk, string_bytes, option_map, codes};
+ghost use Rattle.std.specs.Prelude.{◌≡◌, false, IfOk, IfSome, string_bytes, option_map, codes};
 ghost use Rattle.clap.specs.Words.{app_of, found_of, rows_of, rule_of};
+ghost use Rattle.gms_words.specs.Laws.{is_plain};
 ghost use Rattle.gms_words.specs.CommandLine.{texts, flag, with_source, with_values, gams25, rows_taken, size_of, origin_of, is_given, request_in, request_of, origin, asked_by, output_name, usage_line, read_fault_line, generated_line, closing_line, ranges_line, range_line, not_shown_line};
 
 use clap::error::ErrorKind;
@@ -153,11 +154,36 @@ fn request_in<'a>(matches: &ArgMatches<'a>) -> Option<Request<'a>>
     })
 }
 
+/// Whether a word does not begin with `-`.
+fn is_plain(word: &str) -> bool
+    ensures { result ≡ is_plain word.now }
+{
+    !matches!(word.as_bytes(), [b'-', ..])
+}
+
+/// What one word that does not begin with `-` asks for: a run of the file of this name. The command need not be made for it.
+fn request_of_file<'a>(words: &'a [String]) -> Option<Request<'a>>
+    ensures { IfSome result (λ request. request_of (texts words.now) ≡ Some (asked_by request)) }
+{
+    match words {
+        [file] if is_plain(file) => Some(Request {
+            source: Source::File(file),
+            out: None,
+            save: None,
+            ranges: false,
+        }),
+        _ => None,
+    }
+}
+
 /// What the words ask for. They are refused where there is `None`: where the command does not take them, they name not exactly
 /// one source, the value of `--generate` is no number from 1 to 30 in plain digits, or a generated model is to go on from a saved state.
 pub fn request_of<'a>(alloc: Global, words: &'a [String]) -> Result<Option<Request<'a>>, AllocError>
     ensures { IfOk result (λ request. option_map asked_by request ≡ request_of (texts words.now)) }
 {
+    if let Some(request) = request_of_file(words) {
+        return Ok(Some(request));
+    }
     match found_in(alloc, words)? {
         Some(matches) => Ok(request_in(&matches)),
         None => Ok(None),

@@ -1,8 +1,24 @@
-//! What words of a plain form mean.
-ghost use Rattle.gms_words.specs.Laws.{IsFile};
+//! What words that are written part by part request.
+ghost use Rattle.gms_words.specs.Laws.{IsByParts, IsFile, IsOut, IsSave, IsRestart, IsRanges, IsGenerate, IsRefusedEmpty, IsRefusedBesideGenerate, IsRefusedTwice};
 
-/// One word that does not begin with `-` is the name of a file, the output is named after it, nothing is saved, and no ranges
-/// are said.
+/// What words request that are written part by part: the name of a FILE, an option with its value
+/// in the next word, and `--ranges`.
+///
+/// They request what their parts say, in whatever order the parts are, and are refused where a part
+/// is given twice (`parts`). So a FILE alone is run with the output named after it, nothing saved,
+/// and no ranges (`file`); and each option changes what it says (`out`, `save`, `restart`,
+/// `ranges`, `generate`). No words are refused (`empty`), a FILE or `--restart` beside `--generate`
+/// is (`beside_generate`), and two FILEs or an option given twice are, wherever they are (`twice`).
+/// No file's name and no value of an option begins with `-` here.
 pub fn words_laws()
-    ensures { IsFile }
+    ensures parts { IsByParts }
+    ensures file { IsFile }
+    ensures out { IsOut }
+    ensures save { IsSave }
+    ensures restart { IsRestart }
+    ensures ranges { IsRanges }
+    ensures generate { IsGenerate }
+    ensures empty { IsRefusedEmpty }
+    ensures beside_generate { IsRefusedBesideGenerate }
+    ensures twice { IsRefusedTwice }
 {}
