@@ -2,20 +2,20 @@
 use Rattle.std.proofs.Common.{◌≡◌, ℕ, List, [], ◌∷◌, map, refl, ap, ◌∙◌}
 use Rattle.std.specs.Prelude.{codes}
 use Rattle.lp_core.specs.declared.answer.Pivot.{Pivot}
-use Rattle.lp_core.specs.declared.answer.Rule.{Rule}
-use Rattle.lp_core.specs.declared.answer.Rule.TheVariants.{Bland, Legal}
+use Rattle.lp_slot.specs.declared.solver.SolverRule.{SolverRule}
+use Rattle.lp_slot.specs.declared.solver.SolverRule.TheVariants.{Bland, LargestCoefficient, Turning, Legal}
 use Rattle.gms_run.specs.Solving.{seen}
 use Rattle.gms25.specs.Program.{lent}
 
 -- What one solver tells.
-pub record Tells {S : Type 0} (name : S → List ℕ) (rule : S → Rule) (paths : S → List (List Pivot)) (solver : S) (its_name : List ℕ) (its_rule : Rule) : Type 0 where
+pub record Tells {S : Type 0} (name : S → List ℕ) (rule : S → SolverRule) (paths : S → List (List Pivot)) (solver : S) (its_name : List ℕ) (its_rule : SolverRule) : Type 0 where
   pub named : name solver ≡ its_name
   pub ruled : rule solver ≡ its_rule
   pub unused : paths solver ≡ []
 
 -- four solvers that tell so are those of the program
-pub are_lent : {S : Type 0} (name : S → List ℕ) (rule : S → Rule) (paths : S → List (List Pivot)) (solvers : List S) (first second third fourth : S) → solvers ≡ first ∷ second ∷ third ∷ fourth ∷ [] →
-    Tells name rule paths first (codes "bland") Bland → Tells name rule paths second (codes "dantzig") Legal → Tells name rule paths third (codes "steepest") Legal → Tells name rule paths fourth (codes "any") Legal → seen name rule paths solvers ≡ lent
+pub are_lent : {S : Type 0} (name : S → List ℕ) (rule : S → SolverRule) (paths : S → List (List Pivot)) (solvers : List S) (first second third fourth : S) → solvers ≡ first ∷ second ∷ third ∷ fourth ∷ [] →
+    Tells name rule paths first (codes "bland") Bland → Tells name rule paths second (codes "dantzig") LargestCoefficient → Tells name rule paths third (codes "steepest") Turning → Tells name rule paths fourth (codes "any") Legal → seen name rule paths solvers ≡ lent
 are_lent name rule paths solvers first second third fourth same p q r s =
     ap (seen name rule paths) same ∙ rw (p.named, p.ruled, p.unused, q.named, q.ruled, q.unused, r.named, r.ruled, r.unused, s.named, s.ruled, s.unused) refl
 

@@ -10,7 +10,7 @@ use Rattle.std.specs.declared.io.Error.{Error}
 use Rattle.std.specs.declared.io.ErrorKind.TheVariants.{InvalidData}
 use Rattle.gms_host.specs.Meaning.{Meaning}
 use Rattle.gms_words.specs.CommandLine.{texts, request_of}
-use Rattle.lp_core.specs.declared.answer.Rule.TheVariants.{Bland, Legal}
+use Rattle.lp_slot.specs.declared.solver.SolverRule.TheVariants.{Bland, LargestCoefficient, Turning, Legal}
 use Rattle.gms_run.specs.Solving.{Solvers, Solving}
 use Rattle.gms_run.specs.Jobs.{status_code}
 use Rattle.gms_run.specs.Statuses.{CountsSo, EndsByNoFault, IsReadyFor, IsRun, MeetsNoFault, NamesProgram}
@@ -32,7 +32,7 @@ abbrev pub lent : Solvers
 lent =
     record {
       names = codes "bland" ∷ codes "dantzig" ∷ codes "steepest" ∷ codes "any" ∷ [];
-      rules = Bland ∷ Legal ∷ Legal ∷ Legal ∷ [];
+      rules = Bland ∷ LargestCoefficient ∷ Turning ∷ Legal ∷ [];
       paths = [] ∷ [] ∷ [] ∷ [] ∷ [];
     }
 

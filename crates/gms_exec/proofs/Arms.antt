@@ -13,7 +13,7 @@ use Rattle.gms_event.specs.declared.event.Event.{Event}
 use Rattle.gms_event.specs.declared.event.Event.TheVariants as event
 use Rattle.lp_core.specs.declared.answer.Answer.{Answer}
 use Rattle.lp_core.specs.declared.answer.Pivot.{Pivot}
-use Rattle.lp_core.specs.declared.answer.Rule.{Rule}
+use Rattle.lp_slot.specs.declared.solver.SolverRule.{SolverRule}
 use Rattle.lp_core.specs.Numbers.{answer_numbers}
 use Rattle.gms_exec.specs.Answering.{IsAnswered, AreAnswered}
 use Rattle.gms_exec.specs.Run.{Course, stopped_by, with_value, with_event, in_state}
@@ -116,7 +116,7 @@ module _ {F : Type 0} (value : F → Number) where
 pub no-solve_nothing : {F : Type 0} (old new : List (Event F)) → new ≡ old → ShowsNoSolve old new
 no-solve_nothing old new e = record { shown = []; events = e ∙ sym (append-nil old); quiet = tt }
 
-module _ {F : Type 0} (value : F → Number) (limit : ℕ) (rules : List Rule) (answers : List (Answer F)) where
+module _ {F : Type 0} (value : F → Number) (limit : ℕ) (rules : List SolverRule) (answers : List (Answer F)) where
   quiet-answered : (shown : List (Event F)) → HasNoSolve shown → AreAnswered value limit rules answers (events_in value shown)
   quiet-answered [] quiet = All-nil (IsAnswered value limit rules answers)
   quiet-answered (event.Display line items ∷ shown) quiet = All-cons (IsAnswered value limit rules answers) (event_in value (event.Display line items)) (events_in value shown) tt (quiet-answered shown quiet)
@@ -131,7 +131,7 @@ quiet-paths k answers (event.Solve line model equations lp answer solver setting
 quiet-paths k answers (event.Abort line items ∷ shown) quiet = quiet-paths k answers shown quiet
 quiet-paths k answers (event.Fault stop ∷ shown) quiet = quiet-paths k answers shown quiet
 
-module _ {S F : Type 0} (value : F → Number) (limit : ℕ) (name : S → List ℕ) (rule : S → Rule) (paths : S → List (List Pivot)) where
+module _ {S F : Type 0} (value : F → Number) (limit : ℕ) (name : S → List ℕ) (rule : S → SolverRule) (paths : S → List (List Pivot)) where
   -- a call that asked no solver
   pub answered-quiet : (solvers : List S) (old new : Seen F) → ShowsNoSolve old.events new.events → Answered value limit name rule paths solvers solvers old new
   answered-quiet solvers old new shows =

@@ -12,7 +12,7 @@ use Rattle.gms_event.specs.declared.event.Event.{Event}
 use Rattle.gms_event.specs.declared.event.Event.TheVariants as event
 use Rattle.lp_core.specs.declared.answer.Answer.{Answer}
 use Rattle.lp_core.specs.declared.answer.Pivot.{Pivot}
-use Rattle.lp_core.specs.declared.answer.Rule.{Rule}
+use Rattle.lp_slot.specs.declared.solver.SolverRule.{SolverRule}
 use Rattle.lp_core.specs.Numbers.{answer_numbers}
 use Rattle.gms_exec.specs.Answering.{IsAnswered, AreAnswered}
 use Rattle.gms_exec.specs.Run.{Course, Halt, stopped, stopped_by, while_it_runs, OfStatement, one_after_another, for_each}
@@ -130,7 +130,7 @@ paths-both {F} k answers (event.Solve line model equations lp answer solver sett
 paths-both k answers (event.Abort line items ∷ first) second = paths-both k answers first second
 paths-both k answers (event.Fault stop ∷ first) second = paths-both k answers first second
 
-module _ {F : Type 0} (value : F → Number) (limit : ℕ) (rules : List Rule) (answers fresh : List (Answer F)) where
+module _ {F : Type 0} (value : F → Number) (limit : ℕ) (rules : List SolverRule) (answers fresh : List (Answer F)) where
   -- what is answered stays so behind further answers
   still-answered : (e : means.Event) → IsAnswered value limit rules answers e → IsAnswered value limit rules (answers ++ fresh) e
   still-answered (means.displays line items) is = tt
@@ -158,7 +158,7 @@ grown-both : (paths : Option (List (List Pivot))) (first second : List (List Piv
 grown-both None first second = refl
 grown-both (Some before) first second = ap Some (append_assoc before first second)
 
-module _ {S F : Type 0} (value : F → Number) (limit : ℕ) (name : S → List ℕ) (rule : S → Rule) (paths : S → List (List Pivot)) where
+module _ {S F : Type 0} (value : F → Number) (limit : ℕ) (name : S → List ℕ) (rule : S → SolverRule) (paths : S → List (List Pivot)) where
   -- a call that shows nothing and asks no solver
   pub answered-nothing : (solvers : List S) (seen : Seen F) → Answered value limit name rule paths solvers solvers seen seen
   answered-nothing solvers seen =

@@ -10,7 +10,7 @@ use Rattle.gms_eval.specs.declared.stop.StopOrMemory.{StopOrMemory}
 use Rattle.gms_eval.specs.declared.stop.StopOrMemory.TheVariants.{Memory, Stop}
 use Rattle.lp_core.specs.declared.answer.Answer.{Answer}
 use Rattle.lp_core.specs.declared.answer.Pivot.{Pivot}
-use Rattle.lp_core.specs.declared.answer.Rule.{Rule}
+use Rattle.lp_slot.specs.declared.solver.SolverRule.{SolverRule}
 use Rattle.gms_exec.specs.Dimensions.{AreOneDimensional}
 use Rattle.gms_exec.specs.Run.{Course, OfStatement, one_after_another, for_each, of_statement}
 use Rattle.gms_exec.specs.Standing.{ShowsStanding}
@@ -29,7 +29,7 @@ module _ {F : Type 0} (value : F → Number) (limit : ℕ) (program : Program F)
   abbrev pub step_of : List (List ℕ) → Stmt F → OfStatement
   step_of names s = of_statement value limit (record { program = program; solvers = names }) s
 
-module _ {S F : Type 0} (value : F → Number) (limit : ℕ) (name : S → List ℕ) (rule : S → Rule) (paths : S → List (List Pivot)) (program : Program F) where
+module _ {S F : Type 0} (value : F → Number) (limit : ℕ) (name : S → List ℕ) (rule : S → SolverRule) (paths : S → List (List Pivot)) (program : Program F) where
   -- what a call leaves besides its run
   abbrev pub LeftBy : List S → List S → Seen F → Seen F → Type 0
   LeftBy old_solvers new_solvers old new = Left value limit name rule paths program.statements.items old_solvers new_solvers old new

@@ -24,7 +24,7 @@ use Rattle.gms_rows.specs.Rows.{equations_of}
 use Rattle.gms_rows.specs.ProgramLp.{program_lp}
 use Rattle.lp_core.specs.declared.answer.Answer.{Answer}
 use Rattle.lp_core.specs.declared.answer.Pivot.{Pivot}
-use Rattle.lp_core.specs.declared.answer.Rule.{Rule}
+use Rattle.lp_slot.specs.declared.solver.SolverRule.{SolverRule}
 use Rattle.lp_core.specs.declared.program.Lp.{Lp}
 use Rattle.lp_core.specs.Numbers.{lp_numbers, end_numbers, answer_numbers}
 use Rattle.lp_core.specs.WellFormed.{IsWellFormed}
@@ -60,7 +60,7 @@ grown-one old new x e = record { fresh = x ∷ []; is = e }
 
 module _ {F : Type 0} (value : F → Number) (limit : ℕ) where
   -- what was read of the settings before is what a solve says of them
-  pub solves-of : (names : List (List ℕ)) (rules : List Rule) (old_paths new_paths : List (List (List Pivot))) (line model : ℕ) (equations : List ℕ) (objective : ℕ) (lp : Lp F) (old new : Seen F) (settings : Settings) (answer : Answer F) (solver : List ℕ) → settings ≡ old.state.settings → AnswersAt value limit rules settings.solver lp settings.iterlim answer → solver ≡ slice_index_or names settings.solver [] → new.state ≡ after_end old.state model (lp_numbers value lp) (end_numbers value answer.end) → ((k : ℕ) → slice_get new_paths k ≡ option_map (λ before. before ++ path_at settings.solver answer.pivots k) (slice_get old_paths k)) → ShowsSolve value (record { line = line; model = model; equations = equations; objective = objective; lp = lp; answer = answer; solver = solver; settings = settings }) new.state old.answers new.answers old.events new.events → Solves value limit names rules old_paths new_paths line model equations objective lp old new
+  pub solves-of : (names : List (List ℕ)) (rules : List SolverRule) (old_paths new_paths : List (List (List Pivot))) (line model : ℕ) (equations : List ℕ) (objective : ℕ) (lp : Lp F) (old new : Seen F) (settings : Settings) (answer : Answer F) (solver : List ℕ) → settings ≡ old.state.settings → AnswersAt value limit rules settings.solver lp settings.iterlim answer → solver ≡ slice_index_or names settings.solver [] → new.state ≡ after_end old.state model (lp_numbers value lp) (end_numbers value answer.end) → ((k : ℕ) → slice_get new_paths k ≡ option_map (λ before. before ++ path_at settings.solver answer.pivots k) (slice_get old_paths k)) → ShowsSolve value (record { line = line; model = model; equations = equations; objective = objective; lp = lp; answer = answer; solver = solver; settings = settings }) new.state old.answers new.answers old.events new.events → Solves value limit names rules old_paths new_paths line model equations objective lp old new
   solves-of names rules old_paths new_paths line model equations objective lp old new settings answer solver e is_answer named after paths shows =
       record {
         answer = answer;
@@ -72,7 +72,7 @@ module _ {F : Type 0} (value : F → Number) (limit : ℕ) where
             (subst (λ (n : List ℕ). ShowsSolve value (record { line = line; model = model; equations = equations; objective = objective; lp = lp; answer = answer; solver = n; settings = settings }) new.state old.answers new.answers old.events new.events) named shows);
       }
 
-  module _ (names : List (List ℕ)) (rules : List Rule) (old_paths new_paths : List (List (List Pivot))) (at : Place) (model : ℕ) (equations : List ℕ) (objective : ℕ) (lp : Lp F) (old new : Seen F) (is : Solves value limit names rules old_paths new_paths at.line model equations objective lp old new) where
+  module _ (names : List (List ℕ)) (rules : List SolverRule) (old_paths new_paths : List (List (List Pivot))) (at : Place) (model : ℕ) (equations : List ℕ) (objective : ℕ) (lp : Lp F) (old new : Seen F) (is : Solves value limit names rules old_paths new_paths at.line model equations objective lp old new) where
     -- the event that was shown
     abbrev shown_event : Event F
     shown_event = event.Solve at.line model equations lp (length old.answers) (slice_index_or names old.state.settings.solver []) old.state.settings is.shows.level
@@ -130,7 +130,7 @@ module _ {F : Type 0} (value : F → Number) (limit : ℕ) where
         sym (append-nil (path_at old.state.settings.solver is.answer.pivots k))
         ∙ ap (λ (o : Option (Answer F)). cond (old.state.settings.solver == k) (option_to_list (option_map (λ (a : Answer F). a.pivots) o)) [] ++ []) (sym answer-stands)
 
-    module _ {S : Type 0} (name : S → List ℕ) (rule : S → Rule) (paths : S → List (List Pivot)) (old_solvers new_solvers : List S) where
+    module _ {S : Type 0} (name : S → List ℕ) (rule : S → SolverRule) (paths : S → List (List Pivot)) (old_solvers new_solvers : List S) where
       pub solves-answered : rules ≡ map rule old_solvers → old_paths ≡ map paths old_solvers → new_paths ≡ map paths new_solvers → map name new_solvers ≡ map name old_solvers → map rule new_solvers ≡ map rule old_solvers → Answered value limit name rule paths old_solvers new_solvers old new
       solves-answered are old_are new_are same_names same_rules =
           record {

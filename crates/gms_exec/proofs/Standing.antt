@@ -7,11 +7,11 @@ use Rattle.gms_event.specs.declared.event.Event.{Event}
 use Rattle.gms_event.specs.declared.event.Event.TheVariants as event
 use Rattle.gms_event.specs.EventView.{event_in, events_in}
 use Rattle.lp_core.specs.declared.answer.Answer.{Answer}
-use Rattle.lp_core.specs.declared.answer.Rule.{Rule}
+use Rattle.lp_slot.specs.declared.solver.SolverRule.{SolverRule}
 use Rattle.gms_exec.specs.Answering.{AreAnswered, IsAnswered}
 use Rattle.gms_exec.specs.Standing.{IsStanding}
 
-module _ {F : Type 0} (value : F → Number) (limit : ℕ) (rules : List Rule) (answers : List (Answer F)) where
+module _ {F : Type 0} (value : F → Number) (limit : ℕ) (rules : List SolverRule) (answers : List (Answer F)) where
   -- an event that stands is answered
   one_answered : (e : Event F) → IsStanding value limit rules answers e → IsAnswered value limit rules answers (event_in value e)
   one_answered (event.Display line items) is = tt

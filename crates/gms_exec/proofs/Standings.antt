@@ -7,11 +7,11 @@ use Rattle.gms_event.specs.declared.event.Event.{Event}
 use Rattle.gms_event.specs.declared.event.Event.TheVariants as event
 use Rattle.gms_event.specs.declared.event.Shown.{Shown}
 use Rattle.lp_core.specs.declared.answer.Answer.{Answer}
-use Rattle.lp_core.specs.declared.answer.Rule.{Rule}
+use Rattle.lp_slot.specs.declared.solver.SolverRule.{SolverRule}
 use Rattle.gms_exec.specs.Standing.{IsStanding, ShowsStanding}
 use Rattle.gms_exec.proofs.Joining.{get-front, behind-both}
 
-module _ {F : Type 0} (value : F → Number) (limit : ℕ) (rules : List Rule) where
+module _ {F : Type 0} (value : F → Number) (limit : ℕ) (rules : List SolverRule) where
   -- where nothing was shown
   pub standing-nothing : (answers : List (Answer F)) (old new : List (Event F)) → new ≡ old → ShowsStanding value limit rules answers old new
   standing-nothing answers old new e = record { shown = []; events = e ∙ sym (append-nil old); standing = All-nil (IsStanding value limit rules answers) }

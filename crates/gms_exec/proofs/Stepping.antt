@@ -4,14 +4,14 @@ use Rattle.gq_number.specs.Number.{Number}
 use Rattle.gms_ast.specs.declared.program.Stmt.{Stmt}
 use Rattle.lp_core.specs.declared.answer.Answer.{Answer}
 use Rattle.lp_core.specs.declared.answer.Pivot.{Pivot}
-use Rattle.lp_core.specs.declared.answer.Rule.{Rule}
+use Rattle.lp_slot.specs.declared.solver.SolverRule.{SolverRule}
 use Rattle.gms_exec.specs.Standing.{ShowsStanding}
 use Rattle.gms_exec.specs.Stepping.{Seen, Answered}
 use Rattle.gms_exec.proofs.Joining.{answered-nothing, answered-both}
 use Rattle.gms_exec.proofs.Keeping.{Keeps}
 use Rattle.gms_exec.proofs.Standings.{standing-nothing, standing-both}
 
-module _ {S F : Type 0} (value : F → Number) (limit : ℕ) (name : S → List ℕ) (rule : S → Rule) (paths : S → List (List Pivot)) (statements : List (Stmt F)) where
+module _ {S F : Type 0} (value : F → Number) (limit : ℕ) (name : S → List ℕ) (rule : S → SolverRule) (paths : S → List (List Pivot)) (statements : List (Stmt F)) where
   -- what calls did from an old point to a new one, but for the run: what solvers answered, that what was shown stands, and what is kept
   pub record Left (old_solvers new_solvers : List S) (old new : Seen F) : Type 0 where
     pub answered : Answered value limit name rule paths old_solvers new_solvers old new

@@ -3,28 +3,28 @@ use Rattle.std.specs.Prelude.{◌≡◌, ℕ, List, slice_get, Some, All}
 use Rattle.gq_number.specs.Number.{Number}
 use Rattle.gms_event.specs.Events.{Event, solves}
 use Rattle.lp_core.specs.Numbers.{lp_numbers}
-use Rattle.lp_core.specs.Answers.{IsAnswer}
+use Rattle.lp_slot.specs.Under.{IsAnswerUnder}
 use Rattle.lp_core.specs.declared.answer.Answer.{Answer}
-use Rattle.lp_core.specs.declared.answer.Rule.{Rule}
+use Rattle.lp_slot.specs.declared.solver.SolverRule.{SolverRule}
 use Rattle.lp_core.specs.declared.program.Lp.{Lp}
 use Rattle.gms_event.specs.Events.{Solved}
 
--- Solvers take pivots by these rules. The answer at the place that a solve names is one of its linear program, with at most the pivots of the
--- settings' limit, by the rule of the solver that the settings choose.
-pub record IsSolved {F : Type 0} (value : F → Number) (limit : ℕ) (rules : List Rule) (answers : List (Answer F)) (solved : Solved) : Type 0 where
+-- Solvers give answers by these rules. The answer at the place that a solve names is one of its linear program, with at most the pivots of the
+-- settings' limit, under the rule of the solver that the settings choose.
+pub record IsSolved {F : Type 0} (value : F → Number) (limit : ℕ) (rules : List SolverRule) (answers : List (Answer F)) (solved : Solved) : Type 0 where
   pub lp : Lp F
   pub shows : lp_numbers value lp ≡ solved.lp
   pub answer : Answer F
   pub stands : slice_get answers solved.answer ≡ Some answer
-  pub rule : Rule
+  pub rule : SolverRule
   pub chosen : slice_get rules solved.settings.solver ≡ Some rule
-  pub is_answer : IsAnswer value limit lp solved.settings.iterlim rule answer
+  pub is_answer : IsAnswerUnder value limit lp solved.settings.iterlim rule answer
 
 -- an event that is a solve is answered
-abbrev pub IsAnswered : {F : Type 0} → (F → Number) → ℕ → List Rule → List (Answer F) → Event → Type 0
+abbrev pub IsAnswered : {F : Type 0} → (F → Number) → ℕ → List SolverRule → List (Answer F) → Event → Type 0
 IsAnswered value limit rules answers (solves solved) = IsSolved value limit rules answers solved
 IsAnswered value limit rules answers event = Unit {0}
 
 -- each solve among events is answered
-abbrev pub AreAnswered : {F : Type 0} → (F → Number) → ℕ → List Rule → List (Answer F) → List Event → Type 0
+abbrev pub AreAnswered : {F : Type 0} → (F → Number) → ℕ → List SolverRule → List (Answer F) → List Event → Type 0
 AreAnswered value limit rules answers events = All (IsAnswered value limit rules answers) events

@@ -7,9 +7,9 @@ use Rattle.gms_event.specs.declared.event.Event.{Event}
 use Rattle.gms_event.specs.declared.event.Event.TheVariants as event
 use Rattle.lp_core.specs.declared.answer.Answer.{Answer}
 use Rattle.lp_core.specs.declared.answer.Pivot.{Pivot}
-use Rattle.lp_core.specs.declared.answer.Rule.{Rule}
+use Rattle.lp_slot.specs.declared.solver.SolverRule.{SolverRule}
 use Rattle.lp_core.specs.declared.program.Lp.{Lp}
-use Rattle.lp_core.specs.Answers.{IsAnswer}
+use Rattle.lp_slot.specs.Under.{IsAnswerUnder}
 use Rattle.lp_core.specs.Numbers.{lp_numbers, end_numbers}
 use Rattle.gms_exec.specs.Solved.{after_end}
 use Rattle.gms_exec.specs.Stepping.{Seen}
@@ -19,11 +19,11 @@ pub record Grown {A : Type 0} (old new : List A) : Type 0 where
   pub fresh : List A
   pub is : new ≡ old ++ fresh
 
--- Solvers take pivots by these rules; the answer is one of a program by the rule of the solver of a place.
-pub record AnswersAt {F : Type 0} (value : F → Number) (limit : ℕ) (rules : List Rule) (place : ℕ) (lp : Lp F) (iterlim : ℕ) (answer : Answer F) : Type 0 where
-  pub rule : Rule
+-- Solvers give answers by these rules; the answer is one of a program under the rule of the solver of a place.
+pub record AnswersAt {F : Type 0} (value : F → Number) (limit : ℕ) (rules : List SolverRule) (place : ℕ) (lp : Lp F) (iterlim : ℕ) (answer : Answer F) : Type 0 where
+  pub rule : SolverRule
   pub chosen : slice_get rules place ≡ Some rule
-  pub is_answer : IsAnswer value limit lp iterlim rule answer
+  pub is_answer : IsAnswerUnder value limit lp iterlim rule answer
 
 -- the pivots that the solver of a place took for an answer, where it is that solver's
 abbrev pub path_at : ℕ → List Pivot → ℕ → List (List Pivot)
@@ -50,7 +50,7 @@ module _ {F : Type 0} (value : F → Number) where
 
 module _ {F : Type 0} (value : F → Number) (limit : ℕ) where
   -- A linear program was solved: the chosen solver answered it, its answer went into the state, and the solve was shown.
-  pub record Solves (names : List (List ℕ)) (rules : List Rule) (old_paths new_paths : List (List (List Pivot))) (line model : ℕ) (equations : List ℕ) (objective : ℕ) (lp : Lp F) (old new : Seen F) : Type 0 where
+  pub record Solves (names : List (List ℕ)) (rules : List SolverRule) (old_paths new_paths : List (List (List Pivot))) (line model : ℕ) (equations : List ℕ) (objective : ℕ) (lp : Lp F) (old new : Seen F) : Type 0 where
     pub answer : Answer F
     pub is_answer : AnswersAt value limit rules old.state.settings.solver lp old.state.settings.iterlim answer
     pub after : new.state ≡ after_end old.state model (lp_numbers value lp) (end_numbers value answer.end)

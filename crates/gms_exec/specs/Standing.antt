@@ -6,20 +6,20 @@ use Rattle.gms_event.specs.declared.event.Event.{Event}
 use Rattle.gms_event.specs.declared.event.Event.TheVariants as event
 use Rattle.gms_event.specs.declared.event.Shown.{Shown}
 use Rattle.lp_core.specs.declared.answer.Answer.{Answer}
-use Rattle.lp_core.specs.declared.answer.Rule.{Rule}
+use Rattle.lp_slot.specs.declared.solver.SolverRule.{SolverRule}
 use Rattle.lp_core.specs.declared.program.Lp.{Lp}
-use Rattle.lp_core.specs.Answers.{IsAnswer}
+use Rattle.lp_slot.specs.Under.{IsAnswerUnder}
 use Rattle.lp_core.specs.WellFormed.{IsWellFormed}
 
-module _ {F : Type 0} (value : F → Number) (limit : ℕ) (rules : List Rule) (answers : List (Answer F)) where
+module _ {F : Type 0} (value : F → Number) (limit : ℕ) (rules : List SolverRule) (answers : List (Answer F)) where
   -- A solve that was shown has a well-formed program, and the answer at its place is one of it, by the rule of the solver that its settings choose.
   pub record IsStandingSolve (lp : Lp F) (place : ℕ) (settings : Settings) : Type 0 where
     pub formed : IsWellFormed value lp
     pub given : Answer F
     pub stands : slice_get answers place ≡ Some given
-    pub rule : Rule
+    pub rule : SolverRule
     pub chosen : slice_get rules settings.solver ≡ Some rule
-    pub is_answer : IsAnswer value limit lp settings.iterlim rule given
+    pub is_answer : IsAnswerUnder value limit lp settings.iterlim rule given
 
   -- An item that was shown has at most 8 decimals, and a solve that was shown is answered.
   abbrev pub IsStanding : Event F → Type 0

@@ -12,7 +12,7 @@ use Rattle.gms_event.specs.declared.event.Event.TheVariants as event
 use Rattle.gms_event.specs.EventView.{events_in}
 use Rattle.lp_core.specs.declared.answer.Answer.{Answer}
 use Rattle.lp_core.specs.declared.answer.Pivot.{Pivot}
-use Rattle.lp_core.specs.declared.answer.Rule.{Rule}
+use Rattle.lp_slot.specs.declared.solver.SolverRule.{SolverRule}
 use Rattle.lp_core.specs.Numbers.{answer_numbers}
 use Rattle.gms_exec.specs.Answering.{AreAnswered}
 use Rattle.gms_exec.specs.Run.{Course, stopped_by}
@@ -64,7 +64,7 @@ paths_taken {F} k answers (other ∷ events) = paths_taken k answers events
 
 -- Solvers after a call: they are as many, in the same order, with the same names and rules, and the paths of each are those that it had,
 -- followed by the pivots of the answers that it gave. Each solve that was shown is answered.
-pub record Answered {S F : Type 0} (value : F → Number) (limit : ℕ) (name : S → List ℕ) (rule : S → Rule) (paths : S → List (List Pivot)) (old new : List S) (before after : Seen F) : Type 0 where
+pub record Answered {S F : Type 0} (value : F → Number) (limit : ℕ) (name : S → List ℕ) (rule : S → SolverRule) (paths : S → List (List Pivot)) (old new : List S) (before after : Seen F) : Type 0 where
   pub names : map name new ≡ map name old
   pub rules : map rule new ≡ map rule old
   pub shown : List (Event F)

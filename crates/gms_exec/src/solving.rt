@@ -3,7 +3,7 @@ ghost use Rattle.std.specs.Prelude.{◌≡◌, ◌<◌, ◌^◌, ◌-◌, ◌∷
 ghost use Rattle.std.specs.List.{fold};
 ghost use Rattle.gq_number.specs.Number.{whole};
 ghost use Rattle.gq_frac.specs.Frac.{frac_value};
-ghost use Rattle.lp_core.specs.Answers.{IsAnswer};
+ghost use Rattle.lp_slot.specs.Under.{IsAnswerUnder};
 ghost use Rattle.lp_core.specs.WellFormed.{IsWellFormed};
 ghost use Rattle.lp_core.specs.Numbers.{lp_numbers, end_numbers};
 ghost use Rattle.gms_rows.specs.Plain.{HasPlainDefinitions};
@@ -161,7 +161,7 @@ fn solve_one(
     iterlim: u64,
 ) -> Result<(Answer<Frac>, Vec<u8>), AllocError>
     requires { IsWellFormed frac_value lp.now }
-    ensures answer { IfOk result (λ r. IsAnswer frac_value (2 ^ 127 - 1) lp.now iterlim (rule solver.old) r.0) }
+    ensures answer { IfOk result (λ r. IsAnswerUnder frac_value (2 ^ 127 - 1) lp.now iterlim (rule solver.old) r.0) }
     ensures paths { IfOk result (λ r. paths solver.new ≡ paths solver.old ++ r.0.pivots ∷ []) }
     ensures named { IfOk result (λ r. r.1.items ≡ name solver.old) }
     ensures name { name solver.new ≡ name solver.old }

@@ -12,7 +12,7 @@ ghost use Rattle.gms_exec.specs.Dimensions.{AreOneDimensional};
 ghost use Rattle.gms_exec.specs.Options.{after_options};
 ghost use Rattle.lp_core.specs.declared.answer.Answer.{Answer};
 ghost use Rattle.gms_exec.specs.Run.{of_statement, display, abort, abort_where};
-ghost use Rattle.lp_core.specs.declared.answer.Rule.{Rule};
+ghost use Rattle.lp_slot.specs.declared.solver.SolverRule.{SolverRule};
 ghost use Rattle.gms_exec.specs.Standing.{ShowsStanding};
 ghost use Rattle.gms_exec.specs.InnerWalks.{Assigns, IsOnce, AsksNoSolver, ShowsNoSolve};
 ghost use Rattle.gms_exec.specs.Stepping.{Runs, Answered, AreKept, UnlessMemory};
@@ -142,7 +142,7 @@ fn without_solving<F: ExactField>(
         (record { state = store.old; events = events.old.items; answers = answers })
         (record { state = store.new; events = events.new.items; answers = answers }) }
     ensures quiet { ShowsNoSolve events.old.items events.new.items }
-    ensures standing { (rules : List Rule) (answers : List (Answer F)) → ShowsStanding F.value F.limit rules answers events.old.items events.new.items }
+    ensures standing { (rules : List SolverRule) (answers : List (Answer F)) → ShowsStanding F.value F.limit rules answers events.old.items events.new.items }
 {
     let labels = program.labels.len();
     match &s.act {
@@ -220,7 +220,7 @@ fn show<F: ExactField>(
         (record { state = store.now; events = events.old.items; answers = answers })
         (record { state = store.now; events = events.new.items; answers = answers }) }
     ensures quiet { ShowsNoSolve events.old.items events.new.items }
-    ensures standing { (rules : List Rule) (answers : List (Answer F)) → ShowsStanding F.value F.limit rules answers events.old.items events.new.items }
+    ensures standing { (rules : List SolverRule) (answers : List (Answer F)) → ShowsStanding F.value F.limit rules answers events.old.items events.new.items }
 {
     let items = all_shown(alloc, store, labels, items, b)?;
     events.push(Event::Display {
@@ -245,7 +245,7 @@ fn abort<F: ExactField>(
         (record { state = store.now; events = events.old.items; answers = answers })
         (record { state = store.now; events = events.new.items; answers = answers }) }
     ensures quiet { ShowsNoSolve events.old.items events.new.items }
-    ensures standing { (rules : List Rule) (answers : List (Answer F)) → ShowsStanding F.value F.limit rules answers events.old.items events.new.items }
+    ensures standing { (rules : List SolverRule) (answers : List (Answer F)) → ShowsStanding F.value F.limit rules answers events.old.items events.new.items }
 {
     let items = all_shown(alloc, store, labels, items, b)?;
     events.push(Event::Abort {
@@ -271,7 +271,7 @@ fn abort_where<F: ExactField>(
         (record { state = store.now; events = events.old.items; answers = answers })
         (record { state = store.now; events = events.new.items; answers = answers }) }
     ensures quiet { ShowsNoSolve events.old.items events.new.items }
-    ensures standing { (rules : List Rule) (answers : List (Answer F)) → ShowsStanding F.value F.limit rules answers events.old.items events.new.items }
+    ensures standing { (rules : List SolverRule) (answers : List (Answer F)) → ShowsStanding F.value F.limit rules answers events.old.items events.new.items }
 {
     let Some(condition) = condition else {
         return abort(alloc, store, labels, items, at, b, events);

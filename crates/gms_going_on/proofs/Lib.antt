@@ -8,4 +8,3 @@ pub mod Begins
 pub mod Models
 pub mod Equations
 pub mod SolvesAlike
-pub mod Joining

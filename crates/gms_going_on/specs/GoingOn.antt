@@ -7,15 +7,12 @@ use Rattle.gms_ast.specs.declared.program.Act.TheVariants.{Declare}
 use Rattle.gms_ast.specs.declared.program.Program.{Program}
 use Rattle.gms_ast.specs.declared.program.Stmt.{Stmt}
 use Rattle.gms_store.specs.Declarations.{content_of}
-use Rattle.gms_store.specs.Overlays.{overlaid}
 use Rattle.gms_store.specs.State.{State, symbol_at}
 use Rattle.gms_check.specs.Loaded.{loaded}
 use Rattle.gms_check.specs.Names.{is_variable}
 use Rattle.gms_check.specs.Past.{names_declared}
-use Rattle.gms_exec.specs.Run.{World, run_from}
+use Rattle.gms_exec.specs.Run.{World}
 use Rattle.gms_frames.specs.Names.{Each}
-use Rattle.gms_joint.specs.JointRun.{behind_run}
-use Rattle.lp_core.specs.declared.answer.Answer.{Answer}
 
 module _ {F : Type 0} where
   -- the names that an act gives the type of a variable
@@ -40,12 +37,3 @@ module _ {F : Type 0} (value : F → Number) where
     pub statements : joint.program.statements.items ≡ saved.program.statements.items ++ others
     pub types : TypesNone (loaded value saved.program) others
     pub solvers : joint.solvers ≡ saved.solvers
-
-  module _ (limit : ℕ) (saved joint : World F) (others : List (Stmt F)) (answers behind : List (Answer Number)) where
-    -- The long run, whose first answers are those of the saved one, is the part of the saved statements, and behind it the run of the others that goes on from the
-    -- saved state. The saved part takes as many answers as the saved run had: each answer of the others has its place so much later.
-    pub record SaysTheSame : Type 0 where
-      pub is : run_from value limit joint (loaded value joint.program) (answers ++ behind) joint.program.statements.items
-          ≡ behind_run (run_from value limit joint (loaded value joint.program) (answers ++ behind) saved.program.statements.items)
-          (run_from value limit joint (overlaid (loaded value joint.program) (run_from value limit saved (loaded value saved.program) answers saved.program.statements.items).state) behind others)
-      pub taken : (run_from value limit joint (loaded value joint.program) (answers ++ behind) saved.program.statements.items).taken ≡ length answers

@@ -1,4 +1,4 @@
-//! Floor 5, the run. A study that is run on a saved base case says what one long run of both would have said.
+//! Floor 5, the run. What a program keeps that has the statements of another first: the ground of restarted runs.
 #![tactic(auto)]
 
 mod laws;

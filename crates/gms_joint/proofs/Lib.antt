@@ -1,6 +1,6 @@
 pub mod Later
 mod Labelled
-mod Persisting
+pub mod Persisting
 pub mod Reaching
 mod OnceInRuns
 pub mod Tidying

@@ -26,7 +26,7 @@ use Rattle.gms_check.proofs.NoErrors.{AreClean}
 use Rattle.gms_check.proofs.Soundness.{after-sound, sound-use, statement-clean}
 use Rattle.gms_rows.specs.ModelPoints.{definitions_of_model}
 use Rattle.gms_rows.specs.Rows.{Definition, defined_at, definitions, definition_of, equations_of, has_lag}
-use Rattle.gms_valid.proofs.Assigned.{same-count}
+use Rattle.gms_restart.proofs.Assigned.{same-count}
 use Rattle.gms_plans.proofs.Instances.{IsShort}
 
 -- ---- what holds of all definitions of a program holds of those of a model

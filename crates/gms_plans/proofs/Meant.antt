@@ -15,7 +15,9 @@ use Rattle.gms_joint.proofs.LinearDefinitions.{model-linear}
 use Rattle.gms_joint.proofs.Reaching.{last-reaches}
 use Rattle.lp_core.specs.Numbers.{answer_numbers}
 use Rattle.lp_core.specs.declared.answer.Answer.{Answer}
-use Rattle.lp_core.specs.declared.answer.Rule.{Rule}
+use Rattle.lp_core.specs.declared.answer.Rule.TheVariants.{Legal}
+use Rattle.lp_slot.specs.declared.solver.SolverRule.{SolverRule}
+use Rattle.lp_slot.proofs.Under.{legal_under}
 use Rattle.gms_plans.specs.Moments.{IsSolve, IsAnsweredRightly, AnswerIsSo, AnswersAreSo, run_before, whole_run}
 use Rattle.gms_plans.proofs.Answered.{answer-proves}
 use Rattle.gms_plans.proofs.Definitions.{model-short}
@@ -37,7 +39,7 @@ take-drop (suc n) (x ∷ xs) = ap (λ ys. x ∷ ys) (take-drop n xs)
 
 module _ {F : Type 0} (v : F → Number) (limit : ℕ) (world : World F) (accepted : IsAccepted v world.program)
     (first : State) (begins : IsLasting v world.program first) (before statements : List (Stmt F)) (parts : world.program.statements.items ≡ before ++ statements)
-    (rules : List Rule) (answers : List (Answer F)) where
+    (rules : List SolverRule) (answers : List (Answer F)) where
   abbrev numbers : List (Answer Number)
   numbers = map (answer_numbers v) answers
 
@@ -79,7 +81,7 @@ module _ {F : Type 0} (v : F → Number) (limit : ℕ) (world : World F) (accept
         answer = answered.answer;
         stands = answered.stands;
         is_so = end-is-so v limit world.program.statements.items state solve.model.name solve.objective.name solve.maximize solve.statement.at solved.lp (model-short v world.program accepted solve.model.name) (model-linear v limit world accepted state lasts solve.model.name) solve.program answered.lp answered.shows answered.answer.end
-            (answer-proves v answered.lp limit solved.settings.iterlim answered.rule answered.answer answered.is_answer);
+            (answer-proves v answered.lp limit solved.settings.iterlim Legal answered.answer (legal_under v limit answered.lp solved.settings.iterlim answered.rule answered.answer answered.is_answer));
       }
 
   abbrev IsSoAt : Event → Type 0

@@ -1,5 +1,5 @@
 -- The state in which an accepted script begins.
-use Rattle.std.proofs.Common.{◌≡◌, ℕ, List, [], Option, Some, None, sym, subst}
+use Rattle.std.proofs.Common.{◌≡◌, ℕ, List, [], length, Option, Some, None, sym, subst}
 use Rattle.std.specs.Prelude.{IfSome}
 use Rattle.gq_frac.specs.declared.frac.Frac.{Frac}
 use Rattle.gq_frac.specs.Frac.{frac_value}
@@ -17,23 +17,23 @@ use Rattle.gms_run.proofs.Loading.{begins-one-dimensional}
 use Rattle.gms_run.proofs.Resuming.{resumes-one-dimensional}
 
 -- Its settings are within their ranges.
-pub first_settings : (solvers : ℕ) (source : List ℕ) (line : ℕ) (saved : Option State) (program : Program Frac) (state : State) → state ≡ first_state saved program → IsSound solvers source line saved → AreKept solvers state.settings
-first_settings solvers source line saved program state is sound = subst (λ (s : State). AreKept solvers s.settings) (sym is) (by saved sound)
+pub first_settings : (solvers : List (List ℕ)) (source : List ℕ) (line : ℕ) (saved : Option State) (program : Program Frac) (state : State) → state ≡ first_state saved program → IsSound solvers source line saved → AreKept (length solvers) state.settings
+first_settings solvers source line saved program state is sound = subst (λ (s : State). AreKept (length solvers) s.settings) (sym is) (by saved sound)
   where
-    by : (o : Option State) → IsSound solvers source line o → AreKept solvers (first_state o program).settings
-    by None sound = begins-kept frac_value program solvers
+    by : (o : Option State) → IsSound solvers source line o → AreKept (length solvers) (first_state o program).settings
+    by None sound = begins-kept frac_value program (length solvers)
     by (Some s) sound = sound.settings
 
 -- Where there is a saved state it is one of the saved source's program.
-pub first_origin : (solvers : ℕ) (source : List ℕ) (line : ℕ) (saved : Option State) → IsSound solvers source line saved → IfSome saved (IsGoneOn source line)
+pub first_origin : (solvers : List (List ℕ)) (source : List ℕ) (line : ℕ) (saved : Option State) → IsSound solvers source line saved → IfSome saved (IsGoneOn solvers source line)
 first_origin solvers source line None sound = tt
 first_origin solvers source line (Some state) sound = sound.origin
 
 -- The definitions of its program are over sets of one dimension.
-pub first_plain : (solvers : List (List ℕ)) (many : ℕ) (script : Script) (program : Program Frac) (state : State) → state ≡ first_state script.saved program → IsAccepted solvers script program → IsSound many script.source script.line script.saved → AreOneDimensional state program.statements.items
-first_plain solvers many script program state is is_accepted sound = subst (λ (s : State). AreOneDimensional s program.statements.items) (sym is) (by script.saved is_accepted.no_error sound)
+pub first_plain : (solvers : List (List ℕ)) (script : Script) (program : Program Frac) (state : State) → state ≡ first_state script.saved program → IsAccepted solvers script program → IsSound solvers script.source script.line script.saved → AreOneDimensional state program.statements.items
+first_plain solvers script program state is is_accepted sound = subst (λ (s : State). AreOneDimensional s program.statements.items) (sym is) (by script.saved is_accepted.no_error sound)
   where
-    by : (o : Option State) → errors_of o script.line program solvers ≡ [] → IsSound many script.source script.line o → AreOneDimensional (first_state o program) program.statements.items
+    by : (o : Option State) → errors_of o script.line program solvers ≡ [] → IsSound solvers script.source script.line o → AreOneDimensional (first_state o program) program.statements.items
     by None none sound = begins-one-dimensional frac_value program solvers (checked-program frac_value program solvers none)
     by (Some s) none sound =
         let accepted = accepted_joint frac_value program script.line (solvers, none) in

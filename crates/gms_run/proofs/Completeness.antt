@@ -22,7 +22,7 @@ use Rattle.gms_words.specs.CommandLine.{Asked, Origin, in_file, restarted, gener
 use Rattle.gms_run.specs.Solving.{Solving, number_limit}
 use Rattle.gms_run.specs.Jobs.{Job}
 use Rattle.gms_run.specs.Scripts.{Script, joint_script, Matter, scripted, unrestored, Taken, from_start, from_save, IsMatter, IsUnrestored, errors_of}
-use Rattle.gms_run.specs.Listings.{IsExecuted, IsJob, ShowsWhy}
+use Rattle.gms_run.specs.Listings.{IsAccepted, IsExecuted, IsJob, ShowsWhy}
 use Rattle.gms_run.specs.Statuses.{CanRun, CountsSo, EndsByNoFault, Gives, HasFile, HasOrigin, IsFileOf, IsGood, IsGoodSave, IsReadyFor, IsRun, IsRunOf, IsTaken, MeetsNoFault, NamesProgram, NamesSource}
 use Rattle.gms_parse.specs.Outcomes.{program_view}
 use Rattle.gms_parse.proofs.OneReading.{one_program, program_or_fault}
@@ -65,20 +65,20 @@ the_taken old (generated size) (from_save a b) taken f is = absurd f
 the_taken old (generated size) (from_start told) (from_save a b) f is = absurd is
 
 -- what was taken is what the words name
-named_taken : (status : Status) (solving : Solving) (old new : Outside) (words : List (List ℕ)) (request : Asked) (run : IsRunOf status solving old new request) (n : NamesSource old words) → n.request ≡ request → run.taken ≡ n.taken
+pub named_taken : (status : Status) (solving : Solving) (old new : Outside) (words : List (List ℕ)) (request : Asked) (run : IsRunOf status solving old new request) (n : NamesSource old words) → n.request ≡ request → run.taken ≡ n.taken
 named_taken status solving old new words request run n same =
     the_taken old n.request.source n.taken run.taken n.found (subst (λ (r : Asked). IsTaken old r.source run.taken) (sym same) run.is_taken)
 
 -- words that name a source are not refused
-names_some : (words : List (List ℕ)) (old : Outside) → NamesSource old words → request_of words ≡ None → ⊥
+pub names_some : (words : List (List ℕ)) (old : Outside) → NamesSource old words → request_of words ≡ None → ⊥
 names_some words old n none = let e : None ≡ Some n.request = sym none ∙ n.named in cc
 
 -- a status of a fault comes with a fault
-fault_met : (status : Status) (words : List (List ℕ)) (old new : Meaning) → NamesSource old.outside words → MeetsNoFault old.counts new.counts → (((Rose old.counts.read_faults new.counts.read_faults → ⊥) × (Rose old.counts.write_faults new.counts.write_faults → ⊥)) → ⊥) → (IsReadyFor old words → EndsByNoFault status) → EndsByNoFault status
+pub fault_met : (status : Status) (words : List (List ℕ)) (old new : Meaning) → NamesSource old.outside words → MeetsNoFault old.counts new.counts → (((Rose old.counts.read_faults new.counts.read_faults → ⊥) × (Rose old.counts.write_faults new.counts.write_faults → ⊥)) → ⊥) → (IsReadyFor old words → EndsByNoFault status) → EndsByNoFault status
 fault_met status words old new n (inl reliable) met unmet = unmet (ready_for old words n reliable)
 fault_met status words old new n (inr none) met unmet = absurd (met none)
 
-one_script : {x y : Script} → scripted x ≡ scripted y → x ≡ y
+pub one_script : {x y : Script} → scripted x ≡ scripted y → x ≡ y
 one_script e = cc
 
 -- two programs that are seen alike have the same errors
@@ -88,10 +88,17 @@ same_errors_of (Some state) line solvers one other alike = same-joint-errors one
 
 -- A good script is not refused.
 good_script : (solvers : List (List ℕ)) (script : Script) (text : List ℕ) → IsGood solvers script → ShowsWhy solvers (scripted script) text → ⊥
-good_script solvers script text (program, good) (inl refusal) = program_or_fault number_limit script.source (program_view frac_value program) refusal.fault good.is_program refusal.refused
-good_script solvers script text (program, good) (inr errors) =
-    let alike = one_program number_limit script.source (program_view frac_value errors.program) (program_view frac_value program) errors.is_program good.is_program in
-    errors.some (same_errors_of script.saved script.line solvers errors.program program alike ∙ good.no_error)
+good_script solvers script text good (inl refusal) = program_or_fault number_limit script.source good.view refusal.fault good.has_program refusal.refused
+good_script solvers script text good (inr errors) =
+    errors.some (good.no_error errors.program (one_program number_limit script.source (program_view frac_value errors.program) good.view errors.is_program good.has_program))
+
+-- The source of an accepted program is good.
+accepted_good : (solvers : List (List ℕ)) (script : Script) (program : Program Frac) → IsAccepted solvers script program → IsGood solvers script
+accepted_good solvers script program accepted = record {
+  view = program_view frac_value program;
+  has_program = accepted.is_program;
+  no_error = λ other same. same_errors_of script.saved script.line solvers other program same ∙ accepted.no_error;
+}
 
 -- A good save can be restored.
 good_save : (solvers : List (List ℕ)) (save : List ℕ) (fault : SaveFault) → IsGoodSave solvers save → IsUnrestored solvers save fault → ⊥
@@ -109,7 +116,7 @@ good_matter solvers (from_start source) (unrestored fault) text can is why = abs
 good_matter solvers (from_save save file) (scripted script) text can is why = good_script solvers script text (subst (IsGood solvers) (sym is.joint) (can.1 is.saved is.restored)) why
 good_matter solvers (from_save save file) (unrestored fault) text can is why = good_save solvers save fault can.0 is
 
-not_refused : (solving : Solving) (old new : Outside) (words : List (List ℕ)) (request : Asked) → IsRunOf Compile solving old new request → (n : NamesSource old words) → n.request ≡ request → CanRun solving.before.names n.taken → ⊥
+pub not_refused : (solving : Solving) (old new : Outside) (words : List (List ℕ)) (request : Asked) → IsRunOf Compile solving old new request → (n : NamesSource old words) → n.request ≡ request → CanRun solving.before.names n.taken → ⊥
 not_refused solving old new words request run n same can =
     let is : run.taken ≡ n.taken = named_taken Compile solving old new words request run n same in
     good_matter solving.before.names run.taken run.matter run.ran.text (subst (CanRun solving.before.names) (sym is) can) run.is_matter run.ran.listing.0
@@ -129,21 +136,21 @@ completes status solving words old new run counts unmet n none = by status run c
 -- ---- exactly what cannot be run is refused
 
 -- what was restored is whatever is restored of the same bytes
-same_restored : (solvers : List (List ℕ)) (save : List ℕ) (a b : Saved) → GivesBack solvers save (Ok a) → IsRestored solvers save b → (a.source.items ≡ b.source.items) × (a.store ≡ b.store)
+pub same_restored : (solvers : List (List ℕ)) (save : List ℕ) (a b : Saved) → GivesBack solvers save (Ok a) → IsRestored solvers save b → (a.source.items ≡ b.source.items) × (a.store ≡ b.store)
 same_restored solvers save a b back is =
     let h = back b.source.items b.program b.store is.solver is.is_save in
     (h.source_is, h.state_is ∙ ap (with_solver b.store) (one_value h.placed is.placed))
 
 -- a job is one of what can be run
-can_run_of : (solvers : List (List ℕ)) (taken : Taken) (matter : Matter) (job : Job) → IsMatter solvers taken matter → IsJob solvers matter job → CanRun solvers taken
-can_run_of solvers (from_start source) (scripted script) job is j = subst (IsGood solvers) (sym (one_script j.to_run) ∙ is) (job.program, j.accepted)
+pub can_run_of : (solvers : List (List ℕ)) (taken : Taken) (matter : Matter) (job : Job) → IsMatter solvers taken matter → IsJob solvers matter job → CanRun solvers taken
+can_run_of solvers (from_start source) (scripted script) job is j = subst (IsGood solvers) (sym (one_script j.to_run) ∙ is) (accepted_good solvers j.script job.program j.accepted)
 can_run_of solvers (from_start source) (unrestored fault) job is j = absurd is
 can_run_of solvers (from_save save file) (unrestored fault) job is j = absurd (let z : ⊥ = (let e = j.to_run in cc) in z)
 can_run_of solvers (from_save save file) (scripted script) job is j = (
   record { short = is.short; source = is.saved.source.items; program = is.saved.program; state = is.saved.store; solver = is.restored.solver; is_save = is.restored.is_save; placed = λ none. let z : ⊥ = (let e = sym none ∙ is.restored.placed in cc) in z },
   λ saved restored.
       let same = same_restored solvers save is.saved saved is.back restored in
-      subst (IsGood solvers) (sym (one_script j.to_run) ∙ is.joint ∙ ap₂ (λ source store. joint_script source store file) same.0 same.1) (job.program, j.accepted),
+      subst (IsGood solvers) (sym (one_script j.to_run) ∙ is.joint ∙ ap₂ (λ source store. joint_script source store file) same.0 same.1) (accepted_good solvers j.script job.program j.accepted),
 )
 
 -- what was executed can be run

@@ -16,7 +16,7 @@ use Rattle.gms_event.specs.declared.event.Event.{Event as OwnEvent}
 use Rattle.gms_event.specs.Events.{Event, stops}
 use Rattle.gms_event.specs.EventView.{events_in}
 use Rattle.lp_core.specs.declared.answer.Answer.{Answer}
-use Rattle.lp_core.specs.declared.answer.Rule.{Rule}
+use Rattle.lp_slot.specs.declared.solver.SolverRule.{SolverRule}
 use Rattle.lp_core.specs.Numbers.{answer_numbers}
 use Rattle.gms_exec.specs.Run.{Course}
 use Rattle.gms_exec.specs.Standing.{IsStanding, ShowsStanding}
@@ -29,16 +29,16 @@ use Rattle.gms_run.proofs.Proved.{listable}
 use Rattle.gms_run.specs.InnerSteps.{Between, IsListed, course_at, programs_in}
 
 -- what was shown stands, where nothing was shown before
-pub all_stand : (rules : List Rule) (answers : List (Answer Frac)) (before events : List (OwnEvent Frac)) → before ≡ [] → ShowsStanding frac_value number_limit rules answers before events → All (IsStanding frac_value number_limit rules answers) events
+pub all_stand : (rules : List SolverRule) (answers : List (Answer Frac)) (before events : List (OwnEvent Frac)) → before ≡ [] → ShowsStanding frac_value number_limit rules answers before events → All (IsStanding frac_value number_limit rules answers) events
 all_stand rules answers before events none shows =
     subst (All (IsStanding frac_value number_limit rules answers)) (sym (shows.events ∙ ap (λ es. es ++ shows.shown) none)) shows.standing
 
 -- what stands can be listed
-pub all_listable : (rules : List Rule) (answers : List (Answer Frac)) (events : List (OwnEvent Frac)) → All (IsStanding frac_value number_limit rules answers) events → All (IsListable frac_value answers) events
+pub all_listable : (rules : List SolverRule) (answers : List (Answer Frac)) (events : List (OwnEvent Frac)) → All (IsStanding frac_value number_limit rules answers) events → All (IsListable frac_value answers) events
 all_listable rules answers events are =
     All-weaker (IsStanding frac_value number_limit rules answers) (IsListable frac_value answers) (listable frac_value number_limit rules answers) events are
 
-module _ (program : Program Frac) (rules : List Rule) (does : Course → Course) (old new : Between) (events : List (OwnEvent Frac)) (is_behind : (front : List Event) (c : Course) → does (behind front c) ≡ behind front (does c)) where
+module _ (program : Program Frac) (rules : List SolverRule) (does : Course → Course) (old new : Between) (events : List (OwnEvent Frac)) (is_behind : (front : List Event) (c : Course) → does (behind front c) ≡ behind front (does c)) where
   abbrev numbers : List (Answer Number)
   numbers = map (answer_numbers frac_value) new.answers
 

@@ -12,7 +12,7 @@ use Rattle.gms_host.specs.Spooling.{Passes, WritesFront}
 use Rattle.gms_host.proofs.Counting.{all_done}
 use Rattle.gms_host.proofs.Fronts.{front_longer, output-both, passes_none, passes_on}
 use Rattle.lp_core.specs.declared.answer.Answer.{Answer}
-use Rattle.lp_core.specs.declared.answer.Rule.{Rule}
+use Rattle.lp_slot.specs.declared.solver.SolverRule.{SolverRule}
 use Rattle.lp_core.specs.declared.program.Lp.{Lp}
 use Rattle.gms_exec.specs.Run.{Course, one_after_another, of_statement, while_it_runs}
 use Rattle.gms_exec.specs.Dimensions.{AreOneDimensional}
@@ -27,18 +27,18 @@ use Rattle.gms_run.proofs.Listed.{listed_none, listed_more, one_more}
 use Rattle.gms_run.proofs.Rest.{Done_so, EndsWith, begin, comes_to_rest, ends_done, ends_stopped, shown_by_first, solving_with, statements, statement_of, taken_by_first}
 
 -- a text that was listed behind another is one of its own
-pub alone : (goes_on : Bool) (does : Course → Course) (program : Program Frac) (rules : List Rule) (old new : Between) (before after : List ℕ) → IsListed goes_on does program rules old new before after →
+pub alone : (goes_on : Bool) (does : Course → Course) (program : Program Frac) (rules : List SolverRule) (old new : Between) (before after : List ℕ) → IsListed goes_on does program rules old new before after →
     (text : List ℕ) × (after ≡ before ++ text) × IsListed goes_on does program rules old new [] text
 alone goes_on does program rules old new before after p =
     (_, p.text, record { shown = p.shown; fault = p.fault; end = p.end; fresh = p.fresh; answers = p.answers; programs = p.programs; standing = p.standing; grown = p.grown; comes = p.comes; text = refl })
 
 -- what is listed behind a text of its own
-onto : (goes_on : Bool) (does : Course → Course) (program : Program Frac) (rules : List Rule) (old new : Between) (before text : List ℕ) → IsListed goes_on does program rules old new [] text → IsListed goes_on does program rules old new before (before ++ text)
+onto : (goes_on : Bool) (does : Course → Course) (program : Program Frac) (rules : List SolverRule) (old new : Between) (before text : List ℕ) → IsListed goes_on does program rules old new [] text → IsListed goes_on does program rules old new before (before ++ text)
 onto goes_on does program rules old new before text p =
     record { shown = p.shown; fault = p.fault; end = p.end; fresh = p.fresh; answers = p.answers; programs = p.programs; standing = p.standing; grown = p.grown; comes = p.comes; text = ap (λ t. before ++ t) p.text }
 
 -- the same for what does the same
-pub same_listed : (goes_on : Bool) (f h : Course → Course) (program : Program Frac) (rules : List Rule) (old new : Between) (before after : List ℕ) → ((c : Course) → h c ≡ f c) → IsListed goes_on f program rules old new before after → IsListed goes_on h program rules old new before after
+pub same_listed : (goes_on : Bool) (f h : Course → Course) (program : Program Frac) (rules : List SolverRule) (old new : Between) (before after : List ℕ) → ((c : Course) → h c ≡ f c) → IsListed goes_on f program rules old new before after → IsListed goes_on h program rules old new before after
 same_listed goes_on f h program rules old new before after same p =
     record { shown = p.shown; fault = p.fault; end = p.end; fresh = p.fresh; answers = p.answers; programs = p.programs; standing = p.standing; grown = p.grown; comes = λ events more. same _ ∙ p.comes events more; text = p.text }
 
@@ -60,7 +60,7 @@ module _ (job : Job) (before : Solvers) where
       (listed_more job.program before.rules goes_on (one_after_another (take i ss) []) (f s []) (begin job before) now next [] text (text ++ more) p (onto goes_on (f s []) job.program before.rules now next text more q))
 
   -- What a statement did for solvers of the same names and rules.
-  listed_for : (names_now : List (List ℕ)) (rules_now : List Rule) (goes_on : Bool) (s : Stmt Frac) (now next : Between) (x y : List ℕ) → names_now ≡ before.names → rules_now ≡ before.rules →
+  listed_for : (names_now : List (List ℕ)) (rules_now : List SolverRule) (goes_on : Bool) (s : Stmt Frac) (now next : Between) (x y : List ℕ) → names_now ≡ before.names → rules_now ≡ before.rules →
       IsListed goes_on (of_statement frac_value number_limit (record { program = job.program; solvers = names_now }) s []) job.program rules_now now next x y → IsListed goes_on (statement_of job before s []) job.program before.rules now next x y
   listed_for names_now rules_now goes_on s now next x y same_names same_rules p =
       subst (λ rs. IsListed goes_on (statement_of job before s []) job.program rs now next x y) same_rules
@@ -243,7 +243,7 @@ module _ (job : Job) (old mid : Outside) (spool rest : List ℕ) (first : Passes
       record {
         solved = echoed state solving same b.solved;
         front = (r.front.0, record { bytes = first.bytes ++ r.front.1.bytes; written = output-both old mid new first.bytes r.front.1.bytes first.written r.front.1.written; split = in_front _ r.front.1.bytes r.front.0 r.front.1.split });
-        cut = inr (r.last, r.taken, pends_echoed _ r.front.1.bytes r.pending);
+        cut = inr (record { before = r.last; taken = r.taken; held = pends_echoed _ r.front.1.bytes r.pending });
       }
 
 -- The echo itself was not written whole, and nothing was executed.

@@ -15,7 +15,7 @@ use Rattle.gms_save.specs.declared.fault.SaveFaultOrMemory.{SaveFaultOrMemory}
 use Rattle.gms_save.specs.declared.fault.SaveFaultOrMemory.TheVariants.{Memory}
 use Rattle.gms_save.specs.Saves.{GivesBack, IsRestored, Restores, place_of_solver}
 use Rattle.gms_seam.specs.Fronts.{first_line, joint_source}
-use Rattle.gms_fits.proofs.SavedFits.{saved_fits}
+use Rattle.gms_restart.proofs.SavedFits.{saved_fits}
 use Rattle.gms_run.specs.InnerReports.{CanGoOn}
 
 -- where two tests hold, each does
@@ -67,11 +67,11 @@ members-given P (equation_of entries) all = All-nil P
 members-given P (model_with model solver) all = All-nil P
 
 -- A run can go on from what was restored.
-pub can_go_on : (solvers : List (List ℕ)) (many : ℕ) (save : List ℕ) (saved : Saved) → many ≡ length solvers → IsRestored solvers save saved → (file : List ℕ) → CanGoOn many (joint_source saved.source.items file) (first_line saved.source.items) saved.store
-can_go_on solvers many save saved same restored file =
+pub can_go_on : (solvers : List (List ℕ)) (save : List ℕ) (saved : Saved) → IsRestored solvers save saved → (file : List ℕ) → CanGoOn solvers (joint_source saved.source.items file) (first_line saved.source.items) saved.store
+can_go_on solvers save saved restored file =
     let is = restored.is_save.is_saved.is_saved in
     let settings = saved.store.settings in
-    subst (λ n. CanGoOn n (joint_source saved.source.items file) (first_line saved.source.items) saved.store) (sym same) (record {
+    record {
       origin = record {
         before = saved.source.items;
         file = file;
@@ -81,6 +81,7 @@ can_go_on solvers many save saved same restored file =
         begins = refl;
         is_program = restored.is_save.is_program;
         is_saved = restored.is_save.is_saved;
+        placed = restored.placed;
       };
       settings = record {
         decimals = leb-true settings.decimals 8 (second-holds (nat_le settings.iterlim 2147483647) (nat_le settings.decimals 8) (second-holds (nat_le settings.limcol 2147483647) (nat_le settings.iterlim 2147483647 && nat_le settings.decimals 8) (second-holds (nat_le settings.limrow 2147483647) (nat_le settings.limcol 2147483647 && (nat_le settings.iterlim 2147483647 && nat_le settings.decimals 8)) is.ranges)));
@@ -91,4 +92,4 @@ can_go_on solvers many save saved same restored file =
           members-given (λ t. length t ≡ length symbol.domain) symbol.content
           (All-weaker _ (λ t. length t ≡ length symbol.domain) (stands-long _ saved.store symbol.domain) (given_in symbol.content) (is.given name).stand);
       declares = λ program is_program. saved_fits saved.source.items file saved.program program saved.store restored.solver restored.is_save.is_program is_program restored.is_save.is_saved;
-    })
+    }

@@ -10,7 +10,7 @@ use Rattle.gms_event.specs.declared.event.Event.TheVariants as own
 use Rattle.gms_event.specs.Events.{Solved}
 use Rattle.gms_event.specs.EventView.{events_in}
 use Rattle.lp_core.specs.declared.answer.Answer.{Answer}
-use Rattle.lp_core.specs.declared.answer.Rule.{Rule}
+use Rattle.lp_slot.specs.declared.solver.SolverRule.{SolverRule}
 use Rattle.lp_core.specs.declared.program.Lp.{Lp}
 use Rattle.lp_core.specs.Numbers.{lp_numbers}
 use Rattle.gms_exec.specs.Run.{Course}
@@ -62,7 +62,7 @@ first_of : (n m x : ℕ) (xs : List ℕ) → x ∷ xs ≡ range_with_len n m →
 first_of n zero x xs e = let z : ⊥ = cc in absurd z
 first_of n (suc m) x xs e = (cc, (m, cc))
 
-module _ (rules : List Rule) (answers : List (Answer Frac)) where
+module _ (rules : List SolverRule) (answers : List (Answer Frac)) where
   abbrev Stands : OwnEvent Frac → Type 0
   Stands = IsStanding frac_value number_limit rules answers
 

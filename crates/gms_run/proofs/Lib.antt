@@ -17,8 +17,10 @@ pub mod Planned
 pub mod Proved
 pub mod Reports
 pub mod Rest
+pub mod Restarting
 pub mod Resuming
 pub mod Runs
 pub mod Saving
 pub mod Settled
+pub mod Stopping
 pub mod Transfers

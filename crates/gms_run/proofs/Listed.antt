@@ -16,7 +16,7 @@ use Rattle.gms_event.specs.declared.event.Event.TheVariants as event
 use Rattle.gms_event.specs.Events.{Event, Solved}
 use Rattle.gms_event.specs.EventView.{events_in, event_in}
 use Rattle.lp_core.specs.declared.answer.Answer.{Answer}
-use Rattle.lp_core.specs.declared.answer.Rule.{Rule}
+use Rattle.lp_slot.specs.declared.solver.SolverRule.{SolverRule}
 use Rattle.lp_core.specs.Numbers.{answer_numbers, lp_numbers}
 use Rattle.gms_exec.specs.Run.{Course, Halt, OfStatement, stopped, last_event, while_it_runs, one_after_another}
 use Rattle.gms_exec.specs.Standing.{IsStanding}
@@ -28,7 +28,7 @@ use Rattle.gms_run.specs.InnerSteps.{Between, IsListed, course_at, programs_in}
 use Rattle.gms_run.proofs.Kept.{programs-append}
 use Rattle.gms_run.proofs.Paths.{grown_none, grown_more, stands-more}
 
-module _ (rules : List Rule) where
+module _ (rules : List SolverRule) where
   abbrev Stands : List (Answer Frac) → OwnEvent Frac → Type 0
   Stands answers e = IsStanding frac_value number_limit rules answers e
 
@@ -77,7 +77,7 @@ module _ (rules : List Rule) where
         ap (λ t. t ++ texts (answers ++ more) (events_in frac_value es)) (text-more answers more e (All-head (Stands answers) e es is)) ∙ ap (λ t. one_text answers (event_in frac_value e) ++ t) (texts-more answers more es (All-tail (Stands answers) e es is))
 
 -- nothing was executed
-pub listed_none : (program : Program Frac) (rules : List Rule) (now : Between) (text : List ℕ) → IsListed true (λ c. c) program rules now now text text
+pub listed_none : (program : Program Frac) (rules : List SolverRule) (now : Between) (text : List ℕ) → IsListed true (λ c. c) program rules now now text text
 listed_none program rules now text =
     record {
       shown = [];
@@ -93,7 +93,7 @@ listed_none program rules now text =
     }
 
 -- One more was executed behind others.
-pub listed_more : (program : Program Frac) (rules : List Rule) (goes_on : Bool) (first next : Course → Course) (a b c : Between) (x y z : List ℕ) →
+pub listed_more : (program : Program Frac) (rules : List SolverRule) (goes_on : Bool) (first next : Course → Course) (a b c : Between) (x y z : List ℕ) →
     IsListed true first program rules a b x y → IsListed goes_on next program rules b c y z → IsListed goes_on (λ course. while_it_runs next (first course)) program rules a c x z
 listed_more program rules goes_on first next a b c x y z p q =
     record {

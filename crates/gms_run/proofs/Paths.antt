@@ -11,7 +11,7 @@ use Rattle.gms_event.specs.Events.{Event, Solved, displays, solves, aborts, stop
 use Rattle.gms_event.specs.EventView.{events_in}
 use Rattle.lp_core.specs.declared.answer.Answer.{Answer}
 use Rattle.lp_core.specs.declared.answer.Pivot.{Pivot}
-use Rattle.lp_core.specs.declared.answer.Rule.{Rule}
+use Rattle.lp_slot.specs.declared.solver.SolverRule.{SolverRule}
 use Rattle.gms_exec.specs.Answering.{AreAnswered, IsAnswered}
 use Rattle.gms_store.specs.State.{State}
 use Rattle.gms_exec.specs.Stepping.{Answered, paths_taken}
@@ -58,7 +58,7 @@ stands-more [] ys k x e = let z : ⊥ = cc in absurd z
 stands-more (a ∷ xs) ys zero x e = e
 stands-more (a ∷ xs) ys (suc k) x e = stands-more xs ys k x e
 
-module _ (rules : List Rule) (answers more : List (Answer Frac)) where
+module _ (rules : List SolverRule) (answers more : List (Answer Frac)) where
   abbrev Answers_at : Event → Type 0
   Answers_at e = IsAnswered frac_value number_limit rules answers e
 
@@ -93,7 +93,7 @@ pub grew_none : (paths : AllPaths) (answers : List (Answer Frac)) → Grew paths
 grew_none paths answers = λ k. grown_nothing (slice_get paths k)
 
 -- one growth behind another, with more answers
-pub grew_more : (rules : List Rule) (old mid new : AllPaths) (answers fresh all : List (Answer Frac)) (first second : List Event) → all ≡ answers ++ fresh → AreAnswered frac_value number_limit rules answers first →
+pub grew_more : (rules : List SolverRule) (old mid new : AllPaths) (answers fresh all : List (Answer Frac)) (first second : List Event) → all ≡ answers ++ fresh → AreAnswered frac_value number_limit rules answers first →
     Grew old mid answers first → Grew mid new all second → Grew old new all (first ++ second)
 grew_more rules old mid new answers fresh all first second same are p q = λ k.
     let stays : paths_of k answers first ≡ paths_of k all first = sym (ap (λ given. paths_of k given first) same ∙ paths_stay rules answers fresh k first are) in
@@ -109,7 +109,7 @@ grew_quiet old new answers es more quiet p = λ k.
     p k ∙ ap (λ taken. option_map (λ before. before ++ taken) (slice_get old k)) (sym (paths_both k answers es more ∙ ap (λ ps. paths_of k answers es ++ ps) (paths_quiet k answers more quiet) ∙ append-nil (paths_of k answers es)))
 
 -- What a statement says of its solvers, where nothing was shown before it.
-pub grew_answered : {S : Type 0} {before after : State} {given : List (Answer Frac)} (name : S → List ℕ) (rule : S → Rule) (paths : S → List (List Pivot)) (old new : List S) (answers : List (Answer Frac)) (none events : List (OwnEvent Frac)) → none ≡ [] →
+pub grew_answered : {S : Type 0} {before after : State} {given : List (Answer Frac)} (name : S → List ℕ) (rule : S → SolverRule) (paths : S → List (List Pivot)) (old new : List S) (answers : List (Answer Frac)) (none events : List (OwnEvent Frac)) → none ≡ [] →
     Answered frac_value number_limit name rule paths old new (record { state = before; events = none; answers = given }) (record { state = after; events = events; answers = answers }) → Grew (map paths old) (map paths new) answers (events_in frac_value events)
 grew_answered name rule paths old new answers none events empty a = λ k.
     let shown : events ≡ a.shown = a.events ∙ ap (λ es. es ++ a.shown) empty in
@@ -123,7 +123,7 @@ pub grown_none : (solvers : Solvers) (answers : List (Answer Frac)) → HaveGrow
 grown_none solvers answers = record { names = refl; rules = refl; paths = grew_none solvers.paths answers }
 
 -- one growth behind another, with more answers
-pub grown_more : (rules : List Rule) (old mid new : Solvers) (answers fresh all : List (Answer Frac)) (first second : List Event) → all ≡ answers ++ fresh → AreAnswered frac_value number_limit rules answers first →
+pub grown_more : (rules : List SolverRule) (old mid new : Solvers) (answers fresh all : List (Answer Frac)) (first second : List Event) → all ≡ answers ++ fresh → AreAnswered frac_value number_limit rules answers first →
     HaveGrown old mid answers first → HaveGrown mid new all second → HaveGrown old new all (first ++ second)
 grown_more rules old mid new answers fresh all first second same are p q =
     record { names = q.names ∙ p.names; rules = q.rules ∙ p.rules; paths = grew_more rules old.paths mid.paths new.paths answers fresh all first second same are p.paths q.paths }
@@ -133,7 +133,7 @@ pub grown_quiet : (old new : Solvers) (answers : List (Answer Frac)) (es more : 
 grown_quiet old new answers es more quiet p = record { names = p.names; rules = p.rules; paths = grew_quiet old.paths new.paths answers es more quiet p.paths }
 
 -- What a statement says of its solvers, where nothing was shown before it.
-pub grown_answered : {S : Type 0} {before after : State} {given : List (Answer Frac)} (name : S → List ℕ) (rule : S → Rule) (paths : S → List (List Pivot)) (old new : List S) (answers : List (Answer Frac)) (none events : List (OwnEvent Frac)) → none ≡ [] →
+pub grown_answered : {S : Type 0} {before after : State} {given : List (Answer Frac)} (name : S → List ℕ) (rule : S → SolverRule) (paths : S → List (List Pivot)) (old new : List S) (answers : List (Answer Frac)) (none events : List (OwnEvent Frac)) → none ≡ [] →
     Answered frac_value number_limit name rule paths old new (record { state = before; events = none; answers = given }) (record { state = after; events = events; answers = answers }) → HaveGrown (seen name rule paths old) (seen name rule paths new) answers (events_in frac_value events)
 grown_answered name rule paths old new answers none events empty a =
     record { names = a.names; rules = a.rules; paths = grew_answered name rule paths old new answers none events empty a }

@@ -13,7 +13,7 @@ use Rattle.gms_save.specs.JointErrors.{joint_errors, resumed, saved_statements}
 use Rattle.gms_save.specs.Saves.{IsSavedBy}
 use Rattle.gms_plans.specs.Moments.{AnswersAreSo, whole_run}
 use Rattle.lp_core.specs.declared.answer.Answer.{Answer}
-use Rattle.lp_core.specs.declared.answer.Rule.{Rule}
+use Rattle.lp_slot.specs.declared.solver.SolverRule.{SolverRule}
 use Rattle.gms_run.specs.Solving.{Solving, number_limit}
 use Rattle.gms_run.specs.Scripts.{Script, Taken, from_start, from_save, Matter, scripted, unrestored, IsMatter, IsJoint, script_of, joint_script, joint_source, first_line, errors_of}
 use Rattle.gms_run.specs.Jobs.{Job, job_of, course_of, HasRightAnswers}
@@ -22,12 +22,12 @@ use Rattle.gms_run.specs.Laws.{RunsAreAnsweredRightly}
 
 -- what the answers of a program's run say is so
 abbrev FromStart : Type 0
-FromStart = (world : World Frac) (rules : List Rule) (answers : List (Answer Frac)) → IsAccepted frac_value world.program → AreAnswered frac_value number_limit rules answers (whole_run frac_value number_limit world (loaded frac_value world.program) world.program.statements.items answers).events →
+FromStart = (world : World Frac) (rules : List SolverRule) (answers : List (Answer Frac)) → IsAccepted frac_value world.program → AreAnswered frac_value number_limit rules answers (whole_run frac_value number_limit world (loaded frac_value world.program) world.program.statements.items answers).events →
     AnswersAreSo frac_value number_limit world (loaded frac_value world.program) world.program.statements.items answers
 
 -- and those of a run from a save
 abbrev FromSave : Type 0
-FromSave = (limit : ℕ) (source file : List ℕ) (saved : Program Frac) (world : World Frac) (state : State) (solver : List ℕ) (rules : List Rule) (answers : List (Answer Frac)) → IsProgram number_limit source frac_value saved → IsProgram number_limit (joint_source source file) frac_value world.program →
+FromSave = (limit : ℕ) (source file : List ℕ) (saved : Program Frac) (world : World Frac) (state : State) (solver : List ℕ) (rules : List SolverRule) (answers : List (Answer Frac)) → IsProgram number_limit source frac_value saved → IsProgram number_limit (joint_source source file) frac_value world.program →
     joint_errors frac_value world.program (first_line source) world.solvers ≡ [] → IsSavedBy saved state solver →
     AreAnswered frac_value limit rules answers (whole_run frac_value limit world (resumed frac_value state world.program) (drop (length (saved_statements (first_line source) world.program)) world.program.statements.items) answers).events →
     AnswersAreSo frac_value limit world (resumed frac_value state world.program) (drop (length (saved_statements (first_line source) world.program)) world.program.statements.items) answers

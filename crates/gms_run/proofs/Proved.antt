@@ -7,6 +7,7 @@ use Rattle.gms_event.specs.declared.event.Event.{Event}
 use Rattle.gms_event.specs.declared.event.Event.TheVariants as event
 use Rattle.lp_core.specs.declared.answer.Answer.{Answer}
 use Rattle.lp_core.specs.declared.answer.Rule.{Rule}
+use Rattle.lp_core.specs.declared.answer.Rule.TheVariants.{Legal}
 use Rattle.lp_core.specs.declared.answer.End.{End}
 use Rattle.lp_core.specs.declared.answer.EndKind.{EndKind}
 use Rattle.lp_core.specs.declared.answer.EndKind.TheVariants as kind
@@ -20,6 +21,8 @@ use Rattle.lp_core.specs.StandardForm.{Last}
 use Rattle.lp_core.specs.Pivots.{IsAllowed, IsChosen}
 use Rattle.lp_core.specs.Ends.{LeadsTo, EndsSoBy}
 use Rattle.lp_core.specs.Answers.{EndsCrossed, IsAnswer}
+use Rattle.lp_slot.specs.declared.solver.SolverRule.{SolverRule}
+use Rattle.lp_slot.proofs.Under.{legal_under}
 use Rattle.gms_exec.specs.Standing.{IsStanding}
 use Rattle.gms_list.specs.Conditions.{IsProved, IsListable}
 
@@ -62,12 +65,12 @@ module _ {F : Type 0} (value : F → Number) (limit : ℕ) (lp : Lp F) (iterlim 
   proved answer (inr (inr walked)) = of_end (length answer.pivots) walked.3.0 answer.end walked.3.2
 
 -- an event that stands can be listed
-pub listable : {F : Type 0} (value : F → Number) (limit : ℕ) (rules : List Rule) (answers : List (Answer F)) (e : Event F) → IsStanding value limit rules answers e → IsListable value answers e
+pub listable : {F : Type 0} (value : F → Number) (limit : ℕ) (rules : List SolverRule) (answers : List (Answer F)) (e : Event F) → IsStanding value limit rules answers e → IsListable value answers e
 listable value limit rules answers (event.Display line items) is = is
 listable value limit rules answers (event.Abort line items) is = is
 listable value limit rules answers (event.Fault stop) is = tt
 listable {F} value limit rules answers (event.Solve line model equations lp answer solver settings level) is =
     record {
       formed = is.formed;
-      stands = subst (λ (o : Option (Answer F)). IfSome o (λ a. IsProved value lp a.end)) (sym is.stands) (proved value limit lp settings.iterlim is.rule is.given is.is_answer);
+      stands = subst (λ (o : Option (Answer F)). IfSome o (λ a. IsProved value lp a.end)) (sym is.stands) (proved value limit lp settings.iterlim Legal is.given (legal_under value limit lp settings.iterlim is.rule is.given is.is_answer));
     }

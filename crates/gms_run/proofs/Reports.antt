@@ -24,7 +24,9 @@ use Rattle.gms_parse.specs.Outcomes.{IsProgram}
 use Rattle.gms_event.specs.Events.{Event, Solved}
 use Rattle.gms_exec.specs.Run.{Halt}
 use Rattle.lp_core.specs.declared.answer.Answer.{Answer}
-use Rattle.lp_core.specs.declared.answer.Rule.{Rule}
+use Rattle.lp_core.specs.declared.answer.Rule.TheVariants.{Legal}
+use Rattle.lp_slot.specs.declared.solver.SolverRule.{SolverRule}
+use Rattle.lp_slot.proofs.Under.{legal_under}
 use Rattle.lp_core.specs.declared.program.Lp.{Lp}
 use Rattle.lp_core.specs.Numbers.{lp_numbers}
 use Rattle.lp_slot.specs.SolverNames.{IsSolverName}
@@ -47,7 +49,7 @@ use Rattle.gms_run.specs.declared.script.Matter.TheVariants.{Unrestored}
 use Rattle.gms_run.specs.InnerReports.{Follows, IsGoneOn, IsRanged, IsRemarked, IsSave, IsTold, KeepsState, Lists, ListsErrors, Prepares, matter_in}
 use Rattle.gms_run.specs.InnerSteps.{Ends, IsAnsweredAt, KeepsPrograms}
 use Rattle.gms_run.proofs.Executing.{BreaksJob, EndsJob}
-use Rattle.gms_run.proofs.Saving.{placed-again, saves-state}
+use Rattle.gms_run.proofs.Saving.{placed-last, saves-state}
 
 -- what stands behind a spool and a text that are both empty
 pub behind_nothing : (spool before text : List ℕ) → spool ++ before ≡ [] → spool ++ (before ++ text) ≡ text
@@ -165,7 +167,7 @@ unwritten_job solving old new matter job is_job b =
     let line : List ℕ = last_line (course_of job solving).halted (length solving.answers) in
     record {
       text = job_text job solving;
-      front = (b.front.0 ++ line, record { bytes = b.front.1.bytes; written = b.front.1.written; split = ap (λ t. t ++ line) b.front.1.split ∙ append_assoc b.front.1.bytes b.front.0 line });
+      prefix = record { added = b.front.1.bytes; missing = b.front.0 ++ line; split = ap (λ t. t ++ line) b.front.1.split ∙ append_assoc b.front.1.bytes b.front.0 line; outside = b.front.1.written };
       due = inr (record { job = job; is_job = is_job; solved = b.solved; listing = refl }, b.cut);
     }
 
@@ -215,7 +217,7 @@ remarked status solving request matter text job last solved is_job ends (ranges,
     tells (generated size) WriteFault h told = absurd h
 
 -- The save of the last state of a job that came to its end.
-pub saves_job : (status : Status) (solving : Solving) (request : Asked) (matter : Matter) (bytes : List ℕ) (job : Job) (last : State) (programs : List (Lp Frac)) (solvers : List (List ℕ)) → solvers ≡ solving.before.names → All IsSolverName solving.before.names → (is_job : IsJob solving.before.names matter job) → IfSome is_job.script.saved (IsGoneOn is_job.script.source is_job.script.line) → Ends status job solving last programs →
+pub saves_job : (status : Status) (solving : Solving) (request : Asked) (matter : Matter) (bytes : List ℕ) (job : Job) (last : State) (programs : List (Lp Frac)) (solvers : List (List ℕ)) → solvers ≡ solving.before.names → All IsSolverName solving.before.names → (is_job : IsJob solving.before.names matter job) → IfSome is_job.script.saved (IsGoneOn solving.before.names is_job.script.source is_job.script.line) → Ends status job solving last programs →
     IsSave status request solvers job.source job.program last bytes → SavesSo status solving request matter bytes
 saves_job status solving request matter bytes job last programs solvers names named is_job origin ends = by (save_file status request)
   where
@@ -230,14 +232,11 @@ saves_job status solving request matter bytes job last programs solvers names na
           is_save =
               saves-state solving is_job.script job is_job.accepted is_job.is_job origin bytes text
               (subst (λ (s : State). (name : ℕ) → name < length job.program.names → (t : List ℕ) → fits_at number_limit (symbol_of s name).content t ≡ true) (sym ends.comes) is.fit) named;
-          placed =
-              placed-again solving.before.names (course_of job solving).state named
-              (subst (λ (s : State). 0 < length solving.before.names → s.settings.solver < length solving.before.names) (sym ends.comes)
-              (subst (λ (ns : List (List ℕ)). 0 < length ns → last.settings.solver < length ns) names is.chosen));
+          placed = placed-last solving is_job.script job is_job.accepted is_job.is_job origin named;
         }
 
 -- What is to be done behind the listing of a job that came to its end.
-pub follows_job : (status : Status) (solving : Solving) (request : Asked) (matter : Matter) (text bytes : List ℕ) (job : Job) (last : State) (programs : List (Lp Frac)) (solvers : List (List ℕ)) → (is_job : IsJob solving.before.names matter job) → IfSome is_job.script.saved (IsGoneOn is_job.script.source is_job.script.line) → Ends status job solving last programs →
+pub follows_job : (status : Status) (solving : Solving) (request : Asked) (matter : Matter) (text bytes : List ℕ) (job : Job) (last : State) (programs : List (Lp Frac)) (solvers : List (List ℕ)) → (is_job : IsJob solving.before.names matter job) → IfSome is_job.script.saved (IsGoneOn solving.before.names is_job.script.source is_job.script.line) → Ends status job solving last programs →
     IsRemarked request job.program last programs solving.answers text → IsSave status request solvers job.source job.program last bytes → solvers ≡ solving.before.names → All IsSolverName solving.before.names → Follows status solving request matter text bytes
 follows_job status solving request matter text bytes job last programs solvers is_job origin ends told saved names named =
     record { remarks = remarked status solving request matter text job last programs is_job ends told; saves = saves_job status solving request matter bytes job last programs solvers names named is_job origin ends saved }
@@ -265,7 +264,7 @@ are_closing status solving request matter remarks lines output solves told named
 -- ---- answers of the programs that were kept
 
 -- each answer is one of the program that was kept for its solve
-answered_by : (rules : List Rule) (answers : List (Answer Frac)) (programs : List (Lp Frac)) (events : List Event) → KeepsPrograms rules answers programs events → AreAnswered frac_value number_limit programs answers
+answered_by : (rules : List SolverRule) (answers : List (Answer Frac)) (programs : List (Lp Frac)) (events : List Event) → KeepsPrograms rules answers programs events → AreAnswered frac_value number_limit programs answers
 answered_by rules answers programs events kept =
     let shown : length programs ≡ length (solves_in events) = sym (length-map programs (lp_numbers frac_value)) ∙ ap length kept.shown ∙ length-map (solves_in events) (λ (solved : Solved). solved.lp) in
     let placed : length (solves_in events) ≡ length answers = sym (length-map (solves_in events) (λ (solved : Solved). solved.answer)) ∙ ap length kept.in_order ∙ length-range_with_len 0 (length answers) in
@@ -274,7 +273,7 @@ answered_by rules answers programs events kept =
     at : (place : ℕ) (o : Option (Lp Frac)) → IfSome o (IsAnsweredAt rules answers place) → IfSome o (λ (lp : Lp Frac). IfSome (slice_get answers place) (IsAnswered frac_value number_limit lp))
     at place None h = tt
     at place (Some lp) (settings, stands) =
-        subst (λ (o : Option (Answer Frac)). IfSome o (IsAnswered frac_value number_limit lp)) (sym stands.stands) (record { formed = stands.formed; iterlim = settings.iterlim; rule = stands.rule; is_answer = stands.is_answer })
+        subst (λ (o : Option (Answer Frac)). IfSome o (IsAnswered frac_value number_limit lp)) (sym stands.stands) (record { formed = stands.formed; iterlim = settings.iterlim; rule = Legal; is_answer = legal_under frac_value number_limit lp settings.iterlim stands.rule stands.given stands.is_answer })
 
 -- so it is of a job that came to its end
 pub ends_answered : (status : Status) (job : Job) (solving : Solving) (last : State) (programs : List (Lp Frac)) → Ends status job solving last programs → AreAnswered frac_value number_limit programs solving.answers
@@ -297,7 +296,11 @@ whole_job job n h = ap (λ (ss : List (Stmt Frac)). record job { statements = ss
 cut_whole : (job : Job) (solving : Solving) (written : ℕ) → (course_of job solving).left ≡ [] → length (body_of job solving) ≤ written + 4096 → IsCutOff job solving written
 cut_whole job solving written taken pending =
     let n = length job.statements in
-    inr (n, subst (λ (j : Job). (course_of j solving).left ≡ []) (sym (whole_job job (n + 1) (omega arith))) taken, subst (λ (j : Job). length (body_of j solving) ≤ written + 4096) (sym (whole_job job n (omega arith))) pending)
+    inr (record {
+      before = n;
+      taken = subst (λ (j : Job). (course_of j solving).left ≡ []) (sym (whole_job job (n + 1) (omega arith))) taken;
+      held = subst (λ (j : Job). length (body_of j solving) ≤ written + 4096) (sym (whole_job job n (omega arith))) pending;
+    })
 
 -- two texts that are as long with the same line behind them
 as_long : (a b x y : List ℕ) → x ≡ y → a ++ x ≡ b ++ y → length a ≡ length b
@@ -338,14 +341,12 @@ front_ended status solving old mid new matter pending solves many p front =
     let f : WritesFront mid new (pending ++ line) = subst (λ n. WritesFront mid new (pending ++ end_text (status_code status) n)) many front in
     record {
       text = p.body ++ line;
-      front = (
-        f.0,
-        record {
-          bytes = p.passes.bytes ++ f.1.bytes;
-          written = output-both old mid new p.passes.bytes f.1.bytes p.passes.written f.1.written;
-          split = ap (λ t. t ++ line) p.passes.split ∙ append_assoc p.passes.bytes pending line ∙ ap (λ t. p.passes.bytes ++ t) f.1.split ∙ sym (append_assoc p.passes.bytes f.1.bytes f.0);
-        },
-      );
+      prefix = record {
+        added = p.passes.bytes ++ f.1.bytes;
+        missing = f.0;
+        split = ap (λ t. t ++ line) p.passes.split ∙ append_assoc p.passes.bytes pending line ∙ ap (λ t. p.passes.bytes ++ t) f.1.split ∙ sym (append_assoc p.passes.bytes f.1.bytes f.0);
+        outside = output-both old mid new p.passes.bytes f.1.bytes p.passes.written f.1.written;
+      };
       due = listed_front status solving matter p.body _ (elim p.room [ inl e ↦ inl e | inr few ↦ inr (pends_over p.body p.passes.bytes f.1.bytes pending p.passes.split few) ]) p.listing;
     }
   where

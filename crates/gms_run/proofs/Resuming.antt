@@ -17,7 +17,7 @@ use Rattle.gms_exec.specs.Dimensions.{AreOverOne, AreOneDimensional}
 use Rattle.gms_check.specs.Loaded.{loaded}
 use Rattle.gms_save.specs.JointErrors.{resumed}
 use Rattle.gms_save.proofs.LoadedNames.{loaded-declares, same-at, same-read}
-use Rattle.gms_fits.specs.Alike.{IsAlike}
+use Rattle.gms_restart.specs.Alike.{IsAlike}
 
 -- a symbol among symbols, where there is one
 abbrev at : List Symbol → ℕ → Symbol

@@ -122,7 +122,7 @@ module _ (solving : Solving) (a b : Script) (long : most_bytes < length a.source
   -- what could not be written is the same
   long_unwritten : (old new : Outside) (request : Asked) → IsWriteFault solving old new request (scripted a) → IsWriteFault solving old new request (scripted b)
   long_unwritten old new request (inl u) = inl u
-  long_unwritten old new request (inr (inl u)) = inr (inl (record { text = u.text; front = u.front; due = long_front u.text (length u.front.1.bytes) u.due }))
+  long_unwritten old new request (inr (inl u)) = inr (inl (record { text = u.text; prefix = u.prefix; due = long_front u.text (length u.prefix.added) u.due }))
   long_unwritten old new request (inr (inr (inl u))) = inr (inr (inl (record { status = u.status; text = u.text; listing = long_listing u.status u.text u.listing; outside = u.outside })))
   long_unwritten old new request (inr (inr (inr (inl u)))) = absurd (no_job solving.before.names a u.saves.job long u.saves.is_job)
   long_unwritten old new request (inr (inr (inr (inr u)))) =

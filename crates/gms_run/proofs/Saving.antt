@@ -25,11 +25,12 @@ use Rattle.gms_saved.specs.Validity.{declared_in, emptied, is_solver_byte, is_so
 use Rattle.gms_save.specs.JointErrors.{joint_errors}
 use Rattle.gms_save.specs.Saves.{IsSaveOf, IsSavedBy, place_of_solver, solvers_chosen}
 use Rattle.gms_save.proofs.LoadedNames.{declared-count, loaded-declares}
-use Rattle.gms_valid.proofs.Continued.{later-saved, state-kept as later-state-kept}
-use Rattle.gms_valid.proofs.LastSaves.{last-saved}
-use Rattle.gms_valid.proofs.OwnLoaded.{has-its-labels}
-use Rattle.gms_valid.proofs.Saved.{state-kept}
-use Rattle.gms_valid.specs.LastStates.{later_state}
+use Rattle.gms_restart.proofs.Continued.{later-saved, state-kept as later-state-kept}
+use Rattle.gms_restart.proofs.LastSaves.{last-saved}
+use Rattle.gms_restart.proofs.OwnLoaded.{has-its-labels}
+use Rattle.gms_restart.proofs.Placing.{IsFirst, first-placed, loaded-chooses, run-chooses}
+use Rattle.gms_restart.proofs.Saved.{state-kept}
+use Rattle.gms_restart.specs.LastStates.{later_state}
 use Rattle.lp_slot.specs.SolverNames.{IsSolverName, may_stand_in_name}
 use Rattle.gms_run.specs.Solving.{Solving, number_limit, numbers_of}
 use Rattle.gms_run.specs.Scripts.{Script, errors_of, first_line, first_state, joint_source, statements_of}
@@ -61,35 +62,6 @@ solver-saved : (names : List (List ℕ)) (place : ℕ) → All IsSolverName name
 solver-saved [] place all = refl
 solver-saved (name ∷ names) zero all = name-saved name (All-head IsSolverName name names all)
 solver-saved (name ∷ names) (suc place) all = solver-saved names place (All-tail IsSolverName name names all)
-
--- the name of a solver is not the word that says that there was none
-not-none : (name : List ℕ) → IsSolverName name → bytes_eq name (codes "none") ≡ false
-not-none name is = by (bytes_eq name (codes "none")) refl
-  where
-    by : (b : Bool) → bytes_eq name (codes "none") ≡ b → b ≡ false
-    by false apart = refl
-    by true same =
-        let differs : not (str_eq_ignore_ascii_case (codes "none") (codes "none")) ≡ true = subst (λ (n : List ℕ). not (str_eq_ignore_ascii_case n (codes "none")) ≡ true) ((bytes_eq-Decides name (codes "none")).0 same) is.not_none in
-        absurd (let z : ⊥ = cc in z)
-
--- a name that stands at a place is placed
-placed-there : (names : List (List ℕ)) (place : ℕ) → place < length names → All IsSolverName names → place_of_solver names (get_or names place (codes "none")) ≢ None
-placed-there names place below all none =
-    let solver = get_or names place (codes "none") in
-    let is : IsSolverName solver = All-get_or IsSolverName names place (codes "none") below all in
-    let lacks : position (λ name. str_eq_ignore_ascii_case name solver) names ≡ None =
-    ap (λ b. cond b (cond (length names == 0) (Some 0) None) (position (λ name. str_eq_ignore_ascii_case name solver) names)) (sym (not-none solver is)) ∙ none in
-    let misses : str_eq_ignore_ascii_case solver solver ≡ false = position_misses (λ name. str_eq_ignore_ascii_case name solver) names lacks place (codes "none") below in
-    let same : str_eq_ignore_ascii_case solver solver ≡ true = is_same_refl solver in
-    let z : ⊥ = cc in z
-
--- what a save has for the solver of a state is placed among the same solvers, where the state chooses one of them or there are none
-pub placed-again : (names : List (List ℕ)) (state : State) → All IsSolverName names → (0 < length names → state.settings.solver < length names) → place_of_solver names (solver_name names state) ≢ None
-placed-again [] state all chosen none = let z : ⊥ = cc in z
-placed-again (name ∷ names) state all chosen none =
-    let below : state.settings.solver < length (name ∷ names) = chosen (omega arith) in
-    placed-there (name ∷ names) state.settings.solver below all
-    (ap (λ (solver : List ℕ). place_of_solver (name ∷ names) solver) (sym (unwrap_or-slice_get (name ∷ names) state.settings.solver (codes "none"))) ∙ none)
 
 -- ---- numbers
 
@@ -149,7 +121,7 @@ module _ (solving : Solving) (script : Script) (job : Job) (accepted : IsAccepte
   named_by state = solver_name solving.before.names state
 
   -- it is a saved state of the program, from the start and from a save
-  saved-by : (saved : Option State) → errors_of saved script.line job.program solving.before.names ≡ [] → IfSome saved (IsGoneOn script.source script.line) → FitsThere (ended saved) → All IsSolverName solving.before.names → IsSavedBy job.program (ended saved) (named_by (ended saved))
+  saved-by : (saved : Option State) → errors_of saved script.line job.program solving.before.names ≡ [] → IfSome saved (IsGoneOn solving.before.names script.source script.line) → FitsThere (ended saved) → All IsSolverName solving.before.names → IsSavedBy job.program (ended saved) (named_by (ended saved))
   saved-by None none origin fit named =
       let kept = state-kept frac_value number_limit world (solving.before.names, none) (has-its-labels number_limit script.source job.program accepted.is_program) (numbers_of solving.answers) in
       last-saved number_limit script.source world (numbers_of solving.answers) (named_by (ended None)) accepted.is_program none
@@ -163,14 +135,27 @@ module _ (solving : Solving) (script : Script) (job : Job) (accepted : IsAccepte
       (later-saved number_limit origin.before origin.file origin.program world state origin.solver (named_by (later state origin)) (numbers_of solving.answers) origin.is_program joint clean origin.is_saved
       (fits-each number_limit (later state origin) (length job.program.names) (counts-as (later state origin) job.program kept.lasts.later.declares) (subst FitsThere (later-is state origin) fit)) (solver-saved solving.before.names (later state origin).settings.solver named))
     where
-      later : (s : State) → IsGoneOn script.source script.line s → State
+      later : (s : State) → IsGoneOn solving.before.names script.source script.line s → State
       later s gone = later_state frac_value number_limit (first_line gone.before) world s (numbers_of solving.answers)
 
-      later-is : (s : State) (gone : IsGoneOn script.source script.line s) → ended (Some s) ≡ later s gone
+      later-is : (s : State) (gone : IsGoneOn solving.before.names script.source script.line s) → ended (Some s) ≡ later s gone
       later-is s gone = ap (λ (n : ℕ). later_state frac_value number_limit n world s (numbers_of solving.answers)) gone.begins
 
+  -- The place of the solver that it names is the one that its settings have.
+  pub placed-last : IfSome script.saved (IsGoneOn solving.before.names script.source script.line) → All IsSolverName solving.before.names → place_of_solver solving.before.names (named_by (course_of job solving).state) ≡ Some (course_of job solving).state.settings.solver
+  placed-last origin named =
+      subst (λ (s : State). IsFirst solving.before.names s.settings.solver) (sym ended-is) (by script.saved origin)
+    where
+      chosen : (saved : Option State) → IsFirst solving.before.names (first_state saved job.program).settings.solver → IsFirst solving.before.names (ended saved).settings.solver
+      chosen saved first =
+          run-chooses frac_value number_limit world named (first_state saved job.program) (numbers_of solving.answers) (statements_of saved script.line job.program) first
+
+      by : (saved : Option State) → IfSome saved (IsGoneOn solving.before.names script.source script.line) → IsFirst solving.before.names (ended saved).settings.solver
+      by None gone = chosen None (loaded-chooses frac_value job.program solving.before.names named)
+      by (Some state) gone = chosen (Some state) (first-placed solving.before.names named gone.solver state.settings.solver gone.placed)
+
   -- The bytes are a save of it.
-  pub saves-state : IfSome script.saved (IsGoneOn script.source script.line) → (bytes : List ℕ) → bytes ≡ save_text job solving → FitsThere (course_of job solving).state → All IsSolverName solving.before.names →
+  pub saves-state : IfSome script.saved (IsGoneOn solving.before.names script.source script.line) → (bytes : List ℕ) → bytes ≡ save_text job solving → FitsThere (course_of job solving).state → All IsSolverName solving.before.names →
       IsSaveOf bytes job.source job.program (course_of job solving).state (named_by (course_of job solving).state)
   saves-state origin bytes text fit named = record {
     is_program = subst (λ (source : List ℕ). IsProgram number_limit source frac_value job.program) (sym (ap (λ (j : Job). j.source) is_job)) accepted.is_program;
@@ -180,7 +165,7 @@ module _ (solving : Solving) (script : Script) (job : Job) (accepted : IsAccepte
 
 -- what is to be saved, where the text is made and the numbers were looked at
 pub keeps_state : {E : Type 0} (r : Result (Vec ℕ Global) E) (file : Option (List ℕ)) (solvers : List (List ℕ)) (source : List ℕ) (program : Program Frac) (last : State) → IfOk r (λ bytes. bytes.items ≡ saved_text source program.names last (solver_name solvers last)) →
-    ((name : ℕ) → name < length program.names → (t : List ℕ) → fits_at number_limit (symbol_of last name).content t ≡ true) → (0 < length solvers → last.settings.solver < length solvers) → IfOk r (λ bytes. IfSome file (λ _. KeepsState solvers source program last bytes.items))
-keeps_state (Err e) file solvers source program last text fit chosen = tt
-keeps_state (Ok bytes) None solvers source program last text fit chosen = tt
-keeps_state (Ok bytes) (Some file) solvers source program last text fit chosen = record { text = text; fit = fit; chosen = chosen }
+    ((name : ℕ) → name < length program.names → (t : List ℕ) → fits_at number_limit (symbol_of last name).content t ≡ true) → IfOk r (λ bytes. IfSome file (λ _. KeepsState solvers source program last bytes.items))
+keeps_state (Err e) file solvers source program last text fit = tt
+keeps_state (Ok bytes) None solvers source program last text fit = tt
+keeps_state (Ok bytes) (Some file) solvers source program last text fit = record { text = text; fit = fit }

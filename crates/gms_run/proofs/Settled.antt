@@ -1,5 +1,5 @@
 -- Each solve of a run is answered, and its search comes to its end.
-use Rattle.std.proofs.Common.{◌≡◌, ℕ, ◌≤◌, List, [], ◌∷◌, ◌++◌, Option, Some, sym, subst}
+use Rattle.std.proofs.Common.{◌≡◌, ℕ, inl, inr, List, [], ◌∷◌, ◌++◌, Option, Some, sym, subst}
 use Rattle.std.specs.Prelude.{slice_get, IfSome}
 use Rattle.std.specs.List.{All}
 use Rattle.std.proofs.lemmas.List.Elements.{All-nil, All-cons, All-head, All-tail, All-append, All-weaker}
@@ -12,23 +12,39 @@ use Rattle.gms_event.specs.declared.event.Event.TheVariants as own
 use Rattle.gms_event.specs.Events.{Event, displays, solves, aborts, stops}
 use Rattle.gms_event.specs.EventView.{event_in, events_in}
 use Rattle.lp_core.specs.declared.answer.Answer.{Answer}
-use Rattle.lp_core.specs.declared.answer.Rule.{Rule}
-use Rattle.lp_core.specs.declared.answer.Rule.TheVariants.{Bland}
+use Rattle.lp_slot.specs.declared.solver.SolverRule.{SolverRule}
+use Rattle.lp_slot.specs.declared.solver.SolverRule.TheVariants.{Bland, LargestCoefficient, Turning, Legal}
+use Rattle.lp_slot.specs.Under.{IsNextImproving, IsAnswerUnder}
 use Rattle.lp_core.specs.declared.program.Lp.{Lp}
 use Rattle.lp_core.specs.Numbers.{lp_numbers}
-use Rattle.lp_core.specs.Answers.{IsAnswer}
-use Rattle.lp_nocycle.specs.PivotCount.{twice_sets, variable_count, IsInterrupted}
+use Rattle.lp_core.specs.LargestCoefficient.{IsNext}
+use Rattle.lp_core.specs.WellFormed.{IsWellFormed}
+use Rattle.lp_nocycle.specs.PivotCount.{variable_count, IsInterrupted}
+use Rattle.lp_nocycle.specs.Turns.{TurnsToBland}
 use Rattle.lp_nocycle.proofs.Answering.{comes_to_end}
+use Rattle.lp_nocycle.proofs.AnsweringTurn.{comes_to_end_by_turn, largest_turns}
 use Rattle.lp_nocycle.proofs.SameForm.{same_count}
 use Rattle.gms_exec.specs.Answering.{AreAnswered, IsAnswered}
 use Rattle.gms_exec.specs.Standing.{IsStanding, IsStandingSolve}
 use Rattle.gms_exec.proofs.Quiet.{IsNoSolve}
 use Rattle.gms_exec.proofs.Standing.{answered_by_standing}
 use Rattle.gms_run.specs.Solving.{number_limit}
-use Rattle.gms_run.specs.Searches.{SearchEnds, SearchesEnd}
+use Rattle.gms_run.specs.Searches.{IsEnough, SearchEnds, SearchesEnd}
 use Rattle.gms_run.proofs.Completeness.{one_value}
 
-module _ (rules : List Rule) (answers : List (Answer Frac)) where
+-- a choice that turns to Bland's rule
+improving_turns : TurnsToBland IsNextImproving
+improving_turns first pivots d q (inl improves) turned = absurd (improves.0 turned)
+improving_turns first pivots d q (inr bland) turned = bland.1
+
+-- with enough pivots no answer under a rule is interrupted
+ends_under : (lp : Lp Frac) (iterlim : ℕ) → IsWellFormed frac_value lp → (rule : SolverRule) (answer : Answer Frac) → IsAnswerUnder frac_value number_limit lp iterlim rule answer → IsEnough rule (variable_count frac_value lp) iterlim → ¬ (IsInterrupted answer.end)
+ends_under lp iterlim formed Bland answer is enough = comes_to_end frac_value number_limit lp iterlim answer formed is enough
+ends_under lp iterlim formed LargestCoefficient answer is enough = comes_to_end_by_turn frac_value number_limit lp iterlim IsNext largest_turns answer formed is enough
+ends_under lp iterlim formed Turning answer is enough = comes_to_end_by_turn frac_value number_limit lp iterlim IsNextImproving improving_turns answer formed is enough
+ends_under lp iterlim formed Legal answer is enough = absurd enough
+
+module _ (rules : List SolverRule) (answers : List (Answer Frac)) where
   -- the solves among events are answered, and their searches come to their end
   abbrev pub AreSettled : List Event → Type 0
   AreSettled events = AreAnswered frac_value number_limit rules answers events × SearchesEnd rules answers events
@@ -36,13 +52,13 @@ module _ (rules : List Rule) (answers : List (Answer Frac)) where
   -- ---- what stands
 
   solve_ends : (lp : Lp Frac) (place : ℕ) (settings : Settings) → IsStandingSolve frac_value number_limit rules answers lp place settings →
-      slice_get rules settings.solver ≡ Some Bland → twice_sets (variable_count (λ (x : Number). x) (lp_numbers frac_value lp)) ≤ settings.iterlim →
+      (rule : SolverRule) → slice_get rules settings.solver ≡ Some rule → IsEnough rule (variable_count (λ (x : Number). x) (lp_numbers frac_value lp)) settings.iterlim →
       IfSome (slice_get answers place) (λ answer. ¬ (IsInterrupted answer.end))
-  solve_ends lp place settings is blands enough =
-      let by_bland : IsAnswer frac_value number_limit lp settings.iterlim Bland is.given = subst (λ rule. IsAnswer frac_value number_limit lp settings.iterlim rule is.given) (one_value is.chosen blands) is.is_answer in
-      let pivots : twice_sets (variable_count frac_value lp) ≤ settings.iterlim = subst (λ n. twice_sets n ≤ settings.iterlim) (same_count frac_value lp) enough in
+  solve_ends lp place settings is rule chosen enough =
+      let under : IsAnswerUnder frac_value number_limit lp settings.iterlim rule is.given = subst (λ r. IsAnswerUnder frac_value number_limit lp settings.iterlim r is.given) (one_value is.chosen chosen) is.is_answer in
+      let pivots : IsEnough rule (variable_count frac_value lp) settings.iterlim = subst (λ n. IsEnough rule n settings.iterlim) (same_count frac_value lp) enough in
       subst (λ (o : Option (Answer Frac)). IfSome o (λ answer. ¬ (IsInterrupted answer.end))) (sym is.stands)
-      (comes_to_end frac_value number_limit lp settings.iterlim is.given is.formed by_bland pivots)
+      (ends_under lp settings.iterlim is.formed rule is.given under pivots)
 
   one_ends : (e : OwnEvent Frac) → IsStanding frac_value number_limit rules answers e → SearchEnds rules answers (event_in frac_value e)
   one_ends (own.Display line items) is = tt

@@ -11,7 +11,7 @@ use Rattle.gms_host.specs.declared.host.Failed.TheVariants.{Fault, Memory}
 use Rattle.gms_host.specs.Rules.{ClosesOutput, CountsReading, GivesFirst, IsInput, OpensInput, with_asked, with_kept, with_opened, with_output}
 use Rattle.gms_host.specs.Spooling.{WritesFront}
 use Rattle.gms_host.proofs.Counting.{all_done, done_with, reading_more, reading_none}
-use Rattle.gms_run.specs.Statuses.{IsFileOf, IsUnwrittenFile, with_file, with_listing}
+use Rattle.gms_run.specs.Statuses.{AddsPrefix, IsFileOf, IsUnwrittenFile, with_file, with_listing}
 use Rattle.gms_run.specs.InnerSteps.{ComesTo}
 use Rattle.gms_run.specs.InnerReports.{ReadsFile, TakesFirst}
 
@@ -195,8 +195,9 @@ module _ (most : ℕ) where
 -- ---- files that are written
 
 -- The bytes were not all written to an opened file.
-pub unwritten_file : (old mid new : Outside) (name bytes : List ℕ) → mid ≡ with_opened old name → WritesFront mid new bytes → WritesFront (with_opened old name) new bytes
-unwritten_file old mid new name bytes opened front = subst (λ (o : Outside). WritesFront o new bytes) opened front
+pub unwritten_file : (old mid new : Outside) (name bytes : List ℕ) → mid ≡ with_opened old name → WritesFront mid new bytes → AddsPrefix (with_opened old name) new bytes
+unwritten_file old mid new name bytes opened front =
+    record { added = front.1.bytes; missing = front.0; split = front.1.split; outside = front.1.written ∙ ap (λ (o : Outside). with_output o front.1.bytes) opened }
 
 -- They were, and the file was closed, or was not closed well.
 pub closes_file : (r : Result (Unit {0}) Failed) (old mid wrote new : Outside) (name bytes : List ℕ) → mid ≡ with_opened old name → wrote ≡ with_output mid bytes → ClosesOutput r wrote new →

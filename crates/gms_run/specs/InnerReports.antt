@@ -16,8 +16,8 @@ use Rattle.gms_store.specs.State.{State, fits_at, members_in, symbol_at, symbol_
 use Rattle.gms_store.specs.Declarations.{declared_state}
 use Rattle.gms_parse.specs.Outcomes.{IsProgram}
 use Rattle.gms_save.specs.JointErrors.{resumed}
-use Rattle.gms_save.specs.Saves.{IsSavedBy}
-use Rattle.gms_fits.specs.Alike.{IsAlike}
+use Rattle.gms_save.specs.Saves.{IsSavedBy, place_of_solver}
+use Rattle.gms_restart.specs.Alike.{IsAlike}
 use Rattle.gms_exec.specs.Stepping.{AreKept}
 use Rattle.gms_list.specs.ListingText.{end_text}
 use Rattle.gms_saved.specs.SavedState.{saved_text}
@@ -55,8 +55,9 @@ abbrev pub matter_in : OwnMatter → State → Matter
 matter_in (ToRun script) state = scripted (script_in script state)
 matter_in (Unrestored fault) state = unrestored fault
 
--- A source is joint, a file behind that of a program, at this line, and the state is a saved one of the program.
-pub record IsGoneOn (source : List ℕ) (line : ℕ) (state : State) : Type 0 where
+-- A source is joint, a file behind that of a program, at this line, and the state is a saved one of the program, whose settings have the place of the
+-- solver that it names.
+pub record IsGoneOn (solvers : List (List ℕ)) (source : List ℕ) (line : ℕ) (state : State) : Type 0 where
   pub before : List ℕ
   pub file : List ℕ
   pub program : Program Frac
@@ -65,22 +66,23 @@ pub record IsGoneOn (source : List ℕ) (line : ℕ) (state : State) : Type 0 wh
   pub begins : line ≡ first_line before
   pub is_program : IsProgram number_limit before frac_value program
   pub is_saved : IsSavedBy program state solver
+  pub placed : place_of_solver solvers solver ≡ Some state.settings.solver
 
--- A saved state from which a run of a joint source can go on, whose file begins at a line: its settings choose one of so many solvers, the members of
+-- A saved state from which a run of a joint source can go on, whose file begins at a line: its settings choose one of the solvers, the members of
 -- a set are as long as it has positions, and where the source is a program its names are declared there as it declares them.
-pub record CanGoOn (solvers : ℕ) (source : List ℕ) (line : ℕ) (state : State) : Type 0 where
-  pub origin : IsGoneOn source line state
-  pub settings : AreKept solvers state.settings
+pub record CanGoOn (solvers : List (List ℕ)) (source : List ℕ) (line : ℕ) (state : State) : Type 0 where
+  pub origin : IsGoneOn solvers source line state
+  pub settings : AreKept (length solvers) state.settings
   pub arity : (name : ℕ) → All (λ t. length t ≡ length (symbol_at state name).domain) (members_in (symbol_at state name).content)
   pub declares : (program : Program Frac) → IsProgram number_limit source frac_value program → (name : ℕ) → IsAlike (resumed frac_value state program) (declared_state program) name
 
 -- a run of a source can go on from a saved state, where there is one
-abbrev pub IsSound : ℕ → List ℕ → ℕ → Option State → Type 0
+abbrev pub IsSound : List (List ℕ) → List ℕ → ℕ → Option State → Type 0
 IsSound solvers source line None = Unit {0}
 IsSound solvers source line (Some state) = CanGoOn solvers source line state
 
 -- the same of what there is to run
-abbrev pub IsSoundMatter : ℕ → Matter → Type 0
+abbrev pub IsSoundMatter : List (List ℕ) → Matter → Type 0
 IsSoundMatter solvers (scripted script) = IsSound solvers script.source script.line script.saved
 IsSoundMatter solvers (unrestored fault) = Unit {0}
 
@@ -89,7 +91,7 @@ IsSoundMatter solvers (unrestored fault) = Unit {0}
 pub record Begins (solvers : List (List ℕ)) (script : Script) (program : Program Frac) (state : State) : Type 0 where
   pub accepted : IsAccepted solvers script program
   pub named : All IsSolverName solvers
-  pub origin : IfSome script.saved (IsGoneOn script.source script.line)
+  pub origin : IfSome script.saved (IsGoneOn solvers script.source script.line)
   pub first : state ≡ first_state script.saved program
 
 -- ---- transfers
@@ -189,12 +191,10 @@ abbrev pub IsRemarked : Asked → Program Frac → State → List (Lp Frac) → 
 IsRemarked request program last solved answers text =
     (ranges line : List ℕ) × IsRanged request.ranges program solved answers ranges × IsTold request.source program last answers line × (text ≡ ranges ++ line)
 
--- The bytes are the save of a last state over a source, the numbers of the state are within the limit, and its settings choose one of the solvers,
--- where there are some.
+-- The bytes are the save of a last state over a source, and the numbers of the state are within the limit.
 pub record KeepsState (solvers : List (List ℕ)) (source : List ℕ) (program : Program Frac) (last : State) (bytes : List ℕ) : Type 0 where
   pub text : bytes ≡ saved_text source program.names last (solver_name solvers last)
   pub fit : (name : ℕ) → name < length program.names → (t : List ℕ) → fits_at number_limit (symbol_of last name).content t ≡ true
-  pub chosen : 0 < length solvers → last.settings.solver < length solvers
 
 -- that is so where the run is to be saved
 abbrev pub IsSave : Status → Asked → List (List ℕ) → List ℕ → Program Frac → State → List ℕ → Type 0

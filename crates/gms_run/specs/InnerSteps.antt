@@ -19,7 +19,7 @@ use Rattle.gms_event.specs.Events.{Event}
 use Rattle.gms_event.specs.EventView.{events_in}
 use Rattle.lp_core.specs.declared.answer.Answer.{Answer}
 use Rattle.lp_core.specs.declared.answer.Pivot.{Pivot}
-use Rattle.lp_core.specs.declared.answer.Rule.{Rule}
+use Rattle.lp_slot.specs.declared.solver.SolverRule.{SolverRule}
 use Rattle.lp_core.specs.declared.program.Lp.{Lp}
 use Rattle.lp_core.specs.Numbers.{lp_numbers}
 use Rattle.gms_exec.specs.Run.{Course, stopped, last_event}
@@ -38,12 +38,12 @@ ComesTo (Err Memory) Done Broken = Unit {0}
 -- ---- the programs of solves
 
 -- the answer at a place is one of a program, by settings that held at a solve
-abbrev pub IsAnsweredAt : List Rule → List (Answer Frac) → ℕ → Lp Frac → Type 0
+abbrev pub IsAnsweredAt : List SolverRule → List (Answer Frac) → ℕ → Lp Frac → Type 0
 IsAnsweredAt rules answers place lp = (settings : Settings) × IsStandingSolve frac_value number_limit rules answers lp place settings
 
 -- The programs of the solves among events are kept, in order: they are those that the solves show, there is one for each answer, and the answer at
 -- the place of each is one of it.
-pub record KeepsPrograms (rules : List Rule) (answers : List (Answer Frac)) (programs : List (Lp Frac)) (events : List Event) : Type 0 where
+pub record KeepsPrograms (rules : List SolverRule) (answers : List (Answer Frac)) (programs : List (Lp Frac)) (events : List Event) : Type 0 where
   pub shown : map (lp_numbers frac_value) programs ≡ programs_of (solves_in events)
   pub in_order : places_of (solves_in events) ≡ range_with_len 0 (length answers)
   pub answered : (place : ℕ) → IfSome (slice_get programs place) (IsAnsweredAt rules answers place)
@@ -64,7 +64,7 @@ pub record Between : Type 0 where
   pub solvers : Solvers
 
 -- the same, by what each solver tells
-abbrev pub between : {S : Type 0} → (S → List ℕ) → (S → Rule) → (S → List (List Pivot)) → State → List (Answer Frac) → List (Lp Frac) → List S → Between
+abbrev pub between : {S : Type 0} → (S → List ℕ) → (S → SolverRule) → (S → List (List Pivot)) → State → List (Answer Frac) → List (Lp Frac) → List S → Between
 between name rule paths state answers programs solvers =
     record { state = state; answers = answers; programs = programs; solvers = seen name rule paths solvers }
 
@@ -81,7 +81,7 @@ GoesOn false fault = (stop : Fault) × (fault ≡ Some stop)
 -- Statements were executed: they showed events and took answers behind those that were there, and the run came to the state and the end that
 -- they come to with these answers. The text of what they showed, and of the fault that stopped them, stands behind the text before. Each solve is
 -- answered, its program is kept behind those that were there, and the pivots of its answer stand behind the paths of its solver.
-pub record IsListed (goes_on : Bool) (does : Course → Course) (program : Program Frac) (rules : List Rule) (old new : Between) (before after : List ℕ) : Type 0 where
+pub record IsListed (goes_on : Bool) (does : Course → Course) (program : Program Frac) (rules : List SolverRule) (old new : Between) (before after : List ℕ) : Type 0 where
   pub shown : List (OwnEvent Frac)
   pub fault : Option Fault
   pub end : GoesOn goes_on fault

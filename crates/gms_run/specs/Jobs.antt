@@ -1,5 +1,5 @@
 -- A job, and what running it comes to: how far it goes with the answers of its solvers, and the text of that.
-use Rattle.std.specs.Prelude.{◌≡◌, ℕ, ◌+◌, ◌≤◌, ◌⊎◌, List, [], ◌++◌, length, take, codes, slice_get, unwrap_or, Option, Some, None}
+use Rattle.std.specs.Prelude.{◌≡◌, ℕ, ◌+◌, ◌≤◌, ◌⊎◌, List, [], ◌++◌, length, take, Option, Some, None}
 use Rattle.gq_frac.specs.declared.frac.Frac.{Frac}
 use Rattle.gq_frac.specs.Frac.{frac_value}
 use Rattle.gms_ast.specs.declared.program.Program.{Program}
@@ -12,6 +12,7 @@ use Rattle.gms_plans.specs.Moments.{AnswersAreSo}
 use Rattle.gms_list.specs.ListingText.{echo_text, events_text, end_text}
 use Rattle.gms_run.specs.declared.status.Status.{Status}
 use Rattle.gms_run.specs.declared.status.Status.TheVariants.{Done, Usage, Compile, Execution, ReadFault, WriteFault}
+pub use Rattle.gms_restart.specs.Restarts.{solver_name}
 use Rattle.gms_run.specs.Searches.{SearchesEnd}
 use Rattle.gms_saved.specs.SavedState.{saved_text}
 use Rattle.gms_run.specs.Scripts.{Script, first_state, statements_of}
@@ -43,9 +44,9 @@ abbrev pub course_of : Job → Solving → Course
 course_of job solving =
     run_from frac_value number_limit (record { program = job.program; solvers = solving.before.names }) job.state (numbers_of solving.answers) job.statements
 
--- The run of a job takes all answers; each solve has an answer of the linear program that its model means at that point, by the rule of the solver
--- that is chosen there; under Bland's rule no search breaks off that has pivots enough; and the pivots of each answer stand behind the paths of the
--- solver that gave it.
+-- The run of a job takes all answers; each solve has an answer of the linear program that its model means at that point, under the rule of the
+-- solver that is chosen there; no search breaks off that has pivots enough for that rule; and the pivots of each answer stand behind the paths of
+-- the solver that gave it.
 pub record IsSolved (job : Job) (solving : Solving) : Type 0 where
   pub all_taken : (course_of job solving).left ≡ []
   pub answered : AreAnswered frac_value number_limit solving.before.rules solving.answers (course_of job solving).events
@@ -95,10 +96,6 @@ job_text job solving = body_of job solving ++ last_line (course_of job solving).
 
 -- ---- its save
 
--- the name that a save has for the solver of a state: that of the solver, or `none` where there are no solvers
-abbrev pub solver_name : List (List ℕ) → State → List ℕ
-solver_name solvers state = unwrap_or (slice_get solvers state.settings.solver) (codes "none")
-
 -- the save of the last state of a job, over its source
 abbrev pub save_text : Job → Solving → List ℕ
 save_text job solving =
@@ -106,8 +103,18 @@ save_text job solving =
 
 -- ---- where it is cut off
 
--- A job is cut off where so many bytes of its listing were written and no more. Either nothing was solved; or, for some n, all answers are taken by
--- the first n + 1 statements, and the listing as far as the first n is at most 4,096 bytes longer than what was written.
+-- how many bytes of a listing a run holds back, at most, before it writes them
+abbrev pub most_held : ℕ
+most_held = 4096
+
+-- So many bytes of the listing of a job were written, and at most one statement was executed beyond them: all answers are taken by
+-- the statements before it and by itself, and the listing as far as those before it is written, except for the last 4,096 bytes.
+pub record IsWrittenUpTo (job : Job) (solving : Solving) (written : ℕ) : Type 0 where
+  -- how many statements are before it
+  pub before : ℕ
+  pub taken : (course_of (first_of (before + 1) job) solving).left ≡ []
+  pub held : length (body_of (first_of before job) solving) ≤ written + most_held
+
+-- a job whose listing was not written whole, but so many bytes of it: nothing was solved, or it was executed up to a statement
 abbrev pub IsCutOff : Job → Solving → ℕ → Type 0
-IsCutOff job solving written =
-    SolvesNothing solving ⊎ ((n : ℕ) × ((course_of (first_of (n + 1) job) solving).left ≡ []) × (length (body_of (first_of n job) solving) ≤ written + 4096))
+IsCutOff job solving written = SolvesNothing solving ⊎ IsWrittenUpTo job solving written

@@ -1,13 +1,16 @@
--- Laws of jobs, and what the answers of a run say.
-use Rattle.std.specs.Prelude.{◌≡◌, ℕ, List, [], ◌++◌, map}
+-- Laws of jobs, what the answers of a run say, and what a restarted run says.
+use Rattle.std.specs.Prelude.{◌≡◌, ℕ, List, [], ◌++◌, length, map, None}
 use Rattle.gq_frac.specs.declared.frac.Frac.{Frac}
 use Rattle.gq_frac.specs.Frac.{frac_value}
 use Rattle.gms_ast.specs.declared.program.Stmt.{Stmt}
 use Rattle.gms_exec.specs.Run.{Course, of_statement, one_after_another}
+use Rattle.gms_joint.specs.JointRun.{behind_run}
+use Rattle.gms_save.specs.JointErrors.{saved_statements}
 use Rattle.gms_run.specs.Solving.{Solving, number_limit}
-use Rattle.gms_run.specs.Scripts.{Taken, Matter, IsMatter}
-use Rattle.gms_run.specs.Jobs.{Job, course_of, HasRightAnswers}
-use Rattle.gms_run.specs.Listings.{IsExecuted}
+use Rattle.gms_run.specs.declared.status.Status.TheVariants.{Done}
+use Rattle.gms_run.specs.Scripts.{Taken, Matter, IsMatter, first_line, from_save, from_start, joint_source, script_of, scripted}
+use Rattle.gms_run.specs.Jobs.{Job, course_of, first_of, HasRightAnswers}
+use Rattle.gms_run.specs.Listings.{IsExecuted, IsJob, IsListing, SavesLast}
 
 -- a job with other statements
 abbrev pub with_statements : Job → List (Stmt Frac) → Job
@@ -32,3 +35,41 @@ RunIsAnsweredRightly solving = (taken : Taken) (matter : Matter) (text : List �
 -- that is so of each run
 abbrev pub RunsAreAnsweredRightly : Type 0
 RunsAreAnsweredRightly = (solving : Solving) → RunIsAnsweredRightly solving
+
+-- ---- restarts
+
+-- A run of a source was done and saved, and a file was run from its save, with the same solvers.
+pub record IsRestart (first second : Solving) (source file : List ℕ) : Type 0 where
+  pub base : Matter
+  pub starts : IsMatter first.before.names (from_start source) base
+  pub text : List ℕ
+  pub done : IsListing Done first base text
+  pub save : List ℕ
+  pub saves : SavesLast first base save
+  pub matter : Matter
+  pub resumes : IsMatter second.before.names (from_save save file) matter
+  pub listing : List ℕ
+  pub run : IsExecuted second matter listing
+  pub same_solvers : second.before.names ≡ first.before.names
+
+-- One long run of the joint source, with the answers of both and the same solvers, is that of this job.
+pub record IsLongRun (first second long : Solving) (source file : List ℕ) (job : Job) : Type 0 where
+  pub is_job : IsJob long.before.names (scripted (script_of (joint_source source file))) job
+  pub same_solvers : long.before.names ≡ first.before.names
+  pub answers : long.answers ≡ first.answers ++ second.answers
+
+-- the run of the saved source's statements in the long run
+abbrev pub base_course : List ℕ → Job → Solving → Course
+base_course source job long = course_of (first_of (length (saved_statements (first_line source) job.program)) job) long
+
+-- The long run is that of the saved source's statements, which take the answers of the saved run, followed by the restarted run. What the restarted
+-- run keeps is what the long run keeps, so that restarts may follow one another.
+pub record SaysBoth (first second long : Solving) (source file : List ℕ) (restart : IsRestart first second source file) (job : Job) : Type 0 where
+  pub is : course_of job long ≡ behind_run (base_course source job long) (course_of restart.run.job second)
+  pub taken : (base_course source job long).taken ≡ length first.answers
+  pub keeps : (bytes : List ℕ) → SavesLast second restart.matter bytes → SavesLast long (scripted (script_of (joint_source source file))) bytes
+
+-- So it is of each, where the long run executes the saved source's statements to their end.
+abbrev pub RestartsSayTheSame : Type 0
+RestartsSayTheSame = (first second long : Solving) (source file : List ℕ) (restart : IsRestart first second source file) (job : Job) →
+    IsLongRun first second long source file job → (base_course source job long).halted ≡ None → SaysBoth first second long source file restart job

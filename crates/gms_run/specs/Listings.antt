@@ -1,5 +1,5 @@
 -- What there is to run is to solvers of some names: refused, or a job; its listing, and its save.
-use Rattle.std.specs.Prelude.{◌≡◌, ◌≢◌, ℕ, pos, ◌⊎◌, Bool, true, false, ◌++◌, length, List, [], map, sum, codes, option_map, unwrap_or, Option, None, IfSome, if◌then◌else◌}
+use Rattle.std.specs.Prelude.{◌≡◌, ◌≢◌, ℕ, pos, ◌⊎◌, Bool, true, false, ◌++◌, length, List, [], map, sum, codes, option_map, unwrap_or, Option, Some, None, IfSome, if◌then◌else◌}
 use Rattle.std.specs.List.{range_with_len}
 use Rattle.gq_number.specs.Number.{Number, whole}
 use Rattle.gq_frac.specs.declared.frac.Frac.{Frac}
@@ -110,14 +110,14 @@ IsFront solving matter text written =
 
 -- ---- saves
 
--- The bytes are the save of the last state of the run. They are a save of this state by the definition of saves, and its solver is found among the
--- same solvers again, so that `restore` gives this state back.
+-- The bytes are the save of the last state of the run. They are a save of this state by the definition of saves, and the place of the solver that it
+-- names is the one that the state's settings have, so that `restore` with the same solvers gives this very state back.
 pub record SavesLast (solving : Solving) (matter : Matter) (bytes : List ℕ) : Type 0 where
   pub job : Job
   pub is_job : IsJob solving.before.names matter job
   pub text : bytes ≡ save_text job solving
   pub is_save : IsSaveOf bytes job.source job.program (course_of job solving).state (solver_name solving.before.names (course_of job solving).state)
-  pub placed : place_of_solver solving.before.names (solver_name solving.before.names (course_of job solving).state) ≢ None
+  pub placed : place_of_solver solving.before.names (solver_name solving.before.names (course_of job solving).state) ≡ Some (course_of job solving).state.settings.solver
 
 -- the file for the last state of a run that ends so, where it is to be saved: every statement was executed, and the words name a file for it
 abbrev pub save_file : Status → Asked → Option (List ℕ)

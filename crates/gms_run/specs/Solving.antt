@@ -5,7 +5,7 @@ use Rattle.gq_frac.specs.declared.frac.Frac.{Frac}
 use Rattle.gq_frac.specs.Frac.{frac_value}
 use Rattle.lp_core.specs.declared.answer.Answer.{Answer}
 use Rattle.lp_core.specs.declared.answer.Pivot.{Pivot}
-use Rattle.lp_core.specs.declared.answer.Rule.{Rule}
+use Rattle.lp_slot.specs.declared.solver.SolverRule.{SolverRule}
 use Rattle.lp_core.specs.declared.program.Lp.{Lp}
 use Rattle.lp_core.specs.Numbers.{answer_numbers}
 use Rattle.gms_event.specs.Events.{Event, Solved, solves}
@@ -17,7 +17,7 @@ number_limit = 2 ^ 127 - 1
 -- Solvers as a run sees them: their names, their rules, and their paths, in order.
 pub record Solvers : Type 0 where
   pub names : List (List ℕ)
-  pub rules : List Rule
+  pub rules : List SolverRule
   -- the pivots of each answer that a solver has given
   pub paths : List (List (List Pivot))
 
@@ -28,11 +28,11 @@ pub record Solving : Type 0 where
   pub answers : List (Answer Frac)
 
 -- solvers as they are seen, by what each of them tells
-abbrev pub seen : {S : Type 0} → (S → List ℕ) → (S → Rule) → (S → List (List Pivot)) → List S → Solvers
+abbrev pub seen : {S : Type 0} → (S → List ℕ) → (S → SolverRule) → (S → List (List Pivot)) → List S → Solvers
 seen name rule paths solvers = record { names = map name solvers; rules = map rule solvers; paths = map paths solvers }
 
 -- what a run is lent and gives, by what each solver tells
-abbrev pub solving : {S : Type 0} → (S → List ℕ) → (S → Rule) → (S → List (List Pivot)) → List S → List S → List (Answer Frac) → Solving
+abbrev pub solving : {S : Type 0} → (S → List ℕ) → (S → SolverRule) → (S → List (List Pivot)) → List S → List S → List (Answer Frac) → Solving
 solving name rule paths old new answers =
     record { before = seen name rule paths old; after = seen name rule paths new; answers = answers }
 

@@ -1,22 +1,25 @@
 -- What a run did, by the status with which it ends: what it ran, its answers, and what stands outside.
-use Rattle.std.specs.Prelude.{◌≡◌, ℕ, ◌≢◌, ◌+◌, ◌≤◌, ◌⊎◌, true, false, List, [], ◌∷◌, drop, length, Option, Some, None, option_map, IfSome}
+use Rattle.std.specs.Prelude.{◌≡◌, ℕ, ◌≢◌, ◌+◌, ◌≤◌, ◌⊎◌, true, false, List, [], ◌∷◌, ◌++◌, drop, length, Option, Some, None, option_map, IfSome}
 use Rattle.std.specs.FinMap as files_map
 use Rattle.gq_frac.specs.declared.frac.Frac.{Frac}
+use Rattle.gq_frac.specs.Frac.{frac_value}
 use Rattle.gms_host.specs.Meaning.{Meaning, Outside, Counts, Files, Rose}
 use Rattle.gms_host.specs.Rules.{IsThere, with_asked, with_emptied, with_kept, with_opened, with_output, with_said}
-use Rattle.gms_host.specs.Spooling.{SaysFront, WritesFront}
+use Rattle.gms_host.specs.Spooling.{SaysFront}
 use Rattle.gms_ast.specs.declared.program.Program.{Program}
 use Rattle.gms_lex.specs.Tokens.{most_bytes}
 use Rattle.gms_gen.specs.Generator.{model_text}
+use Rattle.gms_parse.specs.Outcomes.{HasProgram, ProgramView, program_view}
 use Rattle.gms_store.specs.State.{State}
 use Rattle.gms_save.specs.declared.saved.Saved.{Saved}
 use Rattle.gms_save.specs.Saves.{most_bytes as most_save_bytes, IsRestored, IsSaveOf, place_of_solver}
 use Rattle.gms_words.specs.CommandLine.{Asked, Origin, in_file, restarted, generated, request_of, usage_line, read_fault_line}
 use Rattle.gms_run.specs.declared.status.Status.{Status}
 use Rattle.gms_run.specs.declared.status.Status.TheVariants.{Done, Usage, Compile, Execution, ReadFault, WriteFault}
-use Rattle.gms_run.specs.Solving.{Solving, SolvesNothing}
-use Rattle.gms_run.specs.Scripts.{Script, Matter, Taken, from_start, from_save, script_of, joint_script, IsMatter}
-use Rattle.gms_run.specs.Listings.{IsAccepted, IsListing, IsFront, AreClosing, SavesLast, SavesSo, save_file}
+use Rattle.gms_run.specs.Solving.{Solving, SolvesNothing, number_limit}
+use Rattle.gms_run.specs.Scripts.{Script, Matter, Taken, from_start, from_save, script_of, joint_script, errors_of, IsMatter}
+use Rattle.gms_run.specs.Jobs.{Job, course_of, HaltsSo}
+use Rattle.gms_run.specs.Listings.{IsJob, IsListing, IsFront, AreClosing, SavesLast, SavesSo, save_file}
 
 -- ---- what is taken
 
@@ -90,10 +93,17 @@ with_file o output text = with_kept (with_listing o output text)
 abbrev pub IsUnopenedFile : Outside → Outside → List ℕ → Type 0
 IsUnopenedFile old new name = (new ≡ with_emptied old false) ⊎ (new ≡ with_asked (with_emptied old false) (name ∷ []))
 
+-- A prefix of these bytes was added to the output, and the others are missing.
+pub record AddsPrefix (old new : Outside) (bytes : List ℕ) : Type 0 where
+  pub added : List ℕ
+  pub missing : List ℕ
+  pub split : bytes ≡ added ++ missing
+  pub outside : new ≡ with_output old added
+
 -- these bytes were not written to the output of a name, or it was not closed well: how far that came
 abbrev pub IsUnwrittenFile : Outside → Outside → List ℕ → List ℕ → Type 0
 IsUnwrittenFile old new name bytes =
-    IsUnopenedFile old new name ⊎ (WritesFront (with_opened old name) new bytes ⊎ (new ≡ record (with_listing old name bytes) { writing = false }))
+    IsUnopenedFile old new name ⊎ (AddsPrefix (with_opened old name) new bytes ⊎ (new ≡ record (with_listing old name bytes) { writing = false }))
 
 -- these bytes were written to the file of a name, where there is one
 abbrev pub with_save : Outside → Option (List ℕ) → List ℕ → Outside
@@ -122,11 +132,11 @@ pub record IsUnopened (solving : Solving) (old new : Outside) (request : Asked) 
   pub none : SolvesNothing solving
   pub outside : IsUnopenedFile old new request.output
 
--- The front of the text that is due was written to the opened output.
+-- A listing was not written whole: a prefix of the expected text was added to the opened output.
 pub record IsUnwritten (solving : Solving) (opened new : Outside) (matter : Matter) : Type 0 where
   pub text : List ℕ
-  pub front : WritesFront opened new text
-  pub due : IsFront solving matter text (length front.1.bytes)
+  pub prefix : AddsPrefix opened new text
+  pub due : IsFront solving matter text (length prefix.added)
 
 -- The whole listing was written, but the output was not closed well.
 pub record IsUnclosed (solving : Solving) (old new : Outside) (request : Asked) (matter : Matter) : Type 0 where
@@ -232,9 +242,12 @@ Gives o (restarted saved file) (from_save save source) = HasFile o saved save ×
 Gives o (generated size) (from_start source) = source ≡ model_text size size size
 Gives o origin taken = ⊥
 
--- the source of a script is a program without errors
-abbrev pub IsGood : List (List ℕ) → Script → Type 0
-IsGood solvers script = (program : Program Frac) × IsAccepted solvers script program
+-- The source of a script is a program without errors: it has a program, which is seen so, and wherever the parts of that are kept
+-- in memory it has no error.
+pub record IsGood (solvers : List (List ℕ)) (script : Script) : Type 0 where
+  pub view : ProgramView
+  pub has_program : HasProgram number_limit script.source view
+  pub no_error : (program : Program Frac) → program_view frac_value program ≡ view → errors_of script.saved script.line program solvers ≡ []
 
 -- A save can be restored: it is not too long, it is the save of a state of a program, and a solver has the name that it has.
 pub record IsGoodSave (solvers : List (List ℕ)) (save : List ℕ) : Type 0 where
@@ -263,6 +276,18 @@ pub record NamesSource (old : Outside) (words : List (List ℕ)) : Type 0 where
 pub record NamesProgram (solvers : List (List ℕ)) (old : Outside) (words : List (List ℕ)) : Type 0 where
   pub source : NamesSource old words
   pub can_run : CanRun solvers source.taken
+
+-- ---- execution errors
+
+-- What is taken can be run, and its run with the answers that the solvers give is stopped by an execution error.
+pub record IsStopped (solving : Solving) (taken : Taken) : Type 0 where
+  pub matter : Matter
+  pub is_matter : IsMatter solving.before.names taken matter
+  pub job : Job
+  pub is_job : IsJob solving.before.names matter job
+  pub halts : HaltsSo Execution (course_of job solving).halted
+
+-- ---- faults of the host
 
 -- no fault was met: the host is reliable, or neither count of faults rose
 abbrev pub MeetsNoFault : Counts → Counts → Type 0

@@ -2,7 +2,6 @@
 ghost use Rattle.std.specs.Prelude.{◌≡◌, ◌<◌, ◌++◌, ℕ, List, true, codes, length, map, option_map, slice_get, unwrap_or, IfOk, OnOk, string_bytes};
 ghost use Rattle.gq_frac.specs.Frac.{frac_value};
 ghost use Rattle.gms_store.specs.State.{fits_at, symbol_of};
-ghost use Rattle.gms_exec.specs.Stepping.{AreKept};
 ghost use Rattle.gms_ranges.specs.Answered.{AreAnswered};
 ghost use Rattle.gms_words.specs.CommandLine.{asked_by, closing_line, origin};
 ghost use Rattle.gms_host.specs.Rules.{CountsWriting};
@@ -185,7 +184,6 @@ impl Run {
         program: &Program<Frac>,
         solvers: &[Box<dyn LpSolver>],
     ) -> Result<Vec<u8>, AllocError>
-        requires { AreKept (length solvers.now) self.now.store.settings }
         ensures { IfOk result (λ bytes. IsSave status (asked_by request.entry) (map name solvers.now) source.now program.now self.now.store bytes.items) }
     {
         if save_file(status, request).is_none() {

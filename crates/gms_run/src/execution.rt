@@ -214,7 +214,6 @@ fn statements<H: Host>(
     requires room { length (outlet.old.spool ++ outlet.old.listing) ≤ 4096 }
     ensures outside { ComesTo result (λ status. EndsBehind status (work program.now store.old list.now) (solving name rule paths solvers.old.items solvers.new.items answers.new.items) store.new solved.new.items (H.meaning host.old).outside (H.meaning host.new).outside (outlet.old.spool ++ outlet.old.listing) (outlet.new.spool ++ outlet.new.listing))
         (BreaksBehind (work program.now store.old list.now) (solving name rule paths solvers.old.items solvers.new.items answers.new.items) (H.meaning host.old).outside (H.meaning host.new).outside (outlet.old.spool ++ outlet.old.listing)) }
-    ensures settings { OnOk result (AreKept (length solvers.old.items) store.new.settings) }
     ensures counts { CountsWriting result (H.meaning host.old).counts (H.meaning host.new).counts }
 {
     for s in list {

@@ -1,5 +1,5 @@
 //! Laws of runs.
-ghost use Rattle.gms_run.specs.Laws.{RunsJoin, RunsAreAnsweredRightly};
+ghost use Rattle.gms_run.specs.Laws.{RestartsSayTheSame, RunsJoin, RunsAreAnsweredRightly};
 
 use gms_plans::plan_laws;
 use gq_frac::Frac;
@@ -18,3 +18,12 @@ pub fn answer_laws()
 {
     plan_laws::<Frac>();
 }
+
+/// A file that is run from a save says what it says in one long run. Let a run of a source be done and keep a save. Let a file be
+/// run from that save, with the same solvers. Take one long run of the joint source, with the answers of both, that executes the
+/// saved source's statements to their end: it shows what these show, and then what the restarted run shows, with the place of
+/// each answer later by how many the saved run took, and it ends as the restarted run does. What the restarted run keeps is what
+/// the long run keeps, so restarts may follow one another (GAMS User's Guide, "Save and Restart").
+pub fn save_laws()
+    ensures { RestartsSayTheSame }
+{}

@@ -12,6 +12,6 @@ mod status;
 mod top_call;
 mod transfer;
 
-pub use laws::{answer_laws, run_laws};
+pub use laws::{answer_laws, run_laws, save_laws};
 pub use status::Status;
 pub use top_call::{Ended, run};

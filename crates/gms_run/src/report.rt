@@ -153,7 +153,7 @@ fn checked<H: Host>(
     requires open { (H.meaning host.old).outside.writing ≡ true }
     requires few { length solvers.old.items < 2 ^ 32 }
     requires is_program { IsProgram number_limit script.source.now frac_value program.now }
-    requires sound { IsSound (length solvers.old.items) (script_in script run.old.store).source script.line (script_in script run.old.store).saved }
+    requires sound { IsSound (map name solvers.old.items) (script_in script run.old.store).source script.line (script_in script run.old.store).saved }
     requires none { answers.old.items ≡ [] }
     requires empty { outlet.old.spool ++ outlet.old.listing ≡ [] }
     requires silent { string_bytes run.old.remarks ≡ [] }
@@ -186,7 +186,7 @@ fn parsed<H: Host>(
 ) -> Result<Status, Failed>
     requires open { (H.meaning host.old).outside.writing ≡ true }
     requires few { length solvers.old.items < 2 ^ 32 }
-    requires sound { IsSound (length solvers.old.items) (script_in script run.old.store).source script.line (script_in script run.old.store).saved }
+    requires sound { IsSound (map name solvers.old.items) (script_in script run.old.store).source script.line (script_in script run.old.store).saved }
     requires none { answers.old.items ≡ [] }
     requires empty { outlet.old.spool ++ outlet.old.listing ≡ [] }
     requires silent { string_bytes run.old.remarks ≡ [] }
@@ -221,7 +221,7 @@ fn listed<H: Host>(
 ) -> Result<Status, Failed>
     requires open { (H.meaning host.old).outside.writing ≡ true }
     requires few { length solvers.old.items < 2 ^ 32 }
-    requires sound { IsSoundMatter (length solvers.old.items) (matter_in matter run.old.store) }
+    requires sound { IsSoundMatter (map name solvers.old.items) (matter_in matter run.old.store) }
     requires none { answers.old.items ≡ [] }
     requires empty { outlet.old.spool ++ outlet.old.listing ≡ [] }
     requires silent { string_bytes run.old.remarks ≡ [] }
@@ -253,7 +253,7 @@ pub(crate) fn report<H: Host>(
 ) -> Result<Status, Failed>
     requires open { (H.meaning host.old).outside.writing ≡ true }
     requires few { length solvers.old.items < 2 ^ 32 }
-    requires sound { IsSoundMatter (length solvers.old.items) (matter_in matter run.old.store) }
+    requires sound { IsSoundMatter (map name solvers.old.items) (matter_in matter run.old.store) }
     requires none { answers.old.items ≡ [] }
     requires silent { string_bytes run.old.remarks ≡ [] }
     requires unsolved { run.old.solved.items ≡ [] }

@@ -10,7 +10,7 @@ ghost use Rattle.gms_run.specs.InnerSteps.{ComesTo};
 ghost use Rattle.gms_run.specs.Laws.{RunIsAnsweredRightly};
 ghost use Rattle.gms_run.specs.Scripts.{first_line, from_save, joint_script, joint_source, script_of, scripted};
 ghost use Rattle.gms_run.specs.Solving.{solving};
-ghost use Rattle.gms_run.specs.Statuses.{CanRun, CountsSo, EndsByNoFault, HasOrigin, IsReadyFor, IsReported, IsRun, IsWriteFault, MeetsNoFault, NamesProgram, NamesSource, OfRequest, RanSo, SaysLine};
+ghost use Rattle.gms_run.specs.Statuses.{CanRun, CountsSo, EndsByNoFault, HasOrigin, IsReadyFor, IsReported, IsRun, IsStopped, IsWriteFault, MeetsNoFault, NamesProgram, NamesSource, OfRequest, RanSo, SaysLine};
 
 use crate::closing::{push_closing, write_save};
 use crate::execution::Run;
@@ -53,7 +53,7 @@ fn write_report<H: Host>(
     run: &mut Run,
 ) -> Result<Status, Failed>
     requires few { length solvers.old.items < 2 ^ 32 }
-    requires sound { IsSoundMatter (length solvers.old.items) (matter_in matter run.old.store) }
+    requires sound { IsSoundMatter (map name solvers.old.items) (matter_in matter run.old.store) }
     requires none { answers.old.items ≡ [] }
     requires named { output.now ≡ (asked_by request).output }
     requires silent { string_bytes run.old.remarks ≡ [] }
@@ -115,7 +115,7 @@ fn run_matter<H: Host>(
     run: &mut Run,
 ) -> Result<Status, AllocError>
     requires few { length solvers.old.items < 2 ^ 32 }
-    requires sound { IsSoundMatter (length solvers.old.items) (matter_in matter run.old.store) }
+    requires sound { IsSoundMatter (map name solvers.old.items) (matter_in matter run.old.store) }
     requires none { answers.old.items ≡ [] }
     requires silent { string_bytes run.old.remarks ≡ [] }
     requires unsolved { run.old.solved.items ≡ [] }
@@ -137,7 +137,7 @@ fn run_anew<H: Host>(
     answers: &mut Vec<Answer<Frac>>,
 ) -> Result<Status, AllocError>
     requires few { length solvers.old.items < 2 ^ 32 }
-    requires sound { (state : State) → IsSoundMatter (length solvers.old.items) (matter_in matter state) }
+    requires sound { (state : State) → IsSoundMatter (map name solvers.old.items) (matter_in matter state) }
     requires none { answers.old.items ≡ [] }
     ensures ran { IfOk result (λ status. (state : State) × RanSo status (solving name rule paths solvers.old.items solvers.new.items answers.new.items) (H.meaning host.old).outside (H.meaning host.new).outside (asked_by request.entry) (matter_in matter.entry state)) }
     ensures counts { CountsRun result ((H.meaning host.old).counts.reliable ≡ true) (H.meaning host.old).counts (H.meaning host.new).counts }
@@ -182,7 +182,7 @@ fn run_joint<H: Host>(
 ) -> Result<Status, AllocError>
     requires few { length solvers.old.items < 2 ^ 32 }
     requires short { length saved.old.source.items ≤ most_bytes }
-    requires sound { CanGoOn (length solvers.old.items) (joint_source saved.old.source.items file.now) (first_line saved.old.source.items) saved.old.store }
+    requires sound { CanGoOn (map name solvers.old.items) (joint_source saved.old.source.items file.now) (first_line saved.old.source.items) saved.old.store }
     requires none { answers.old.items ≡ [] }
     ensures ran { IfOk result (λ status. RanSo status (solving name rule paths solvers.old.items solvers.new.items answers.new.items) (H.meaning host.old).outside (H.meaning host.new).outside (asked_by request.entry) (scripted (joint_script saved.old.source.items saved.old.store file.now))) }
     ensures counts { CountsRun result ((H.meaning host.old).counts.reliable ≡ true) (H.meaning host.old).counts (H.meaning host.new).counts }
@@ -391,9 +391,14 @@ fn run_words<H: Host>(
 /// names and rules, and the pivots of each answer are appended to the paths of the solver that gave it; with Usage, Compile and
 /// ReadFault nothing is solved. There are fewer than 2^32 solvers.
 ///
+/// `usage`, `compile` and `execution` say exactly where a run ends with Usage, Compile and Execution, the last two over a host
+/// that exposes its files, where no fault is met. Execution comes exactly where the run that the source means is stopped by an
+/// execution error, with the answers that the solvers give in it: later statements read them, so they may decide it.
+///
 /// What the clauses leave open: `AllocError` comes where a growth finds no memory, here or in the host. Then only `steady`
 /// holds, and the output may hold a prefix of a listing. Where the host hides its files, the source is some source, and
-/// `compile` and `complete` are silent. Of a solver whose rule is Legal they promise legal pivots, and not which of them.
+/// `compile`, `execution` and `complete` are silent. Of a solver whose rule is Legal they promise legal pivots, and not which of
+/// them.
 pub fn run<H: Host>(
     alloc: Global,
     words: &[String],
@@ -417,9 +422,11 @@ pub fn run<H: Host>(
     ensures no_fault { IsReadyFor (H.meaning host.old) (texts words.now) → IfOk result (λ ended. EndsByNoFault ended.status) }
 
     // The words are refused exactly where they request no source. Where no fault is met, a source of a host that exposes its
-    // files is refused exactly where it cannot be run, and a program is run.
+    // files is refused exactly where it cannot be run, ends with an execution error exactly where its run with these answers is
+    // stopped by one, and a program is run.
     ensures usage { IfOk result (λ ended. (ended.status ≡ Status.Usage) ↔ (request_of (texts words.now) ≡ None)) }
     ensures compile { (source : NamesSource (H.meaning host.old).outside (texts words.now)) → MeetsNoFault (H.meaning host.old).counts (H.meaning host.new).counts → IfOk result (λ ended. (ended.status ≡ Status.Compile) ↔ ¬ (CanRun (map name solvers.old.items) source.taken)) }
+    ensures execution { (source : NamesSource (H.meaning host.old).outside (texts words.now)) → MeetsNoFault (H.meaning host.old).counts (H.meaning host.new).counts → IfOk result (λ ended. (ended.status ≡ Status.Execution) ↔ IsStopped (solving name rule paths solvers.old.items solvers.new.items ended.answers.items) source.taken) }
     ensures complete { NamesProgram (map name solvers.old.items) (H.meaning host.old).outside (texts words.now) → MeetsNoFault (H.meaning host.old).counts (H.meaning host.new).counts → IfOk result (λ ended. (ended.status ≡ Status.Done) ⊎ (ended.status ≡ Status.Execution)) }
 {
     let mut answers = Vec::new(alloc);

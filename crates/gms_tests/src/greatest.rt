@@ -1,14 +1,14 @@
 //! A solver of another rule than Bland's: the improving variable with the greatest number enters.
 ghost use Rattle.std.specs.Prelude.{⊤, ◌≡◌, ◌∷◌, ◌++◌, [], codes};
-ghost use Rattle.lp_core.specs.declared.answer.Rule.TheVariants as by;
+ghost use Rattle.lp_slot.specs.declared.solver.SolverRule.TheVariants as slot;
 ghost use Rattle.lp_core.specs.Dictionary.{Improves};
 ghost use Rattle.lp_bland.specs.Name.{greatest_is_name};
 
 use gq_field::ExactField;
 use gq_frac::Frac;
-use lp_core::{Answer, Lp, Pivot, Rule, Sequence};
+use lp_core::{Answer, Lp, Pivot, Sequence};
 use lp_dict::Dict;
-use lp_slot::LpSolver;
+use lp_slot::{LpSolver, SolverRule};
 use lp_walk::{Choosing, solve_by};
 use std::alloc::{AllocError, Global};
 use std::marker::Model;
@@ -68,7 +68,7 @@ impl GreatestFirst {
 impl LpSolver for GreatestFirst {
     ghost name = { λ _. codes "greatest" };
 
-    ghost rule = { λ _. by.Legal };
+    ghost rule = { λ _. slot.Legal };
 
     ghost paths = { λ s. s };
 
@@ -76,8 +76,8 @@ impl LpSolver for GreatestFirst {
         "greatest"
     }
 
-    fn rule(&self) -> Rule {
-        Rule::Legal
+    fn rule(&self) -> SolverRule {
+        SolverRule::Legal
     }
 
     fn paths(&self) -> &[Sequence<Pivot>] {

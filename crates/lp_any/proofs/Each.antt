@@ -17,17 +17,19 @@ module _ {F : Type 0} (value : F → Number) (limit : ℕ) (lp : Lp F) (iterlim 
   abbrev By : Member → Type 0
   By rule = IsRefusedBy value limit rule lp iterlim
 
-  each : By member.Steepest → By member.Shortest → By member.GainForBits → By member.Largest → By member.Bland → (rule : Member) → By rule
-  each steepest shortest gain largest bland member.Steepest = steepest
-  each steepest shortest gain largest bland member.Shortest = shortest
-  each steepest shortest gain largest bland member.GainForBits = gain
-  each steepest shortest gain largest bland member.Largest = largest
-  each steepest shortest gain largest bland member.Bland = bland
+  each : By member.Steepest → By member.Shortest → By member.GainForBits → By member.ShortInRow → By member.ShortInBoth → By member.Largest → By member.Bland → (rule : Member) → By rule
+  each steepest shortest gain in_row in_both largest bland member.Steepest = steepest
+  each steepest shortest gain in_row in_both largest bland member.Shortest = shortest
+  each steepest shortest gain in_row in_both largest bland member.GainForBits = gain
+  each steepest shortest gain in_row in_both largest bland member.ShortInRow = in_row
+  each steepest shortest gain in_row in_both largest bland member.ShortInBoth = in_both
+  each steepest shortest gain in_row in_both largest bland member.Largest = largest
+  each steepest shortest gain in_row in_both largest bland member.Bland = bland
 
-  pub each_refused : (result : Result (Answer F) AllocError) → By member.Steepest → By member.Shortest → By member.GainForBits → By member.Largest
+  pub each_refused : (result : Result (Answer F) AllocError) → By member.Steepest → By member.Shortest → By member.GainForBits → By member.ShortInRow → By member.ShortInBoth → By member.Largest
       → IfOk result (IsAnswerOf value limit member.Bland lp iterlim) → IfOk result (λ answer. IsRefused answer.end → (rule : Member) → By rule)
-  each_refused (Ok answer) steepest shortest gain largest bland = λ refused. each steepest shortest gain largest (answer, bland, refused)
-  each_refused (Err e) steepest shortest gain largest bland = bland
+  each_refused (Ok answer) steepest shortest gain in_row in_both largest bland = λ refused. each steepest shortest gain in_row in_both largest (answer, bland, refused)
+  each_refused (Err e) steepest shortest gain in_row in_both largest bland = bland
 
   pub bland_if_ok : (result : Result (Answer F) AllocError) → IfOk result (IsAnswerOf value limit member.Bland lp iterlim) → IfOk result (λ answer. (rule : Member) × IsAnswerOf value limit rule lp iterlim answer)
   bland_if_ok (Ok answer) bland = (member.Bland, bland)

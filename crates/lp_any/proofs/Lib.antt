@@ -1,3 +1,5 @@
 pub mod Cheapest
+pub mod Denominators
 pub mod Each
+pub mod Few
 pub mod Measured

@@ -1,4 +1,5 @@
 pub mod Costs
+pub mod Denominators
 pub mod Measures
 pub mod Members
 pub mod Name

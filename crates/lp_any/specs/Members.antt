@@ -10,7 +10,7 @@ use Rattle.lp_core.specs.LargestCoefficient.{IsLargestAnswer}
 use Rattle.lp_turn.specs.Turn.{IsTurningAnswer}
 use Rattle.lp_bland.specs.Ends.{IsRefused}
 use Rattle.lp_any.specs.Costs.{IsCheapest}
-use Rattle.lp_any.specs.Measures.{IsCostBy, LengthAt, GainAt}
+use Rattle.lp_any.specs.Measures.{IsCostBy, LengthAt, GainAt, RowAt, BothAt}
 use Rattle.lp_any.specs.declared.members.Member.{Member}
 use Rattle.lp_any.specs.declared.members.Member.TheVariants as member
 
@@ -21,6 +21,8 @@ module _ {F : Type 0} (value : F → Number) (limit : ℕ) where
   IsAnswerOf member.Steepest lp iterlim answer = IsTurningAnswer value limit Improves lp iterlim answer
   IsAnswerOf member.Shortest lp iterlim answer = IsTurningAnswer value limit (IsCheapest (IsCostBy limit LengthAt)) lp iterlim answer
   IsAnswerOf member.GainForBits lp iterlim answer = IsTurningAnswer value limit (IsCheapest (IsCostBy limit GainAt)) lp iterlim answer
+  IsAnswerOf member.ShortInRow lp iterlim answer = IsTurningAnswer value limit (IsCheapest (IsCostBy limit RowAt)) lp iterlim answer
+  IsAnswerOf member.ShortInBoth lp iterlim answer = IsTurningAnswer value limit (IsCheapest (IsCostBy limit BothAt)) lp iterlim answer
   IsAnswerOf member.Largest lp iterlim answer = IsLargestAnswer value limit lp iterlim answer
   IsAnswerOf member.Bland lp iterlim answer = IsAnswer value limit lp iterlim Bland answer
 

@@ -3,6 +3,7 @@ ghost use Rattle.std.specs.Prelude.{◌↔◌, IsTrue, IfOk};
 ghost use Rattle.lp_core.specs.declared.answer.Rule.TheVariants as by;
 ghost use Rattle.lp_core.specs.Answers.{IsAnswer};
 ghost use Rattle.lp_core.specs.WellFormed.{IsWellFormed};
+ghost use Rattle.lp_nocycle.specs.Turns.{HasFewPivotsByTurn, ComesToEndByTurn};
 ghost use Rattle.lp_bland.specs.Ends.{IsRefused};
 ghost use Rattle.lp_any.specs.declared.members.Member.{Member as MemberName};
 ghost use Rattle.lp_any.specs.Members.{IsAnswerOf, IsRefusedBy};
@@ -26,7 +27,8 @@ fn is_refused<F: ExactField>(end: &End<F>) -> bool
 /// refused, that by Bland's rule: Chvatal, Linear Programming, chapters 2 and 3.
 ///
 /// Numbers grow along the pivots, and another way may keep them within the limit of the field. The answer is Refused only where it is by
-/// each of the rules. Its pivots are those of the rule that gives it. The error is out of memory.
+/// each of the rules. Its pivots are those of the rule that gives it: the turn bounds them, and with a limit of at least the bound the end
+/// is not Interrupted. The error is out of memory.
 pub fn solve_in<F: ExactField>(
     alloc: Global,
     lp: &Lp<F>,
@@ -36,6 +38,8 @@ pub fn solve_in<F: ExactField>(
     ensures member { IfOk result (λ answer. (member : MemberName) × IsAnswerOf F.value F.limit member lp.now iterlim answer) }
     ensures refused { IfOk result (λ answer. IsRefused answer.end → (member : MemberName) → IsRefusedBy F.value F.limit member lp.now iterlim) }
     ensures answers { IfOk result (IsAnswer F.value F.limit lp.now iterlim by.Legal) }
+    ensures few { IfOk result (HasFewPivotsByTurn F.value lp.now) }
+    ensures to_the_end { IfOk result (ComesToEndByTurn F.value lp.now iterlim) }
 {
     let steepest = answer_of(alloc, lp, iterlim, Member::Steepest)?;
     if !is_refused(&steepest.end) {
@@ -48,6 +52,14 @@ pub fn solve_in<F: ExactField>(
     let gain = answer_of(alloc, lp, iterlim, Member::GainForBits)?;
     if !is_refused(&gain.end) {
         return Ok(gain);
+    }
+    let in_row = answer_of(alloc, lp, iterlim, Member::ShortInRow)?;
+    if !is_refused(&in_row.end) {
+        return Ok(in_row);
+    }
+    let in_both = answer_of(alloc, lp, iterlim, Member::ShortInBoth)?;
+    if !is_refused(&in_both.end) {
+        return Ok(in_both);
     }
     let largest = answer_of(alloc, lp, iterlim, Member::Largest)?;
     if !is_refused(&largest.end) {

@@ -3,7 +3,9 @@ ghost use Rattle.std.specs.Prelude.{◌≡◌, ◌∷◌, ◌++◌, [], codes, I
 ghost use Rattle.gq_frac.specs.Frac.{frac_limit, frac_value};
 ghost use Rattle.lp_core.specs.declared.answer.Rule.TheVariants as by;
 ghost use Rattle.lp_core.specs.Answers.{IsAnswer};
+ghost use Rattle.lp_slot.specs.declared.solver.SolverRule.TheVariants as slot;
 ghost use Rattle.lp_core.specs.WellFormed.{IsWellFormed};
+ghost use Rattle.lp_nocycle.specs.Turns.{HasFewPivotsByTurn, ComesToEndByTurn};
 ghost use Rattle.lp_any.specs.Name.{any_is_name};
 ghost use Rattle.lp_bland.specs.Ends.{IsRefused};
 ghost use Rattle.lp_any.specs.declared.members.Member.{Member as MemberName};
@@ -11,8 +13,8 @@ ghost use Rattle.lp_any.specs.Members.{IsAnswerOf, IsRefusedBy};
 
 use crate::answer::solve_in;
 use gq_frac::Frac;
-use lp_core::{Answer, Lp, Pivot, Rule, Sequence};
-use lp_slot::LpSolver;
+use lp_core::{Answer, Lp, Pivot, Sequence};
+use lp_slot::{LpSolver, SolverRule};
 use std::alloc::{AllocError, Global};
 use std::marker::Model;
 
@@ -45,7 +47,7 @@ impl Any {
 impl LpSolver for Any {
     ghost name = { λ _. codes "any" };
 
-    ghost rule = { λ _. by.Legal };
+    ghost rule = { λ _. slot.Legal };
 
     ghost paths = { λ d. d };
 
@@ -53,15 +55,16 @@ impl LpSolver for Any {
         "any"
     }
 
-    fn rule(&self) -> Rule {
-        Rule::Legal
+    fn rule(&self) -> SolverRule {
+        SolverRule::Legal
     }
 
     fn paths(&self) -> &[Sequence<Pivot>] {
         self.taken.as_slice()
     }
 
-    /// The answer of a program by the first rule that is not refused; Refused only where each of them is, Bland's among them.
+    /// The answer of a program by the first rule that is not refused; Refused only where each of them is, Bland's among them. The turn
+    /// bounds the pivots of the answer, and with a limit of at least the bound the end is not Interrupted.
     fn solve(
         &mut self,
         alloc: Global,
@@ -72,6 +75,8 @@ impl LpSolver for Any {
         ensures answers { IfOk result (IsAnswer frac_value frac_limit lp.now iterlim by.Legal) }
         ensures member { IfOk result (λ answer. (member : MemberName) × IsAnswerOf frac_value frac_limit member lp.now iterlim answer) }
         ensures refused { IfOk result (λ answer. IsRefused answer.end → (member : MemberName) → IsRefusedBy frac_value frac_limit member lp.now iterlim) }
+        ensures few { IfOk result (HasFewPivotsByTurn frac_value lp.now) }
+        ensures to_the_end { IfOk result (ComesToEndByTurn frac_value lp.now iterlim) }
         ensures paths { IfOk result (λ answer. self.new ≡ self.old ++ answer.pivots ∷ []) }
         ensures unchanged { OnErr result (self.new ≡ self.old) }
     {

@@ -3,6 +3,7 @@
 
 mod answer;
 mod any;
+mod common;
 mod costs;
 mod measures;
 mod members;

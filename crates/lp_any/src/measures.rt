@@ -3,6 +3,7 @@ ghost use Rattle.std.specs.Prelude.{◌≡◌, ◌≤◌};
 ghost use Rattle.lp_any.specs.Costs.{IsCheapest, cheapest_improves};
 ghost use Rattle.lp_any.specs.Measures as measures;
 
+use crate::common::{denominator_of_column, denominator_of_row};
 use crate::costs::{Costing, cheapest};
 use gq_field::ExactField;
 use lp_dict::Dict;
@@ -21,6 +22,16 @@ pub(crate) struct Shortest;
 #[derive(Drop)]
 pub(crate) struct GainForBits;
 
+/// The rule by which the variable enters whose pivot number has the fewest bits, counted twice, less those of the gain; the bits are
+/// those of a whole number, where the numbers of its row have one denominator. It remembers nothing.
+#[derive(Drop)]
+pub(crate) struct ShortInRow;
+
+/// The rule by which the variable enters whose pivot number has the fewest bits, less three times those of the gain; the bits are
+/// those of two whole numbers, where the numbers of its row, and where those of its column have one denominator. It remembers nothing.
+#[derive(Drop)]
+pub(crate) struct ShortInBoth;
+
 /// How many bits a whole number has.
 fn bits(number: u128) -> u32
     ensures value { result ≡ measures.bits number }
@@ -37,16 +48,71 @@ fn length_of<F: ExactField>(number: F) -> u32
     bits(numerator.unsigned_abs()) + bits(denominator)
 }
 
-/// The bits of the pivot number's numerator, less those of the gain, and 1000.
-fn cost_of_gain<F: ExactField>(coefficient: F, constant: F, number: F) -> u32
-    ensures { result ≡ measures.cost_of_gain (F.value coefficient) (F.value constant) (F.value number) }
+/// The bits of a gain: those of a numerator, less those of a denominator.
+#[derive(Clone, Copy)]
+struct Gain {
+    above: u32,
+    below: u32,
+}
+
+/// The bits of the gain by a coefficient, the constant of the row that leaves, and the pivot number in it.
+fn gain_of<F: ExactField>(coefficient: F, constant: F, number: F) -> Gain
+    ensures above { result.above ≡ measures.gain_above (F.value coefficient) (F.value constant) (F.value number) }
+    ensures below { result.below ≡ measures.gain_below (F.value coefficient) (F.value constant) (F.value number) }
+    ensures few_above { result.above ≤ 384 }
+    ensures few_below { result.below ≤ 384 }
 {
     let (rise, rise_over) = coefficient.parts();
     let (amount, amount_over) = constant.parts();
     let (pivot, pivot_over) = number.parts();
-    let length = bits(pivot.unsigned_abs());
-    let gained = bits(rise.unsigned_abs()) + bits(amount.unsigned_abs()) + bits(pivot_over);
-    1_000 + length + length + bits(rise_over) + bits(amount_over) - gained
+    Gain {
+        above: bits(rise.unsigned_abs()) + bits(amount.unsigned_abs()) + bits(pivot_over),
+        below: bits(rise_over) + bits(amount_over) + bits(pivot.unsigned_abs()),
+    }
+}
+
+/// The bits of the pivot number's numerator, less those of the gain, and 1000.
+fn cost_of_gain<F: ExactField>(coefficient: F, constant: F, number: F) -> u32
+    ensures { result ≡ measures.cost_of_gain (F.value coefficient) (F.value constant) (F.value number) }
+{
+    let gain = gain_of(coefficient, constant, number);
+    let (pivot, _pivot_over) = number.parts();
+    1_000 + bits(pivot.unsigned_abs()) + gain.below - gain.above
+}
+
+/// How many bits a number has over this denominator, which its own divides.
+fn bits_over<F: ExactField>(number: F, denominator: u128) -> u32
+    ensures value { result ≡ measures.bits_over (F.value number) denominator }
+    ensures most { result ≤ 256 }
+{
+    let (numerator, own) = number.parts();
+    let times = denominator / own;
+    bits(numerator.unsigned_abs()) + bits(times)
+}
+
+/// Twice the bits of the pivot number over its row's denominator, less those of the gain, and 1000.
+fn cost_in_row<F: ExactField>(coefficient: F, constant: F, number: F, in_row: u128) -> u32
+    ensures { result ≡ measures.cost_in_row (F.value coefficient) (F.value constant) (F.value number) in_row }
+{
+    let gain = gain_of(coefficient, constant, number);
+    let short = bits_over(number, in_row);
+    1_000 + 2 * short + gain.below - gain.above
+}
+
+/// The bits of the pivot number over its row's denominator and over its column's, less three times those of the gain, and 2000.
+fn cost_in_both<F: ExactField>(
+    coefficient: F,
+    constant: F,
+    number: F,
+    in_row: u128,
+    in_column: u128,
+) -> u32
+    ensures { result ≡ measures.cost_in_both (F.value coefficient) (F.value constant) (F.value number) in_row in_column }
+{
+    let gain = gain_of(coefficient, constant, number);
+    let short = bits_over(number, in_row);
+    let narrow = bits_over(number, in_column);
+    2_000 + short + narrow + 3 * gain.below - 3 * gain.above
 }
 
 impl<F: ExactField> Costing<F> for Shortest {
@@ -76,6 +142,45 @@ impl<F: ExactField> Costing<F> for GainForBits {
     }
 }
 
+impl<F: ExactField> Costing<F> for ShortInRow {
+    ghost costs = { measures.IsCostBy F.limit measures.RowAt };
+
+    fn cost(&self, dict: &Dict<F>, variable: u32) -> u32 {
+        match dict.leaving(variable) {
+            Ok(Some(leave)) => {
+                let coefficient = dict.coefficient(variable);
+                let in_row = denominator_of_row(dict, leave);
+                cost_in_row(
+                    coefficient,
+                    dict.amount(leave),
+                    dict.entry(leave, variable),
+                    in_row,
+                )
+            }
+            Ok(None) => 0,
+            Err(_) => STOPS,
+        }
+    }
+}
+
+impl<F: ExactField> Costing<F> for ShortInBoth {
+    ghost costs = { measures.IsCostBy F.limit measures.BothAt };
+
+    fn cost(&self, dict: &Dict<F>, variable: u32) -> u32 {
+        match dict.leaving(variable) {
+            Ok(Some(leave)) => {
+                let coefficient = dict.coefficient(variable);
+                let number = dict.entry(leave, variable);
+                let in_row = denominator_of_row(dict, leave);
+                let in_column = denominator_of_column(dict, variable);
+                cost_in_both(coefficient, dict.amount(leave), number, in_row, in_column)
+            }
+            Ok(None) => 0,
+            Err(_) => STOPS,
+        }
+    }
+}
+
 impl<F: ExactField> Picking<F> for Shortest {
     ghost picks = { IsCheapest (measures.IsCostBy F.limit measures.LengthAt) };
 
@@ -94,4 +199,24 @@ impl<F: ExactField> Picking<F> for GainForBits {
     }
 
     ghost improving = { cheapest_improves (measures.IsCostBy F.limit measures.GainAt) };
+}
+
+impl<F: ExactField> Picking<F> for ShortInRow {
+    ghost picks = { IsCheapest (measures.IsCostBy F.limit measures.RowAt) };
+
+    fn pick(&self, dict: &Dict<F>) -> Option<u32> {
+        cheapest(self, dict)
+    }
+
+    ghost improving = { cheapest_improves (measures.IsCostBy F.limit measures.RowAt) };
+}
+
+impl<F: ExactField> Picking<F> for ShortInBoth {
+    ghost picks = { IsCheapest (measures.IsCostBy F.limit measures.BothAt) };
+
+    fn pick(&self, dict: &Dict<F>) -> Option<u32> {
+        cheapest(self, dict)
+    }
+
+    ghost improving = { cheapest_improves (measures.IsCostBy F.limit measures.BothAt) };
 }

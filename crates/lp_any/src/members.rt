@@ -3,9 +3,10 @@ ghost use Rattle.std.specs.Prelude.{IfOk};
 ghost use Rattle.lp_core.specs.declared.answer.Rule.TheVariants as by;
 ghost use Rattle.lp_core.specs.Answers.{IsAnswer};
 ghost use Rattle.lp_core.specs.WellFormed.{IsWellFormed};
+ghost use Rattle.lp_nocycle.specs.Turns.{HasFewPivotsByTurn, ComesToEndByTurn};
 ghost use Rattle.lp_any.specs.Members.{IsAnswerOf};
 
-use crate::measures::{GainForBits, Shortest};
+use crate::measures::{GainForBits, ShortInBoth, ShortInRow, Shortest};
 use gq_field::ExactField;
 use lp_core::{Answer, Lp};
 use lp_turn::solve_with;
@@ -20,6 +21,10 @@ pub enum Member {
     Shortest,
     /// The bits of the gain, less those of the pivot number.
     GainForBits,
+    /// The shortest pivot number over the denominator of its row, less the bits of the gain.
+    ShortInRow,
+    /// The shortest pivot number over the denominators of its row and its column, less the bits of the gain.
+    ShortInBoth,
     /// The largest coefficient.
     Largest,
     /// Bland's rule.
@@ -27,7 +32,8 @@ pub enum Member {
 }
 
 /// The answer of a program by one of the rules, found by at most `iterlim` pivots: Chvatal, Linear Programming, chapters 2 and 3.
-/// The error is out of memory.
+/// The turn to Bland's rule bounds the pivots, and with a limit of at least the bound the end is not Interrupted. The error is out of
+/// memory.
 pub fn answer_of<F: ExactField>(
     alloc: Global,
     lp: &Lp<F>,
@@ -37,11 +43,15 @@ pub fn answer_of<F: ExactField>(
     requires { IsWellFormed F.value lp.now }
     ensures answer { IfOk result (IsAnswerOf F.value F.limit member lp.now iterlim) }
     ensures legal { IfOk result (IsAnswer F.value F.limit lp.now iterlim by.Legal) }
+    ensures few { IfOk result (HasFewPivotsByTurn F.value lp.now) }
+    ensures to_the_end { IfOk result (ComesToEndByTurn F.value lp.now iterlim) }
 {
     match member {
         Member::Steepest => lp_steepest::solve_in(alloc, lp, iterlim),
         Member::Shortest => solve_with(alloc, lp, iterlim, Shortest),
         Member::GainForBits => solve_with(alloc, lp, iterlim, GainForBits),
+        Member::ShortInRow => solve_with(alloc, lp, iterlim, ShortInRow),
+        Member::ShortInBoth => solve_with(alloc, lp, iterlim, ShortInBoth),
         Member::Largest => lp_dantzig::solve_in(alloc, lp, iterlim),
         Member::Bland => lp_bland::solve_in(alloc, lp, iterlim),
     }

@@ -6,12 +6,13 @@ ghost use Rattle.lp_core.specs.Answers.{IsAnswer};
 ghost use Rattle.lp_exists.specs.Only.{IsOnly};
 ghost use Rattle.lp_nocycle.specs.PivotCount.{HasFewPivots, ComesToEnd};
 ghost use Rattle.lp_bland.specs.Name.{bland_is_name};
+ghost use Rattle.lp_slot.specs.declared.solver.SolverRule.TheVariants as slot;
 ghost use Rattle.lp_core.specs.WellFormed.{IsWellFormed};
 
 use crate::answer::solve_in;
 use gq_frac::Frac;
-use lp_core::{Answer, Lp, Pivot, Rule, Sequence};
-use lp_slot::LpSolver;
+use lp_core::{Answer, Lp, Pivot, Sequence};
+use lp_slot::{LpSolver, SolverRule};
 use std::alloc::{AllocError, Global};
 use std::marker::Model;
 
@@ -44,7 +45,7 @@ impl Bland {
 impl LpSolver for Bland {
     ghost name = { λ _. codes "bland" };
 
-    ghost rule = { λ _. by.Bland };
+    ghost rule = { λ _. slot.Bland };
 
     ghost paths = { λ b. b };
 
@@ -52,8 +53,8 @@ impl LpSolver for Bland {
         "bland"
     }
 
-    fn rule(&self) -> Rule {
-        Rule::Bland
+    fn rule(&self) -> SolverRule {
+        SolverRule::Bland
     }
 
     fn paths(&self) -> &[Sequence<Pivot>] {

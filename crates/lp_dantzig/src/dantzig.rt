@@ -4,6 +4,7 @@ ghost use Rattle.gq_frac.specs.Frac.{frac_limit, frac_value};
 ghost use Rattle.lp_core.specs.declared.answer.Rule.TheVariants as by;
 ghost use Rattle.lp_core.specs.Answers.{IsAnswer};
 ghost use Rattle.lp_core.specs.LargestCoefficient.{IsLargestAnswer};
+ghost use Rattle.lp_slot.specs.declared.solver.SolverRule.TheVariants as slot;
 ghost use Rattle.lp_core.specs.WellFormed.{IsWellFormed};
 ghost use Rattle.lp_exists.specs.Only.{IsOnly};
 ghost use Rattle.lp_nocycle.specs.Turns.{HasFewPivotsByTurn, ComesToEndByTurn};
@@ -11,8 +12,8 @@ ghost use Rattle.lp_dantzig.specs.Name.{dantzig_is_name};
 
 use crate::answer::solve_in;
 use gq_frac::Frac;
-use lp_core::{Answer, Lp, Pivot, Rule, Sequence};
-use lp_slot::LpSolver;
+use lp_core::{Answer, Lp, Pivot, Sequence};
+use lp_slot::{LpSolver, SolverRule};
 use std::alloc::{AllocError, Global};
 use std::marker::Model;
 
@@ -46,7 +47,7 @@ impl Dantzig {
 impl LpSolver for Dantzig {
     ghost name = { λ _. codes "dantzig" };
 
-    ghost rule = { λ _. by.Legal };
+    ghost rule = { λ _. slot.LargestCoefficient };
 
     ghost paths = { λ d. d };
 
@@ -54,8 +55,8 @@ impl LpSolver for Dantzig {
         "dantzig"
     }
 
-    fn rule(&self) -> Rule {
-        Rule::Legal
+    fn rule(&self) -> SolverRule {
+        SolverRule::LargestCoefficient
     }
 
     fn paths(&self) -> &[Sequence<Pivot>] {
@@ -72,8 +73,8 @@ impl LpSolver for Dantzig {
         iterlim: u64,
     ) -> Result<Answer<Frac>, AllocError>
         requires { IsWellFormed frac_value lp.now }
-        ensures answers { IfOk result (IsAnswer frac_value frac_limit lp.now iterlim by.Legal) }
-        ensures largest { IfOk result (IsLargestAnswer frac_value frac_limit lp.now iterlim) }
+        ensures legal { IfOk result (IsAnswer frac_value frac_limit lp.now iterlim by.Legal) }
+        ensures answers { IfOk result (IsLargestAnswer frac_value frac_limit lp.now iterlim) }
         ensures only { IfOk result (IsOnly (IsLargestAnswer frac_value frac_limit lp.now iterlim)) }
         ensures few { IfOk result (HasFewPivotsByTurn frac_value lp.now) }
         ensures to_the_end { IfOk result (ComesToEndByTurn frac_value lp.now iterlim) }

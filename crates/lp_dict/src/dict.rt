@@ -1,6 +1,6 @@
 //! The dictionary and what is read from it.
 ghost use Rattle.std.specs.Prelude.{◌≡◌, ◌<◌, ◌≤◌, ◌+◌, ◌^◌, ◌↔◌, ℕ, pos, List, map, slice_get, IsTrue, Some, Contains, MatchOption, IfOk, IfErr, length};
-ghost use Rattle.gq_number.specs.Number.{Number, whole};
+ghost use Rattle.gq_number.specs.Number.{Number, ratio, whole};
 ghost use Rattle.lp_core.specs.Sums.{number_of};
 ghost use Rattle.lp_core.specs.Pivots.{last_of};
 ghost use Rattle.lp_core.specs.Dictionary.{basic_at, constant_at, entry_at, OpeningIsDue, IsPriced, Improves, IsLeast, IsOpening, IsLegal, Meets, first_dictionary, exchanged};
@@ -125,6 +125,26 @@ impl<F: ExactField> Dict<F> {
         match &self.body {
             Body::Whole(rows, _) => number_at(rows, row, column),
             Body::Exact(dict) => reading::number_of(dict, row, column),
+        }
+    }
+
+    /// The same as a numerator over a denominator above 0, which may have a factor in common: it costs no division.
+    #[inline(always)]
+    pub fn fraction(&self, row: usize, column: usize) -> (i128, u128)
+        requires row { row ≤ length self.now.basic }
+        requires column { column ≤ self.now.variables + 1 }
+        ensures value { ratio result.0 result.1 ≡ (dictionary F.value self.now).numbers row column }
+        ensures positive { 0 < result.1 }
+    {
+        match &self.body {
+            Body::Whole(rows, _) => {
+                let fraction = rows.number(row, column);
+                (fraction.numerator, fraction.denominator)
+            }
+            Body::Exact(dict) => {
+                let number = reading::number_of(dict, row, column);
+                number.parts()
+            }
         }
     }
 

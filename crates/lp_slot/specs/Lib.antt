@@ -1,1 +1,2 @@
 pub mod SolverNames
+pub mod Under

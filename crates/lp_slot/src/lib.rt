@@ -3,5 +3,4 @@
 
 mod solver;
 
-pub use lp_core::Rule;
-pub use solver::LpSolver;
+pub use solver::{LpSolver, SolverRule};

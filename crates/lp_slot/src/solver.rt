@@ -2,14 +2,27 @@
 ghost use Rattle.std.specs.Prelude.{◌≡◌, ◌∷◌, ◌++◌, ℕ, List, [], IfOk, OnErr};
 ghost use Rattle.gq_frac.specs.Frac.{frac_limit, frac_value};
 ghost use Rattle.lp_core.specs.declared.answer.Pivot.{Pivot};
-ghost use Rattle.lp_core.specs.declared.answer.Rule.{Rule};
-ghost use Rattle.lp_core.specs.Answers.{IsAnswer};
 ghost use Rattle.lp_core.specs.WellFormed.{IsWellFormed};
 ghost use Rattle.lp_slot.specs.SolverNames.{IsSolverName};
+ghost use Rattle.lp_slot.specs.Under.{IsAnswerUnder};
+ghost use Rattle.lp_slot.specs.declared.solver.SolverRule.{SolverRule as RuleName};
 
 use gq_frac::Frac;
-use lp_core::{Answer, Lp, Pivot, Rule, Sequence};
+use lp_core::{Answer, Lp, Pivot, Sequence};
 use std::alloc::{AllocError, Global};
+
+/// Which answers a solver gives.
+#[derive(Clone, Copy)]
+pub enum SolverRule {
+    /// Those of Bland's rule.
+    Bland,
+    /// Those of the largest coefficient, with the turn to Bland's rule where pivots gain nothing.
+    LargestCoefficient,
+    /// Those by any improving variables until that turn has come, and by Bland's rule from then on.
+    Turning,
+    /// Those by any legal pivots.
+    Legal,
+}
 
 /// A solver of linear programs over exact numbers.
 ///
@@ -19,8 +32,8 @@ pub trait LpSolver: Drop {
     /// The name by which a source chooses the solver.
     ghost name: { Self → List ℕ };
 
-    /// Which pivots the solver takes.
-    ghost rule: { Self → Rule };
+    /// Which answers the solver gives.
+    ghost rule: { Self → RuleName };
 
     /// The pivots of each answer that the solver has given, in order.
     ghost paths: { Self → List (List Pivot) };
@@ -30,8 +43,8 @@ pub trait LpSolver: Drop {
         ensures name { result.now ≡ name self.now }
         ensures named { IsSolverName result.now };
 
-    /// Which pivots the solver takes.
-    fn rule(&self) -> Rule
+    /// Which answers the solver gives.
+    fn rule(&self) -> SolverRule
         ensures { result ≡ rule self.now };
 
     /// The pivots of each answer that the solver has given, in order.
@@ -51,7 +64,7 @@ pub trait LpSolver: Drop {
         iterlim: u64,
     ) -> Result<Answer<Frac>, AllocError>
         requires { IsWellFormed frac_value lp.now }
-        ensures answers { IfOk result (IsAnswer frac_value frac_limit lp.now iterlim (rule self.old)) }
+        ensures answers { IfOk result (IsAnswerUnder frac_value frac_limit lp.now iterlim (rule self.old)) }
         ensures paths { IfOk result (λ answer. paths self.new ≡ paths self.old ++ answer.pivots ∷ []) }
         ensures name { name self.new ≡ name self.old }
         ensures rule { rule self.new ≡ rule self.old }

@@ -4,6 +4,7 @@ ghost use Rattle.lp_core.specs.declared.answer.Rule.TheVariants as by;
 ghost use Rattle.lp_core.specs.Answers.{IsAnswer};
 ghost use Rattle.lp_core.specs.Dictionary.{Improves};
 ghost use Rattle.lp_core.specs.WellFormed.{IsWellFormed};
+ghost use Rattle.lp_nocycle.specs.Turns.{HasFewPivotsByTurn, ComesToEndByTurn};
 ghost use Rattle.lp_turn.specs.Turn.{IsTurningAnswer};
 
 use crate::limiting::Limiting;
@@ -18,7 +19,8 @@ use std::alloc::{AllocError, Global};
 /// Of the tied variables the least leaves; once as many pivots on end as there are variables gained nothing, Bland's rule takes
 /// over to the end of the phase. Optimal, Infeasible and Unbounded come with what proves them. Interrupted comes after exactly
 /// `iterlim` pivots where a further one is due, and Refused with the first step that does not fit under the limit of the field.
-/// Which of the variables that improve enters before the turn is no contract's: no answer rests on it. The error is out of memory.
+/// The turn bounds the pivots, and with a limit of at least the bound the end is not Interrupted. No contract states which of the
+/// variables that improve enters before the turn: no answer rests on it. The error is out of memory.
 pub fn solve_in<F: ExactField>(
     alloc: Global,
     lp: &Lp<F>,
@@ -27,6 +29,8 @@ pub fn solve_in<F: ExactField>(
     requires { IsWellFormed F.value lp.now }
     ensures turning { IfOk result (IsTurningAnswer F.value F.limit Improves lp.now iterlim) }
     ensures answers { IfOk result (IsAnswer F.value F.limit lp.now iterlim by.Legal) }
+    ensures few { IfOk result (HasFewPivotsByTurn F.value lp.now) }
+    ensures to_the_end { IfOk result (ComesToEndByTurn F.value lp.now iterlim) }
 {
     solve_with(alloc, lp, iterlim, Limiting)
 }

@@ -2,6 +2,7 @@
 #![tactic(auto)]
 
 mod answer;
+mod leaders;
 mod limiting;
 mod size;
 mod steepest;

@@ -1,9 +1,17 @@
 //! Sizes of numbers, to 32 leading bits.
-use gq_field::ExactField;
 use std::cmp::Ordering;
 
 /// The exponent of the size of 0: below that of any other.
 const LEAST: i32 = -1_000_000;
+
+/// The least number of more than one word.
+const WORD: u128 = 1 << 64;
+
+/// A number by which that of one word is divided in one word, to at least 32 bits.
+const HALF: u128 = 1 << 32;
+
+/// A number by which any is divided in two words, to at least 32 bits.
+const SHORT: u128 = 1 << 95;
 
 /// A number of at least 0, to its 32 leading bits: a word times a power of two. The steps are the same on every machine.
 ///
@@ -31,18 +39,68 @@ fn leading(word: u64, exponent: i32) -> Size {
     }
 }
 
+/// The leading 32 bits of two words times a power of two.
+fn leading_of_two(words: u128, exponent: i32) -> Size {
+    let zeros = words.leading_zeros();
+    let top = words.wrapping_shl(zeros).wrapping_shr(64) as u64;
+    leading(top, exponent.wrapping_add(64 - zeros as i32))
+}
+
+/// The leading 64 bits of a quotient and those before them, by its bits one by one: a number below a power of two times it, which
+/// fits in two words where the quotient is below 2 to the power of 64.
+fn quotient_by_bits(numerator: u128, denominator: u128) -> u128 {
+    let Some(mut quotient) = numerator.checked_div(denominator) else {
+        return 0;
+    };
+    let mut rest = numerator.wrapping_sub(quotient.wrapping_mul(denominator));
+    for _bit in 0..64 {
+        rest = rest.wrapping_shl(1);
+        quotient = quotient.wrapping_shl(1);
+        if rest >= denominator {
+            rest = rest.wrapping_sub(denominator);
+            quotient = quotient.wrapping_add(1);
+        }
+    }
+    quotient
+}
+
 impl Size {
     /// The size of a whole number.
     pub(crate) fn of(number: u128) -> Size {
-        let zeros = number.leading_zeros();
-        let top = number.wrapping_shl(zeros).wrapping_shr(64) as u64;
-        leading(top, 64 - zeros as i32)
+        leading_of_two(number, 0)
     }
 
-    /// The size of a number without its sign.
-    pub(crate) fn of_number<F: ExactField>(number: F) -> Size {
-        let (numerator, denominator) = number.parts();
-        Size::of(numerator.unsigned_abs()).over(Size::of(denominator))
+    /// The size of a fraction of two numbers below 2 to the power of 127; that of 0 where the denominator is 0.
+    pub(crate) fn of_ratio(numerator: u128, denominator: u128) -> Size {
+        if denominator == 1 {
+            return Size::of(numerator);
+        }
+        if numerator < WORD && denominator < HALF {
+            return Size::of_short(numerator as u64, denominator as u64);
+        }
+        let zeros = numerator.leading_zeros();
+        let exponent = 0 - zeros as i32;
+        let shifted = numerator.wrapping_shl(zeros);
+        if denominator < SHORT {
+            return match shifted.checked_div(denominator) {
+                Some(quotient) => leading_of_two(quotient, exponent),
+                None => Size::of(0),
+            };
+        }
+        leading_of_two(
+            quotient_by_bits(shifted, denominator),
+            exponent.wrapping_sub(64),
+        )
+    }
+
+    /// The size of a fraction of two words.
+    #[inline(always)]
+    fn of_short(numerator: u64, denominator: u64) -> Size {
+        let zeros = numerator.leading_zeros();
+        match numerator.wrapping_shl(zeros).checked_div(denominator) {
+            Some(quotient) => leading(quotient, 0 - zeros as i32),
+            None => Size::of(0),
+        }
     }
 
     /// The size of the product.

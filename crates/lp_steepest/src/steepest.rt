@@ -4,14 +4,16 @@ ghost use Rattle.gq_frac.specs.Frac.{frac_limit, frac_value};
 ghost use Rattle.lp_core.specs.declared.answer.Rule.TheVariants as by;
 ghost use Rattle.lp_core.specs.Answers.{IsAnswer};
 ghost use Rattle.lp_core.specs.Dictionary.{Improves};
+ghost use Rattle.lp_slot.specs.declared.solver.SolverRule.TheVariants as slot;
 ghost use Rattle.lp_core.specs.WellFormed.{IsWellFormed};
+ghost use Rattle.lp_nocycle.specs.Turns.{HasFewPivotsByTurn, ComesToEndByTurn};
 ghost use Rattle.lp_steepest.specs.Name.{steepest_is_name};
 ghost use Rattle.lp_turn.specs.Turn.{IsTurningAnswer};
 
 use crate::answer::solve_in;
 use gq_frac::Frac;
-use lp_core::{Answer, Lp, Pivot, Rule, Sequence};
-use lp_slot::LpSolver;
+use lp_core::{Answer, Lp, Pivot, Sequence};
+use lp_slot::{LpSolver, SolverRule};
 use std::alloc::{AllocError, Global};
 use std::marker::Model;
 
@@ -46,7 +48,7 @@ impl Steepest {
 impl LpSolver for Steepest {
     ghost name = { λ _. codes "steepest" };
 
-    ghost rule = { λ _. by.Legal };
+    ghost rule = { λ _. slot.Turning };
 
     ghost paths = { λ d. d };
 
@@ -54,8 +56,8 @@ impl LpSolver for Steepest {
         "steepest"
     }
 
-    fn rule(&self) -> Rule {
-        Rule::Legal
+    fn rule(&self) -> SolverRule {
+        SolverRule::Turning
     }
 
     fn paths(&self) -> &[Sequence<Pivot>] {
@@ -63,7 +65,7 @@ impl LpSolver for Steepest {
     }
 
     /// An answer of a program by steepest edge with the turn to Bland's rule: its pivots are legal, and Bland's once the turn has
-    /// come.
+    /// come. The turn bounds the pivots, and with a limit of at least the bound the end is not Interrupted.
     fn solve(
         &mut self,
         alloc: Global,
@@ -71,8 +73,10 @@ impl LpSolver for Steepest {
         iterlim: u64,
     ) -> Result<Answer<Frac>, AllocError>
         requires { IsWellFormed frac_value lp.now }
-        ensures answers { IfOk result (IsAnswer frac_value frac_limit lp.now iterlim by.Legal) }
-        ensures turning { IfOk result (IsTurningAnswer frac_value frac_limit Improves lp.now iterlim) }
+        ensures legal { IfOk result (IsAnswer frac_value frac_limit lp.now iterlim by.Legal) }
+        ensures answers { IfOk result (IsTurningAnswer frac_value frac_limit Improves lp.now iterlim) }
+        ensures few { IfOk result (HasFewPivotsByTurn frac_value lp.now) }
+        ensures to_the_end { IfOk result (ComesToEndByTurn frac_value lp.now iterlim) }
         ensures paths { IfOk result (λ answer. self.new ≡ self.old ++ answer.pivots ∷ []) }
         ensures unchanged { OnErr result (self.new ≡ self.old) }
     {

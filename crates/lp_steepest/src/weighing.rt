@@ -1,19 +1,18 @@
-//! Rules that weigh each variable that improves.
-ghost use Rattle.std.specs.Prelude.{ℕ, MatchOption};
+//! What it is worth that a variable enters, and the variable that is worth most.
+ghost use Rattle.std.specs.Prelude.{◌≤◌, ◌+◌, ℕ, length, MatchOption};
 ghost use Rattle.lp_core.specs.Dictionary.{OpeningIsDue, Improves};
 ghost use Rattle.lp_dict.specs.Tableau.{dictionary};
 
+use crate::leaders::{Leader, Leaders, MOST};
 use crate::size::Size;
 use gq_field::ExactField;
 use lp_dict::Dict;
-use std::cmp::Ordering;
 
-/// A worth of each variable that improves, by which the one to enter is picked. Any worth is right: no answer rests on it.
-pub(crate) trait Weighing<F: ExactField>: Drop {
-    /// What it is worth that this variable enters.
-    fn worth(&self, dict: &Dict<F>, variable: u32) -> Size
-        requires { Improves (dictionary F.value dict.now) variable };
-}
+/// How many numbers of the dictionary are read to weigh variables: of larger dictionaries fewer variables are weighed.
+const NUMBERS: usize = 4_096;
+
+/// How many variables are weighed at least, where as many improve.
+const LEAST: usize = 8;
 
 /// A variable, and what it is worth that it enters.
 #[derive(Clone, Copy)]
@@ -22,41 +21,106 @@ struct Candidate {
     worth: Size,
 }
 
-/// The better of the best variable so far and another, where that improves: the one that is worth more, and of equal ones the first.
-fn weighed<W: Weighing<F>, F: ExactField>(
-    rule: &W,
-    dict: &Dict<F>,
-    best: Option<Candidate>,
-    variable: u32,
-) -> Option<Candidate>
-    requires { MatchOption best (Unit {0}) (λ b. Improves (dictionary F.value dict.now) b.variable) }
-    ensures { MatchOption result (Unit {0}) (λ b. Improves (dictionary F.value dict.now) b.variable) }
+/// How many variables are weighed at most.
+fn room_of<F: ExactField>(dict: &Dict<F>) -> usize {
+    let rows = dict.len().saturating_add(1);
+    (NUMBERS / rows).max(LEAST).min(MOST)
+}
+
+/// The row by which pivots are chosen: that of variable 0 while it is basic, else the objective's behind the rows.
+fn priced_row<F: ExactField>(dict: &Dict<F>) -> usize
+    ensures { result ≤ length dict.now.basic }
 {
-    if !dict.improves(variable) {
-        return best;
-    }
-    let worth = rule.worth(dict, variable);
-    let Some(first) = best else {
-        return Some(Candidate { variable, worth });
-    };
-    match worth.compare(first.worth) {
-        Ordering::Greater => Some(Candidate { variable, worth }),
-        Ordering::Less => best,
-        Ordering::Equal => best,
+    match dict.row_of(0) {
+        Some(row) => row,
+        None => dict.len(),
     }
 }
 
-/// The variable that improves and is worth most, and of equal ones the least; none exactly where none improves.
-pub(crate) fn worthiest<W: Weighing<F>, F: ExactField>(rule: &W, dict: &Dict<F>) -> Option<u32>
+/// The size of a number of the dictionary where it is above 0.
+#[inline(always)]
+fn size_above<F: ExactField>(dict: &Dict<F>, row: usize, column: usize) -> Option<Size>
+    requires row { row ≤ length dict.now.basic }
+    requires column { column ≤ dict.now.variables + 1 }
+{
+    let (numerator, denominator) = dict.fraction(row, column);
+    if numerator > 0 {
+        Some(Size::of_ratio(numerator.unsigned_abs(), denominator))
+    } else {
+        None
+    }
+}
+
+/// The variables with the greatest coefficients.
+fn leaders_of<F: ExactField>(dict: &Dict<F>) -> Leaders {
+    let row = priced_row(dict);
+    let mut leaders = Leaders::new(room_of(dict));
+    for variable in 1..=dict.variables() {
+        if let Some(gain) = size_above(dict, row, variable as usize + 1) {
+            leaders.add(Leader { variable, gain });
+        }
+    }
+    leaders
+}
+
+/// 1 and the squares of the numbers above 0 in a column.
+fn length_of<F: ExactField>(dict: &Dict<F>, column: usize) -> Size
+    requires { column ≤ dict.now.variables + 1 }
+{
+    let mut length = Size::of(1);
+    for row in 0..dict.len() {
+        if let Some(size) = size_above(dict, row, column) {
+            length = length.plus(size.times(size));
+        }
+    }
+    length
+}
+
+/// The better of the best variable so far and another: the one that is worth more, and of equal ones the lesser. Worth is the square
+/// of the coefficient over the length of the edge.
+fn weighed<F: ExactField>(
+    dict: &Dict<F>,
+    best: Option<Candidate>,
+    leader: Leader,
+) -> Option<Candidate> {
+    let variable = leader.variable;
+    if variable > dict.variables() {
+        return best;
+    }
+    let length = length_of(dict, variable as usize + 1);
+    let worth = leader.gain.times(leader.gain).over(length);
+    let other = Some(Candidate { variable, worth });
+    let Some(first) = best else {
+        return other;
+    };
+    let order = worth.compare(first.worth);
+    if order.is_gt() || (order.is_eq() && variable < first.variable) {
+        other
+    } else {
+        best
+    }
+}
+
+/// The variable that is worth most of those with the greatest coefficients, and of equal ones the least; none exactly where none
+/// improves.
+pub(crate) fn worthiest<F: ExactField>(dict: &Dict<F>) -> Option<u32>
     requires { ¬ (OpeningIsDue (dictionary F.value dict.now)) }
     ensures { MatchOption result ((v : ℕ) → ¬ (Improves (dictionary F.value dict.now) v)) (Improves (dictionary F.value dict.now)) }
 {
+    let leaders = leaders_of(dict);
     let mut best = None;
-    for variable in 0..=dict.variables() {
-        best = weighed(rule, dict, best, variable);
+    for place in 0..MOST {
+        let Some(leader) = leaders.at(place) else {
+            break;
+        };
+        best = weighed(dict, best, leader);
     }
-    match best {
-        Some(best) => Some(best.variable),
-        None => dict.entering(),
+    let Some(best) = best else {
+        return dict.entering();
+    };
+    if dict.improves(best.variable) {
+        Some(best.variable)
+    } else {
+        dict.entering()
     }
 }

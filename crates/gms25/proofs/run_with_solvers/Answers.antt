@@ -2,7 +2,7 @@ use Rattle.std.proofs.Common.{◌≡◌, ℕ, List, ◌∷◌, ◌++◌, [], ap,
 use Rattle.std.specs.Prelude.{codes}
 use denote.Param.Object.{read_made}
 use Rattle.lp_core.specs.declared.answer.Pivot.{Pivot}
-use Rattle.lp_core.specs.declared.answer.Rule.{Rule}
+use Rattle.lp_slot.specs.declared.solver.SolverRule.{SolverRule}
 use Rattle.gms_run.specs.Statuses.{NamesProgram}
 use Rattle.gms_words.specs.CommandLine.{texts}
 use Rattle.gms25.proofs.Lent.{are_lent, names_lent}
@@ -21,22 +21,22 @@ returns-clause-run g c =
         are_lent _ _ _ c.push-4.new.self.items first second third fourth lent
             (record {
               named = read_made own-1 entry-1-1 at-1-1 same-1-1 (List ℕ) (λ j w. j.1.name w) first.vtable first.value c.in_ok-new.field-0.value c.into_dyn_box.ensures.1;
-              ruled = read_made own-1 entry-1-1 at-1-1 same-1-1 Rule (λ j w. j.1.rule w) first.vtable first.value c.in_ok-new.field-0.value c.into_dyn_box.ensures.1;
+              ruled = read_made own-1 entry-1-1 at-1-1 same-1-1 SolverRule (λ j w. j.1.rule w) first.vtable first.value c.in_ok-new.field-0.value c.into_dyn_box.ensures.1;
               unused = read_made own-1 entry-1-1 at-1-1 same-1-1 (List (List Pivot)) (λ j w. j.1.paths w) first.vtable first.value c.in_ok-new.field-0.value c.into_dyn_box.ensures.1 ∙ c.in_ok-new.ensures.ok ∙ c.new.ensures;
             })
             (record {
               named = read_made own-1 entry-1-2 at-1-2 same-1-2 (List ℕ) (λ j w. j.1.name w) second.vtable second.value c.in_ok-new-2.field-0.value c.into_dyn_box-in_ok-new-2.ensures.1;
-              ruled = read_made own-1 entry-1-2 at-1-2 same-1-2 Rule (λ j w. j.1.rule w) second.vtable second.value c.in_ok-new-2.field-0.value c.into_dyn_box-in_ok-new-2.ensures.1;
+              ruled = read_made own-1 entry-1-2 at-1-2 same-1-2 SolverRule (λ j w. j.1.rule w) second.vtable second.value c.in_ok-new-2.field-0.value c.into_dyn_box-in_ok-new-2.ensures.1;
               unused = read_made own-1 entry-1-2 at-1-2 same-1-2 (List (List Pivot)) (λ j w. j.1.paths w) second.vtable second.value c.in_ok-new-2.field-0.value c.into_dyn_box-in_ok-new-2.ensures.1 ∙ c.in_ok-new-2.ensures.ok ∙ c.new-3.ensures;
             })
             (record {
               named = read_made own-1 entry-1-3 at-1-3 same-1-3 (List ℕ) (λ j w. j.1.name w) third.vtable third.value c.in_ok-new-3.field-0.value c.into_dyn_box-in_ok-new-3.ensures.1;
-              ruled = read_made own-1 entry-1-3 at-1-3 same-1-3 Rule (λ j w. j.1.rule w) third.vtable third.value c.in_ok-new-3.field-0.value c.into_dyn_box-in_ok-new-3.ensures.1;
+              ruled = read_made own-1 entry-1-3 at-1-3 same-1-3 SolverRule (λ j w. j.1.rule w) third.vtable third.value c.in_ok-new-3.field-0.value c.into_dyn_box-in_ok-new-3.ensures.1;
               unused = read_made own-1 entry-1-3 at-1-3 same-1-3 (List (List Pivot)) (λ j w. j.1.paths w) third.vtable third.value c.in_ok-new-3.field-0.value c.into_dyn_box-in_ok-new-3.ensures.1 ∙ c.in_ok-new-3.ensures.ok ∙ c.new-5.ensures;
             })
             (record {
               named = read_made own-1 entry-1-4 at-1-4 same-1-4 (List ℕ) (λ j w. j.1.name w) fourth.vtable fourth.value c.in_ok-new-4.field-0.value c.into_dyn_box-in_ok-new-4.ensures.1;
-              ruled = read_made own-1 entry-1-4 at-1-4 same-1-4 Rule (λ j w. j.1.rule w) fourth.vtable fourth.value c.in_ok-new-4.field-0.value c.into_dyn_box-in_ok-new-4.ensures.1;
+              ruled = read_made own-1 entry-1-4 at-1-4 same-1-4 SolverRule (λ j w. j.1.rule w) fourth.vtable fourth.value c.in_ok-new-4.field-0.value c.into_dyn_box-in_ok-new-4.ensures.1;
               unused = read_made own-1 entry-1-4 at-1-4 same-1-4 (List (List Pivot)) (λ j w. j.1.paths w) fourth.vtable fourth.value c.in_ok-new-4.field-0.value c.into_dyn_box-in_ok-new-4.ensures.1 ∙ c.in_ok-new-4.ensures.ok ∙ c.new-7.ensures;
             }),
         c.in_ok-ended.ensures.run,

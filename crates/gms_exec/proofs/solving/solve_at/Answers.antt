@@ -2,7 +2,7 @@ use Rattle.std.proofs.Common.{◌≡◌, ◌∙◌, ◌++◌, ◌∷◌, ◌-◌
 use Rattle.std.proofs.lemmas.List.{get_or-map}
 use Rattle.std.proofs.lemmas.Result.{IfOk-weaker}
 use Rattle.gq_frac.specs.Frac.{frac_value}
-use Rattle.lp_core.specs.Answers.{IsAnswer}
+use Rattle.lp_slot.specs.Under.{IsAnswerUnder}
 use Rattle.gms_exec.specs.InnerSolving.{AnswersAt, path_at}
 use Rattle.gms_exec.proofs.OneSolver.{map-set, get-reading, paths-set}
 use Rattle.gms_exec.proofs.solving.solve_at.Goals as goal
@@ -12,7 +12,7 @@ returns-clause-answer g c =
     let xs = c.args.solvers.now.items in
     let old = c.index_mut.result.now in
     let rule = (goal.LpSolver-dyn g (old.vtable, old.value)).rule old.value in
-    IfOk-weaker c.solve_one.result (λ r. IsAnswer frac_value (2 ^ 127 - 1) c.args.lp.now c.args.iterlim rule r.0) (λ r. AnswersAt frac_value (2 ^ 127 - 1) (map (λ b. (goal.LpSolver-dyn g (b.vtable, b.value)).rule b.value) xs) c.args.place c.args.lp.now c.args.iterlim r.0)
+    IfOk-weaker c.solve_one.result (λ r. IsAnswerUnder frac_value (2 ^ 127 - 1) c.args.lp.now c.args.iterlim rule r.0) (λ r. AnswersAt frac_value (2 ^ 127 - 1) (map (λ b. (goal.LpSolver-dyn g (b.vtable, b.value)).rule b.value) xs) c.args.place c.args.lp.now c.args.iterlim r.0)
     (λ r is_answer. record { rule = rule; chosen = get-reading (λ b. (goal.LpSolver-dyn g (b.vtable, b.value)).rule b.value) xs c.args.place old c.requires.there c.index_mut.ensures.value; is_answer = is_answer })
     c.solve_one.ensures.answer
 

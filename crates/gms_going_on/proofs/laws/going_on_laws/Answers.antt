@@ -1,7 +1,6 @@
 use Rattle.gms_going_on.proofs.Begins.{begins-with}
 use Rattle.gms_going_on.proofs.Closing.{loaded-closed}
 use Rattle.std.proofs.Common.{refl}
-use Rattle.gms_going_on.proofs.Joining.{says, stands-itself}
 use Rattle.gms_going_on.proofs.ProgramNames.{program-named}
 use Rattle.gms_going_on.proofs.SolvesAlike.{solves-alike}
 use Rattle.gms_going_on.proofs.laws.going_on_laws.Goals as goal
@@ -19,9 +18,3 @@ returns-clause-begins g c saved joint others accepted goes_on =
 pub returns-clause-solves : goal.returns-clause-solves
 returns-clause-solves g c saved joint others accepted both goes_on =
     solves-alike g.F.ExactField.value saved joint others accepted both goes_on.names goes_on.own saved.program.statements.items goes_on.statements (λ m. refl) (λ q. refl) goes_on.solvers
-
-pub returns-clause-says : goal.returns-clause-says
-returns-clause-says g c saved joint others answers behind accepted both goes_on done none reached =
-    let v = g.F.ExactField.value in
-    let statements = saved.program.statements.items in
-    says v g.F.ExactField.limit saved joint statements others answers behind accepted both goes_on.names goes_on.own goes_on.statements (stands-itself v g.F.ExactField.limit joint statements) goes_on.types goes_on.solvers done none reached

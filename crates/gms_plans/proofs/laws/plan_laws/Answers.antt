@@ -6,7 +6,7 @@ use Rattle.gms_joint.proofs.Starting.{begins-lasting}
 use Rattle.gms_save.specs.JointErrors.{resumed, saved_statements}
 use Rattle.gms_save.specs.Saves.{number_limit, solvers_chosen}
 use Rattle.gms_seam.specs.Fronts.{first_line}
-use Rattle.gms_valid.proofs.Continued.{resumed-begins, whole-accepted}
+use Rattle.gms_restart.proofs.Continued.{resumed-begins, whole-accepted}
 use Rattle.gms_plans.proofs.Meant.{answers-are-so, take-drop}
 use Rattle.gms_plans.proofs.laws.plan_laws.Goals as goal
 

@@ -36,11 +36,6 @@ returns-in_err-goes_on-clause-outside g c =
     let p = err_from_is_err_and c.from_residual.result c.from_residual.ensures.1 in
     rw (p.1, p.2) tt
 
-pub returns-in_err-goes_on-clause-settings : goal.returns-in_err-goes_on-clause-settings
-returns-in_err-goes_on-clause-settings g c =
-    let p = err_from_is_err_and c.from_residual.result c.from_residual.ensures.1 in
-    rw p.1 tt
-
 pub returns-in_err-goes_on-clause-counts : goal.returns-in_err-goes_on-clause-counts
 returns-in_err-goes_on-clause-counts g c =
     let p = err_from_is_err_and c.from_residual.result c.from_residual.ensures.1 in
@@ -62,11 +57,6 @@ returns-in_err-pass-clause-outside g c =
     let p = err_from_is_err_and c.from_residual-in_err-pass.result c.from_residual-in_err-pass.ensures.1 in
     rw (p.1, p.2) (comes_broken _ c.in_err-pass.field-0.0 (broke job before old due mid (g.H.Host.meaning c.pass.new.host).outside c.in_ok-goes_on.goes_on c.loop-s.s-index next (c.loop-s.outlet.spool ++ c.statement.new.listing) executes c.in_err-pass.ensures.outside.0))
 
-pub returns-in_err-pass-clause-settings : goal.returns-in_err-pass-clause-settings
-returns-in_err-pass-clause-settings g c =
-    let p = err_from_is_err_and c.from_residual-in_err-pass.result c.from_residual-in_err-pass.ensures.1 in
-    rw p.1 tt
-
 pub returns-in_err-pass-clause-counts : goal.returns-in_err-pass-clause-counts
 returns-in_err-pass-clause-counts g c =
     let p = err_from_is_err_and c.from_residual-in_err-pass.result c.from_residual-in_err-pass.ensures.1 in
@@ -87,10 +77,6 @@ returns-then-not-goes_on-clause-outside g c =
     at.come at.room refl c.loop-s-test.true c.s-item.is c.in_ok-goes_on.ensures.listed in
     let stops = subst (λ b. Executes job before old due mid b c.loop-s.s-index next (c.loop-s.outlet.spool ++ c.statement.new.listing)) c.if-not-goes_on.true executes in
     came_stopped job before old due mid (g.H.Host.meaning c.pass.new.host).outside c.loop-s.s-index next (c.loop-s.outlet.spool ++ c.statement.new.listing) c.pass.new.self.spool c.pass.new.self.listing stops c.in_ok-pass.ensures.outside c.in_ok-pass.ensures.room c.in_ok-pass.ensures.none
-
-pub returns-then-not-goes_on-clause-settings : goal.returns-then-not-goes_on-clause-settings
-returns-then-not-goes_on-clause-settings g c =
-    subst (λ n. AreKept n c.statement.new.store.settings) (same_many (λ b. (goal.LpSolver-dyn g (b.vtable, b.value)).name b.value) c.loop-s.solvers.items c.args.solvers.now.items c.loop-s.invariant.come.done.grown.names) c.in_ok-goes_on.ensures.settings
 
 pub returns-then-not-goes_on-clause-counts : goal.returns-then-not-goes_on-clause-counts
 returns-then-not-goes_on-clause-counts g c =
@@ -124,9 +110,6 @@ returns-clause-outside g c =
     came_done (work c.args.program.now c.args.store.now c.args.list.now) (seen (λ b. (goal.LpSolver-dyn g (b.vtable, b.value)).name b.value) (λ b. (goal.LpSolver-dyn g (b.vtable, b.value)).rule b.value) (λ b. (goal.LpSolver-dyn g (b.vtable, b.value)).paths b.value) c.args.solvers.now.items) (g.H.Host.meaning c.args.host.now).outside (c.args.outlet.now.spool ++ c.args.outlet.now.listing) (g.H.Host.meaning c.loop-s.host).outside c.loop-s.s-index
     (between (λ b. (goal.LpSolver-dyn g (b.vtable, b.value)).name b.value) (λ b. (goal.LpSolver-dyn g (b.vtable, b.value)).rule b.value) (λ b. (goal.LpSolver-dyn g (b.vtable, b.value)).paths b.value) c.loop-s.store c.loop-s.answers.items c.loop-s.solved.items c.loop-s.solvers.items) (c.loop-s.outlet.spool ++ c.loop-s.outlet.listing) c.args.list.now
     c.loop-s.invariant.come c.loop-s.invariant.room refl c.loop-s-test.false
-
-pub returns-clause-settings : goal.returns-clause-settings
-returns-clause-settings g c = c.loop-s.invariant.settings
 
 pub returns-clause-counts : goal.returns-clause-counts
 returns-clause-counts g c = writing_done tt _ c.loop-s.invariant.counts

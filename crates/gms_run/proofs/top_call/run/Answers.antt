@@ -1,5 +1,6 @@
 use Rattle.gms_run.proofs.Completeness.{completes, refused_so, refuses}
 use Rattle.gms_run.proofs.Headlined.{headlined}
+use Rattle.gms_run.proofs.Stopping.{stopped_so}
 use Rattle.gms_run.proofs.top_call.run.Goals as goal
 
 pub returns-in_err-status-clause-steady : goal.returns-in_err-status-clause-steady
@@ -28,6 +29,9 @@ returns-clause-usage g c = refused_so c.in_ok-status.status _ _ _ _ c.in_ok-stat
 
 pub returns-clause-compile : goal.returns-clause-compile
 returns-clause-compile g c = λ n. refuses c.in_ok-status.status _ _ _ _ c.in_ok-status.ensures.ran c.in_ok-status.ensures.counts.said c.in_ok-status.ensures.counts.unmet n
+
+pub returns-clause-execution : goal.returns-clause-execution
+returns-clause-execution g c = λ n. stopped_so c.in_ok-status.status _ _ _ _ c.in_ok-status.ensures.ran c.in_ok-status.ensures.counts.said c.in_ok-status.ensures.counts.unmet n
 
 pub returns-clause-complete : goal.returns-clause-complete
 returns-clause-complete g c = completes c.in_ok-status.status _ _ _ _ c.in_ok-status.ensures.ran c.in_ok-status.ensures.counts.said c.in_ok-status.ensures.counts.unmet

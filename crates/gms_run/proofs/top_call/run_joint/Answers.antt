@@ -1,5 +1,5 @@
 -- What was saved stands in the run, behind its source.
-use Rattle.std.proofs.Common.{◌∙◌, List, ap, length, subst, sym, ℕ}
+use Rattle.std.proofs.Common.{◌∙◌, List, ap, map, subst, sym, ℕ}
 use Rattle.gms_store.specs.State.{State}
 use Rattle.gms_words.specs.CommandLine.{asked_by}
 use Rattle.gms_run.specs.InnerReports.{CanGoOn}
@@ -10,9 +10,9 @@ use Rattle.gms_run.proofs.top_call.run_joint.Goals as goal
 
 pub run_matter-requires-clause-sound : goal.run_matter-requires-clause-sound
 run_matter-requires-clause-sound g c =
-    subst (λ (t : List ℕ). CanGoOn (length c.args.solvers.now.items) t c.first_line-line.result c.swap.new.x) (sym (c.as_slice-3.ensures.value ∙ c.in_ok-source.ensures ∙ ap (λ (t : List ℕ). joint_source t c.args.file.now) c.as_slice.ensures.value))
-    (subst (λ (n : ℕ). CanGoOn (length c.args.solvers.now.items) (joint_source c.args.saved.now.source.items c.args.file.now) n c.swap.new.x) (sym (c.first_line-line.ensures ∙ ap first_line c.as_slice-2.ensures.value))
-    (subst (λ (s : State). CanGoOn (length c.args.solvers.now.items) (joint_source c.args.saved.now.source.items c.args.file.now) (first_line c.args.saved.now.source.items) s) (sym c.swap.ensures.x_after) c.requires.sound))
+    subst (λ (t : List ℕ). CanGoOn (map (λ b. (goal.LpSolver-dyn g (b.vtable, b.value)).name b.value) c.args.solvers.now.items) t c.first_line-line.result c.swap.new.x) (sym (c.as_slice-3.ensures.value ∙ c.in_ok-source.ensures ∙ ap (λ (t : List ℕ). joint_source t c.args.file.now) c.as_slice.ensures.value))
+    (subst (λ (n : ℕ). CanGoOn (map (λ b. (goal.LpSolver-dyn g (b.vtable, b.value)).name b.value) c.args.solvers.now.items) (joint_source c.args.saved.now.source.items c.args.file.now) n c.swap.new.x) (sym (c.first_line-line.ensures ∙ ap first_line c.as_slice-2.ensures.value))
+    (subst (λ (s : State). CanGoOn (map (λ b. (goal.LpSolver-dyn g (b.vtable, b.value)).name b.value) c.args.solvers.now.items) (joint_source c.args.saved.now.source.items c.args.file.now) (first_line c.args.saved.now.source.items) s) (sym c.swap.ensures.x_after) c.requires.sound))
 
 pub returns-clause-ran : goal.returns-clause-ran
 returns-clause-ran g c =

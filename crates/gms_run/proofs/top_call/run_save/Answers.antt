@@ -1,6 +1,5 @@
 -- What was restored goes on, and of what was not it is listed why.
 use Rattle.std.proofs.Common.{◌≡◌, ◌<◌, ◌^◌, length, map, List, ℕ, ap, refl, subst, sym}
-use Rattle.std.proofs.lemmas.List.{length-map}
 use Rattle.std.specs.Prelude.{Ok}
 use Rattle.gms_save.specs.Saves.{GivesBack, IsRestored}
 use Rattle.gms_words.specs.CommandLine.{asked_by}
@@ -21,7 +20,7 @@ run_joint-requires-clause-short g c = c.in-Ok.ensures.answer.1.is_save.is_progra
 pub run_joint-requires-clause-sound : goal.run_joint-requires-clause-sound
 run_joint-requires-clause-sound g c =
     let names : map (λ b. (goal.LpSolver-dyn g (b.vtable, b.value)).name b.value) c.as_slice.result.now ≡ map (λ b. (goal.LpSolver-dyn g (b.vtable, b.value)).name b.value) c.args.solvers.now.items = ap (map (λ b. (goal.LpSolver-dyn g (b.vtable, b.value)).name b.value)) c.as_slice.ensures.value in
-    can_go_on (map (λ b. (goal.LpSolver-dyn g (b.vtable, b.value)).name b.value) c.args.solvers.now.items) (length c.args.solvers.now.items) c.args.save.items c.in-Ok.saved (sym (length-map c.args.solvers.now.items (λ b. (goal.LpSolver-dyn g (b.vtable, b.value)).name b.value))) (subst (λ (ns : List (List ℕ)). IsRestored ns c.args.save.items c.in-Ok.saved) names c.in-Ok.ensures.answer.1) c.args.file.now
+    can_go_on (map (λ b. (goal.LpSolver-dyn g (b.vtable, b.value)).name b.value) c.args.solvers.now.items) c.args.save.items c.in-Ok.saved (subst (λ (ns : List (List ℕ)). IsRestored ns c.args.save.items c.in-Ok.saved) names c.in-Ok.ensures.answer.1) c.args.file.now
 
 pub returns-in-Ok-clause-ran : goal.returns-in-Ok-clause-ran
 returns-in-Ok-clause-ran g c =

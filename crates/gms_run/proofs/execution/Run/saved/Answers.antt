@@ -16,4 +16,3 @@ returns g c =
     (subst (λ (solver : List ℕ). IfOk c.save.result (λ (bytes : Vec ℕ Global). bytes.items ≡ saved_text c.args.source.now c.args.program.now.names c.args.self.now.store solver))
     (c.solver_name-solver.ensures ∙ ap (λ (settings : Settings). unwrap_or (slice_get (map (λ b. (goal.LpSolver-dyn g (b.vtable, b.value)).name b.value) c.args.solvers.now) settings.solver) (codes "none")) c.settings.ensures) c.save.ensures)
     (λ name below. c.look_at_numbers.ensures name (subst (λ n. name < n) (sym c.len.ensures.len) below))
-    (subst (λ (n : ℕ). 0 < n → c.args.self.now.store.settings.solver < n) (sym (length-map c.args.solvers.now (λ b. (goal.LpSolver-dyn g (b.vtable, b.value)).name b.value))) c.requires.chosen)

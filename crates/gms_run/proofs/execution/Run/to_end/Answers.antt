@@ -22,12 +22,6 @@ remark-requires g c =
     subst (λ (given : List (Answer Frac)). AreAnswered frac_value number_limit c.statements.new.solved.items given) (sym c.as_slice-given.ensures.value)
     (ends_answered _ _ (solving (λ b. (goal.LpSolver-dyn g (b.vtable, b.value)).name b.value) (λ b. (goal.LpSolver-dyn g (b.vtable, b.value)).rule b.value) (λ b. (goal.LpSolver-dyn g (b.vtable, b.value)).paths b.value) c.args.solvers.now.items c.statements.new.solvers.items c.statements.new.answers.items) _ _ c.in_ok-status.ensures.outside.ends)
 
--- the last state chooses one of the solvers, which are as many as before
-pub saved-requires : goal.saved-requires
-saved-requires g c =
-    subst (λ (solvers : List _). AreKept (length solvers) c.statements.new.store.settings) (sym c.as_slice.ensures.value)
-    (subst (λ n. AreKept n c.statements.new.store.settings) (sym (same_many (λ b. (goal.LpSolver-dyn g (b.vtable, b.value)).name b.value) c.statements.new.solvers.items c.args.solvers.now.items c.in_ok-status.ensures.outside.ends.solved.grown.names)) c.in_ok-status.ensures.settings)
-
 pub returns-in_err-status-clause-outside : goal.returns-in_err-status-clause-outside
 returns-in_err-status-clause-outside g c state =
     let p = err_from_is_err_and c.from_residual.result c.from_residual.ensures.1 in

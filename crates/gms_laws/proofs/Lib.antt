@@ -1,0 +1,4 @@
+mod ChosenElements
+mod OnePart
+mod OneTable
+mod ReadModes

@@ -1,0 +1,4 @@
+pub mod Domains
+pub mod Modes
+pub mod Parts
+pub mod Tables

@@ -1,0 +1,15 @@
+-- The entries of a table, with the numbers that they mean (GAMS User's Guide, "Data Entry:
+-- Parameters, Scalars and Tables").
+use Rattle.std.specs.Prelude.{ℕ, List}
+use Rattle.gq_number.specs.Number.{Number}
+use Rattle.gms_table.specs.declared.entry.Entry.{Entry}
+use Rattle.gms_table.specs.declared.entry.TableLine.{TableLine}
+use Rattle.gms_table.specs.TableEntries.{IsTable}
+
+-- an entry, with the number that it means
+abbrev pub entry_in : {F : Type 0} → (F → Number) → Entry F → Entry Number
+entry_in value entry = record { at = entry.at; row = entry.row; column = entry.column; value = value entry.value }
+
+-- the lines of a table have these entries, and after it these are the labels of the source
+abbrev pub HasEntries : ℕ → List TableLine → List (List ℕ) → List (List ℕ) → List (Entry Number) → Type 0
+HasEntries limit lines before after entries = IsTable limit (λ x. x) lines before after entries

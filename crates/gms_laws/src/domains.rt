@@ -1,0 +1,28 @@
+//! Laws of domains.
+ghost use Rattle.std.specs.Prelude.{◌≡◌, ◌≤◌, ◌↔◌, true, ℕ, List, length, Ok, All};
+ghost use Rattle.gms_labels.specs.declared.place.Place.{Place};
+ghost use Rattle.gms_ast.specs.Trees.{Control};
+ghost use Rattle.gms_tuple.specs.TupleOrder.{IsOrdered};
+ghost use Rattle.gms_tuple.specs.TupleSet.{has};
+ghost use Rattle.gms_store.specs.State.{State};
+ghost use Rattle.gms_eval.specs.Bindings.{Pairs};
+ghost use Rattle.gms_eval.specs.InnerLeading.{IsSimple};
+ghost use Rattle.gms_eval.specs.Value.{domain, sets_of};
+ghost use Rattle.gms_laws.specs.Domains.{HasItsMembers, IsWhereItHolds};
+
+use gq_field::ExactField;
+
+/// The domain of a fold, a loop or a left side over sets of one dimension: it is in order, so each
+/// tuple is in it once, and it has exactly the tuples with a member of each set at the set's
+/// position for which the condition holds (GAMS User's Guide, "Data Manipulations with Parameters",
+/// indexed operations; "Conditional Expressions, Assignments and Equations", dollar control).
+///
+/// A domain has at most 10 sets. In a state that a run of an accepted program reaches, each set of
+/// a domain is of one dimension.
+pub fn domain_laws<F: ExactField>()
+    ensures in_order { (state : State) (binding : Pairs) (at : Place) (control : Control F) (found : List (List ℕ)) →
+        All (IsSimple state) (sets_of control) → domain F.value F.limit state binding at control ≡ Ok found → IsOrdered found }
+    ensures exact { (state : State) (binding : Pairs) (at : Place) (control : Control F) (found : List (List ℕ)) (element : List ℕ) →
+        All (IsSimple state) (sets_of control) → length (sets_of control) ≤ 10 → domain F.value F.limit state binding at control ≡ Ok found →
+        (has found element ≡ true) ↔ (HasItsMembers state (sets_of control) element × IsWhereItHolds F.value F.limit state binding control element) }
+{}

@@ -1,0 +1,12 @@
+//! Laws of tokens, expressions, tables and domains, in the subject's words. No crate uses it.
+#![tactic(auto)]
+
+mod domains;
+mod modes;
+mod parts;
+mod tables;
+
+pub use domains::domain_laws;
+pub use modes::mode_laws;
+pub use parts::part_laws;
+pub use tables::table_laws;

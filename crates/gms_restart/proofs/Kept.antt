@@ -1,0 +1,112 @@
+-- What is given of names stays in their domains: after an assignment, an answer, and options.
+use Rattle.std.proofs.Common.{◌≡◌, ℕ, Bool, true, false, ◌==◌, cond, List, [], ◌∷◌, length, refl, sym, ◌∙◌, subst, inl, inr}
+use Rattle.std.specs.List.{fold}
+use Rattle.gq_number.specs.Number.{Number}
+use Rattle.gms_ast.specs.declared.expression.Suffix.{Suffix}
+use Rattle.gms_ast.specs.declared.program.Setting.{Setting}
+use Rattle.gms_ast.specs.declared.word.Word.{Word}
+use Rattle.gms_tuple.specs.TupleSet.{has}
+use Rattle.gms_store.specs.State.{State, Content, undeclared, alias_of, set_of, parameter_of, variable_of, equation_of, model_with, Symbol, symbol_at, symbol_of, behind, base_of, given_in, with_symbol, with_content, if_fits, with_attributes, with_statuses, with_settings, attributes_of, with_level, with_marginal}
+use Rattle.lp_core.specs.declared.answer.End.{End}
+use Rattle.lp_core.specs.declared.program.Lp.{Lp}
+use Rattle.gms_exec.specs.Given.{AllGiven, with_given, fitting, after_given}
+use Rattle.gms_exec.specs.Options.{after_options}
+use Rattle.gms_exec.specs.Solved.{Point, with_point, statuses_of, points_of, after_end}
+use Rattle.gms_exec.proofs.Levels.{behind-fitted, fits-either}
+use Rattle.gms_exec.proofs.Symbols.{at-after, base-after}
+use Rattle.gms_frames.proofs.Points.{ArePut, end-put}
+use Rattle.gms_frames.proofs.RowElements.{IsOver}
+use Rattle.gms_joint.proofs.LastStates.{Lasts, MayBe, lasts-given, lasts-end, lasts-options}
+use Rattle.gms_restart.proofs.Fitting.{Standing}
+use Rattle.gms_restart.proofs.Homes.{stands_few}
+use Rattle.gms_restart.proofs.Passing.{stands_key}
+use Rattle.gms_restart.proofs.Writing.{AreGiven, given-has, put-has, statuses-has}
+
+behind-statuses : (content : Content) (model solver n : ℕ) → behind n (with_statuses content model solver) ≡ behind n content
+behind-statuses undeclared model solver n = refl
+behind-statuses (alias_of base) model solver n = refl
+behind-statuses (set_of members) model solver n = refl
+behind-statuses (parameter_of entries) model solver n = refl
+behind-statuses (variable_of type entries) model solver n = refl
+behind-statuses (equation_of entries) model solver n = refl
+behind-statuses (model_with m s) model solver n = refl
+
+module _ (count : ℕ) (first : State) (assigned : ℕ → Bool) where
+  -- a tuple stands in the domain that a name has at first
+  abbrev Stand : ℕ → List ℕ → Type 0
+  Stand n t = stands_few count first (symbol_at first n).domain t ≡ true
+
+  -- all that is given does
+  abbrev AllStand : State → Type 0
+  AllStand state = (n : ℕ) (t : List ℕ) → has (given_in (symbol_at state n).content) t ≡ true → Stand n t
+
+  -- What each state of the run keeps.
+  pub record Kept (state : State) : Type 0 where
+    pub lasts : Lasts first assigned state
+    pub stand : AllStand state
+
+  pub standing-of : (state : State) → Kept state → Standing count first assigned state
+  standing-of state kept = record { stays = kept.lasts.stays; stand = kept.stand; static = kept.lasts.later.static }
+
+  -- ---- one name changed
+
+  stand-with : (s : State) (name : ℕ) (new : Symbol) → ((t : List ℕ) → has (given_in new.content) t ≡ true → Stand (base_of s name) t) → AllStand s → AllStand (with_symbol s name new)
+  stand-with s name new own old n t there = elim (at-after s name new n) [
+    | inl same ↦ old n t (subst (λ (x : Symbol). has (given_in x.content) t ≡ true) same there)
+    | inr changed ↦ subst (λ m. Stand m t) (sym changed.0) (own t (subst (λ (x : Symbol). has (given_in x.content) t ≡ true) changed.1 there))
+  ]
+
+  -- ---- an assignment
+
+  fitting-are : (P : List ℕ → Type 0) (symbol : Symbol) (all : AllGiven) → AreGiven P all → AreGiven P (fitting symbol all)
+  fitting-are P symbol [] are = tt
+  fitting-are P symbol (given ∷ all) are = by (length given.0 == length symbol.domain) (fitting-are P symbol all are.1)
+    where
+      by : (b : Bool) → AreGiven P (fitting symbol all) → AreGiven P (cond b (given ∷ fitting symbol all) (fitting symbol all))
+      by true rest = (are.0, rest)
+      by false rest = rest
+
+  pub kept-given : (s : State) (kind : Suffix) (name : ℕ) (all : AllGiven) → MayBe first assigned name → AreGiven (λ t. stands_key count first (record { symbol = name; tuple = t }) ≡ true) all → Kept s → Kept (after_given kind name all s)
+  kept-given s kind name all may are kept =
+      let symbol = symbol_of s name in
+      let base : base_of s name ≡ base_of first name = (kept.lasts.stays name).alike name in
+      let own : AreGiven (Stand (base_of s name)) all = subst (λ m. AreGiven (Stand m) all) (sym base) are in
+      record {
+        lasts = lasts-given first assigned s kind name all may kept.lasts;
+        stand = stand-with s name (with_content symbol (with_given kind (fitting symbol all) symbol.content)) (given-has (Stand (base_of s name)) kind (fitting symbol all) symbol.content (fitting-are (Stand (base_of s name)) symbol all own) (kept.stand (base_of s name))) kept.stand;
+      }
+
+  -- ---- an answer
+
+  -- names stand for what they stood for at first
+  abbrev Based : State → Type 0
+  Based s = (n : ℕ) → base_of s n ≡ base_of first n
+
+  points-stand : (points : List Point) (s : State) → ArePut (stands_key count first) points → Based s → AllStand s → AllStand (fold with_point s points)
+  points-stand [] s are based all = all
+  points-stand (point ∷ points) s are based all =
+      let name = point.key.symbol in
+      let t = point.key.tuple in
+      let a = with_marginal (with_level (attributes_of s name t) point.level) point.marginal in
+      let symbol = symbol_of s name in
+      let new = if_fits symbol t (with_attributes symbol.content t a) in
+      let own : Stand (base_of s name) t = subst (λ m. Stand m t) (sym (based name)) are.0 in
+      let P : Content → Type 0 = λ content. (u : List ℕ) → has (given_in content) u ≡ true → Stand (base_of s name) u in
+      points-stand points (with_point s point) are.1 (λ n. base-after s name new (λ m. behind-fitted symbol t a m) n ∙ based n)
+      (stand-with s name new (fits-either P symbol t (with_attributes symbol.content t a) (all (base_of s name)) (put-has (Stand (base_of s name)) t a symbol.content own (all (base_of s name)))) all)
+
+  pub kept-end : (s : State) (model : ℕ) (lp : Lp Number) (end : End Number) → IsOver (stands_key count first) lp → Kept s → Kept (after_end s model lp end)
+  kept-end s model lp end over kept =
+      let symbol = symbol_of s model in
+      let statuses = statuses_of end in
+      let new = with_content symbol (with_statuses symbol.content statuses.0 statuses.1) in
+      record {
+        lasts = lasts-end first assigned s model lp end kept.lasts;
+        stand = points-stand (points_of lp end) (with_symbol s model new) (end-put (stands_key count first) lp over end) (λ n. base-after s model new (λ m. behind-statuses symbol.content statuses.0 statuses.1 m) n ∙ (kept.lasts.stays n).alike n)
+            (stand-with s model new (statuses-has (Stand (base_of s model)) statuses.0 statuses.1 symbol.content (kept.stand (base_of s model))) kept.stand);
+      }
+
+  -- ---- options
+
+  pub kept-options : {F : Type 0} (v : F → Number) (solvers : List (List ℕ)) (s : State) (options : List (Word × Setting F)) → Kept s → Kept (with_settings s (after_options v solvers s.settings options))
+  kept-options v solvers s options kept = record { lasts = lasts-options first assigned v solvers s options kept.lasts; stand = kept.stand }

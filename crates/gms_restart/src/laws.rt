@@ -1,0 +1,116 @@
+//! Laws of joint programs, of restarted runs, and of what the last state of a run has.
+ghost use Rattle.std.specs.Prelude.{◌≡◌, ◌++◌, ℕ, true, List, [], None, Option, Ok, All, length, option_map};
+ghost use Rattle.gq_number.specs.Number.{Number};
+ghost use Rattle.gq_frac.specs.declared.frac.Frac.{Frac};
+ghost use Rattle.gq_frac.specs.Frac.{frac_value};
+ghost use Rattle.gms_labels.specs.declared.place.Place.{Place};
+ghost use Rattle.gms_ast.specs.declared.expression.Expr.{Expr};
+ghost use Rattle.gms_ast.specs.declared.program.Act.TheVariants.{Assign};
+ghost use Rattle.gms_ast.specs.declared.program.Program.{Program};
+ghost use Rattle.gms_ast.specs.declared.program.Right.TheVariants.{Value};
+ghost use Rattle.gms_ast.specs.declared.program.Stmt.{Stmt};
+ghost use Rattle.gms_ast.specs.declared.program.Target.{Target};
+ghost use Rattle.gms_ast.specs.TreeView.{tree_of};
+ghost use Rattle.gms_parse.specs.Outcomes.{HasProgram, IsProgram, ProgramView};
+ghost use Rattle.gms_store.specs.Declarations.{declared_state};
+ghost use Rattle.gms_store.specs.State.{State, given_in, symbol_at, symbol_of};
+ghost use Rattle.gms_known.specs.DynamicSets.{dynamic_sets};
+ghost use Rattle.gms_check.specs.CompileErrors.{compile_errors};
+ghost use Rattle.gms_check.specs.Loaded.{IsAccepted, loaded};
+ghost use Rattle.gms_check.specs.Past.{is_among};
+ghost use Rattle.gms_eval.specs.Bindings.{Pairs};
+ghost use Rattle.gms_exec.specs.Assignment.{given_by, target_of};
+ghost use Rattle.gms_exec.specs.Given.{AllGiven};
+ghost use Rattle.gms_exec.specs.Run.{World};
+ghost use Rattle.gms_joint.specs.Reached.{IsReached, IsStatementOf};
+ghost use Rattle.gms_joint.specs.LastStates.{MayBegin};
+ghost use Rattle.gms_save.specs.JointErrors.{joint_errors, resumed};
+ghost use Rattle.gms_save.specs.Saves.{IsSavedBy, number_limit};
+ghost use Rattle.gms_seam.specs.Fronts.{first_line, joint_source};
+ghost use Rattle.gms_saved.specs.Validity.{IsSavedOf, is_solver_name, stands_in};
+ghost use Rattle.gms_restart.specs.Alike.{IsAlike};
+ghost use Rattle.gms_restart.specs.JointPrograms.{Continues};
+ghost use Rattle.gms_restart.specs.Labels.{WritesItsLabels};
+ghost use Rattle.gms_restart.specs.LastStates.{NumbersFit, last_state, later_state};
+ghost use Rattle.gms_restart.specs.Restarts.{SaysTheSame, base_run, whole_run};
+ghost use Rattle.lp_core.specs.declared.answer.Answer.{Answer};
+
+use gq_field::ExactField;
+
+/// Whatever file resumes from a saved state: where the joint source is a program, the state that it resumes from declares each name
+/// as the joint program does, over as many positions and as another name of the same set, since what the saved source declares
+/// first counts (GAMS User's Guide, "Save and Restart", "Set Definition").
+pub fn fits_laws()
+    ensures fits { (saved file : List ℕ) (first whole : Program Frac) (state : State) (solver : List ℕ) →
+        IsProgram number_limit saved frac_value first → IsProgram number_limit (joint_source saved file) frac_value whole →
+        IsSavedBy first state solver → (name : ℕ) → IsAlike (resumed frac_value state whole) (declared_state whole) name }
+{}
+
+/// Where a saved source and the joint source of it and a file are programs, each statement of the saved program begins above the
+/// line at which the file begins, and each further one of the joint program at that line or below it (`places`).
+///
+/// So a run that is restarted from a saved base case says what one long run of both would have said (`says`). Let the run of the
+/// saved program come to its end with all its answers taken. Let the joint program have no error. Let its long run, whose first
+/// answers are those of the saved run, execute the saved source's statements to their end. Then the statements of the file say
+/// there what they say in the restarted run.
+///
+/// GAMS User's Guide, "Save and Restart".
+pub fn restart_laws()
+    ensures places { (limit : ℕ) (saved file : List ℕ) (first whole : ProgramView) →
+        HasProgram limit saved first → HasProgram limit (joint_source saved file) whole → Continues (first_line saved) first whole }
+    ensures says { (most limit : ℕ) (source file : List ℕ) (saved joint : World Frac) (answers further : List (Answer Number)) →
+        IsProgram most source frac_value saved.program → IsProgram most (joint_source source file) frac_value joint.program →
+        IsAccepted frac_value saved.program →
+        joint_errors frac_value joint.program (first_line source) joint.solvers ≡ [] → joint.solvers ≡ saved.solvers →
+        (whole_run frac_value limit saved answers).halted ≡ None →
+        (whole_run frac_value limit saved answers).left ≡ [] →
+        (base_run frac_value limit (first_line source) joint (answers ++ further)).halted ≡ None →
+        SaysTheSame frac_value limit (first_line source) saved joint answers further }
+{}
+
+/// In the last state of an accepted program's run each tuple of which something is given stands in the domain of its name: it has as many labels as the
+/// name has positions, each is one of the program's, and a member of the set of its position, where there is one (`stand`). So where its numbers
+/// fit, as those of a store do, it is a saved state of the program (`saved`). The labels that the program writes, and those of its data, are to be
+/// among its own, as those of the program of a source are (`own`).
+///
+/// So what the run of a source's program without errors ends in is a saved state of it, one that `restore` takes, with whatever solvers it was
+/// run (`last`). A run may begin in the state that is resumed from a save, so that the laws of whole runs hold there (`begins`). What such a
+/// run ends in is a saved state of the joint program (`later`).
+///
+/// GAMS User's Guide, "Save and Restart"; "Set Definition", domain checking.
+pub fn valid_laws<F: ExactField>()
+    ensures stand { (world : World F) (answers : List (Answer Number)) (name : ℕ) → IsAccepted F.value world.program → WritesItsLabels F.value world.program →
+        All (λ (t : List ℕ). stands_in (length world.program.labels) (last_state F.value F.limit world answers) (symbol_at (last_state F.value F.limit world answers) name).domain t ≡ true)
+        (given_in (symbol_at (last_state F.value F.limit world answers) name).content) }
+    ensures saved { (world : World F) (answers : List (Answer Number)) (most : ℕ) (solver : List ℕ) → IsAccepted F.value world.program → WritesItsLabels F.value world.program →
+        NumbersFit most (last_state F.value F.limit world answers) → is_solver_name solver ≡ true →
+        IsSavedOf most (length world.program.labels) (declared_state world.program) (loaded F.value world.program) (is_among (dynamic_sets world.program))
+        (last_state F.value F.limit world answers) solver }
+    ensures own { (limit : ℕ) (source : List ℕ) (program : Program Frac) → IsProgram limit source frac_value program → WritesItsLabels frac_value program }
+    ensures last { (limit : ℕ) (source : List ℕ) (world : World Frac) (answers : List (Answer Number)) (solver : List ℕ) → IsProgram number_limit source frac_value world.program →
+        compile_errors frac_value world.program world.solvers ≡ [] →
+        NumbersFit number_limit (last_state frac_value limit world answers) → is_solver_name solver ≡ true →
+        IsSavedBy world.program (last_state frac_value limit world answers) solver }
+    ensures begins { (source file : List ℕ) (saved : Program Frac) (world : World Frac) (state : State) (solver : List ℕ) →
+        IsProgram number_limit source frac_value saved → IsProgram number_limit (joint_source source file) frac_value world.program →
+        joint_errors frac_value world.program (first_line source) world.solvers ≡ [] → IsSavedBy saved state solver →
+        MayBegin frac_value world.program (resumed frac_value state world.program) }
+    ensures later { (limit : ℕ) (source file : List ℕ) (saved : Program Frac) (world : World Frac) (state : State) (solver named : List ℕ) (answers : List (Answer Number)) →
+        IsProgram number_limit source frac_value saved → IsProgram number_limit (joint_source source file) frac_value world.program →
+        joint_errors frac_value world.program (first_line source) world.solvers ≡ [] → IsSavedBy saved state solver →
+        NumbersFit number_limit (later_state frac_value limit (first_line source) world state answers) → is_solver_name named ≡ true →
+        IsSavedBy world.program (later_state frac_value limit (first_line source) world state answers) named }
+{}
+
+/// What an assignment of an accepted program gives elements has as many labels as its name has positions, in each state that statements
+/// of the program lead to from one in which a run may begin, from its start or from a save, also in the midst of a loop. That is what
+/// `assignment_laws` of gms_exec ask for: so nothing that an assignment gives is lost.
+///
+/// GAMS User's Guide, "Data Manipulations with Parameters", indexed assignments; "Save and Restart".
+pub fn assigned_laws<F: ExactField>()
+    ensures { (world : World F) (statement : Stmt F) (target : Target F) (condition : Option (Expr F)) (right_at : Place) (right : Expr F) (first state : State) (binding : Pairs) (given : AllGiven) →
+        IsAccepted F.value world.program → IsStatementOf world.program statement → statement.act ≡ Assign target condition right_at (Value right) →
+        MayBegin F.value world.program first → IsReached F.value F.limit world first state →
+        given_by F.value F.limit state statement.at binding (target_of target) (option_map tree_of condition) right_at (tree_of right) ≡ Ok given →
+        All (λ one. length one.0 ≡ length (symbol_of state target.name).domain) given }
+{}

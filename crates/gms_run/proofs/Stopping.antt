@@ -1,0 +1,106 @@
+-- A run without a fault of the host ends with an execution error exactly where the run that the source means is stopped.
+use Rattle.std.proofs.Common.{◌≡◌, ℕ, List, Option, Some, None, refl, sym, ap, ap₂, ◌∙◌, subst}
+use Rattle.std.specs.Prelude.{◌↔◌}
+use Rattle.gq_frac.specs.declared.frac.Frac.{Frac}
+use Rattle.gq_frac.specs.Frac.{frac_value}
+use Rattle.gms_ast.specs.declared.program.Program.{Program}
+use Rattle.gms_host.specs.Meaning.{Meaning, Outside}
+use Rattle.gms_store.specs.State.{State}
+use Rattle.gms_exec.specs.Run.{Course, World, stopped}
+use Rattle.gms_parse.specs.Outcomes.{program_view}
+use Rattle.gms_parse.proofs.OneReading.{one_program}
+use Rattle.gms_save.specs.declared.fault.SaveFault.{SaveFault}
+use Rattle.gms_words.specs.CommandLine.{Asked}
+use Rattle.gms_run.specs.declared.status.Status.{Status}
+use Rattle.gms_run.specs.declared.status.Status.TheVariants.{Done, Usage, Compile, Execution, ReadFault, WriteFault}
+use Rattle.gms_run.specs.Solving.{Solving, number_limit, numbers_of}
+use Rattle.gms_run.specs.Scripts.{Script, joint_script, Matter, scripted, unrestored, Taken, from_start, from_save, IsMatter}
+use Rattle.gms_run.specs.Jobs.{Job, job_of, course_of, HaltsSo}
+use Rattle.gms_run.specs.Listings.{IsAccepted, IsExecuted, IsJob}
+use Rattle.gms_run.specs.Statuses.{CountsSo, EndsByNoFault, IsReadyFor, IsRun, IsRunOf, IsStopped, MeetsNoFault, NamesSource}
+use Rattle.gms_restart.proofs.ProgramsAlike.{restarted-alike, whole-alike}
+use Rattle.gms_run.proofs.Completeness.{can_run_of, fault_met, named_taken, names_some, not_refused, one_script, one_value, same_restored}
+
+-- ---- programs that are seen alike
+
+-- The jobs of a script run alike in two programs that are seen alike: a script that is run from its start, or one that goes on from a save.
+module _ (one other : Program Frac) (alike : program_view frac_value one ≡ program_view frac_value other) (solving : Solving) where
+  abbrev world_of : Program Frac → World Frac
+  world_of program = record { program = program; solvers = solving.before.names }
+
+  same-course : (script : Script) → course_of (job_of script one) solving ≡ course_of (job_of script other) solving
+  same-course script = by script.source script.file script.line script.saved
+    where
+      by : (source file : List ℕ) (line : ℕ) (saved : Option State) →
+          course_of (job_of (record { source = source; file = file; line = line; saved = saved }) one) solving ≡ course_of (job_of (record { source = source; file = file; line = line; saved = saved }) other) solving
+      by source file line None = whole-alike number_limit (world_of one) (world_of other) alike refl (numbers_of solving.answers)
+      by source file line (Some state) = restarted-alike number_limit (world_of one) (world_of other) alike refl line state (numbers_of solving.answers)
+
+-- ---- jobs of what was taken
+
+module _ (solving : Solving) where
+  -- two jobs of one script run alike
+  script-course : (script : Script) (a b : Job) → IsJob solving.before.names (scripted script) a → IsJob solving.before.names (scripted script) b → course_of a solving ≡ course_of b solving
+  script-course script a b ja jb =
+      let is-a : script ≡ ja.script = one_script ja.to_run in
+      let is-b : script ≡ jb.script = one_script jb.to_run in
+      let program-a = subst (λ (s : Script). IsAccepted solving.before.names s a.program) (sym is-a) ja.accepted in
+      let program-b = subst (λ (s : Script). IsAccepted solving.before.names s b.program) (sym is-b) jb.accepted in
+      let alike = one_program number_limit script.source (program_view frac_value a.program) (program_view frac_value b.program) program-a.is_program program-b.is_program in
+      ap (λ (j : Job). course_of j solving) (ja.is_job ∙ ap (λ (s : Script). job_of s a.program) (sym is-a))
+      ∙ same-course a.program b.program alike solving script
+      ∙ sym (ap (λ (j : Job). course_of j solving) (jb.is_job ∙ ap (λ (s : Script). job_of s b.program) (sym is-b)))
+
+  -- nothing that cannot be restored is a job
+  no-job : (fault : SaveFault) (job : Job) → IsJob solving.before.names (unrestored fault) job → ⊥
+  no-job fault job j = let e = j.to_run in cc
+
+  -- two jobs of what was taken run alike
+  same-job : (taken : Taken) (m n : Matter) (a b : Job) → IsMatter solving.before.names taken m → IsMatter solving.before.names taken n → IsJob solving.before.names m a → IsJob solving.before.names n b → course_of a solving ≡ course_of b solving
+  same-job (from_start source) (scripted s) (scripted t) a b is at ja jb =
+      script-course s a b ja (subst (λ (r : Script). IsJob solving.before.names (scripted r) b) (at ∙ sym is) jb)
+  same-job (from_save save file) (scripted s) (scripted t) a b is at ja jb =
+      let same = same_restored solving.before.names save is.saved at.saved is.back at.restored in
+      let scripts : s ≡ t = is.joint ∙ ap₂ (λ source store. joint_script source store file) same.0 same.1 ∙ sym at.joint in
+      script-course s a b ja (subst (λ (r : Script). IsJob solving.before.names (scripted r) b) (sym scripts) jb)
+  same-job taken (unrestored fault) n a b is at ja jb = absurd (no-job fault a ja)
+  same-job taken (scripted s) (unrestored fault) a b is at ja jb = absurd (no-job fault b jb)
+
+-- ---- the status
+
+module _ (solving : Solving) (old new : Outside) (words : List (List ℕ)) (n : NamesSource old words) where
+  -- a run that executed a job, which halts with an execution error, of what the words name
+  stops : (status : Status) (request : Asked) (run : IsRunOf status solving old new request) → n.request ≡ request → (text : List ℕ) (done : IsExecuted solving run.matter text) → HaltsSo Execution (course_of done.job solving).halted → IsStopped solving n.taken
+  stops status request run same text done halts = record {
+    matter = run.matter;
+    is_matter = subst (λ (taken : Taken). IsMatter solving.before.names taken run.matter) (named_taken status solving old new words request run n same) run.is_matter;
+    job = done.job;
+    is_job = done.is_job;
+    halts = halts;
+  }
+
+  -- a run of what is stopped did not come to its end
+  not-done : (request : Asked) (run : IsRunOf Done solving old new request) → n.request ≡ request → IsStopped solving n.taken → ⊥
+  not-done request run same is =
+      let done = run.ran.listing.0 in
+      let at = subst (λ (taken : Taken). IsMatter solving.before.names taken run.matter) (named_taken Done solving old new words request run n same) run.is_matter in
+      let course = same-job solving n.taken run.matter is.matter done.job is.job at is.is_matter done.is_job is.is_job in
+      let none : (course_of is.job solving).halted ≡ None = ap (λ (c : Course). c.halted) (sym course) ∙ run.ran.listing.1 in
+      let some : (course_of is.job solving).halted ≡ Some (stopped is.halts.0) = is.halts.1 in
+      let both : None ≡ Some (stopped is.halts.0) = sym none ∙ some in cc
+
+-- What a run did that met no fault, for words that name a source: an execution error stopped it exactly where the run that the source
+-- means is stopped.
+pub stopped_so : (status : Status) (solving : Solving) (words : List (List ℕ)) (old new : Meaning) → IsRun status solving words old new → CountsSo status old.counts new.counts → (IsReadyFor old words → EndsByNoFault status) → (n : NamesSource old.outside words) → MeetsNoFault old.counts new.counts → (status ≡ Execution) ↔ IsStopped solving n.taken
+stopped_so status solving words old new run counts unmet n none = (λ is. forth (subst (λ s. IsRun s solving words old new) is run), back status run counts unmet)
+  where
+    forth : IsRun Execution solving words old new → IsStopped solving n.taken
+    forth run = stops solving old.outside new.outside words n Execution run.0 run.1.1 (one_value n.named run.1.0) run.1.1.ran.text run.1.1.ran.listing.0 run.1.1.ran.listing.1
+
+    back : (s : Status) → IsRun s solving words old new → CountsSo s old.counts new.counts → (IsReadyFor old words → EndsByNoFault s) → IsStopped solving n.taken → s ≡ Execution
+    back Execution run counts unmet is = refl
+    back Done run counts unmet is = absurd (not-done solving old.outside new.outside words n run.0 run.1.1 (one_value n.named run.1.0) is)
+    back Compile run counts unmet is = absurd (not_refused solving old.outside new.outside words run.0 run.1.1 n (one_value n.named run.1.0) (can_run_of solving.before.names n.taken is.matter is.job is.is_matter is.is_job))
+    back Usage run counts unmet is = absurd (names_some words old.outside n run.0)
+    back ReadFault run counts unmet is = absurd (fault_met ReadFault words old new n none (λ met. met.0 counts) unmet)
+    back WriteFault run counts unmet is = absurd (fault_met WriteFault words old new n none (λ met. met.1 counts) unmet)

@@ -1,3 +1,0 @@
-pub mod TokenLines
-pub mod OwnNames
-pub mod Sequel

@@ -1,5 +1,0 @@
-pub mod SeenRows
-pub mod SeenRuns
-pub mod NewTypes
-pub mod Studied
-pub mod Whole
