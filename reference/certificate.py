@@ -3,13 +3,12 @@
 
 `dual_bound` is all that an outsider needs besides comparing levels: one sum.
 """
-from fractions import Fraction
 from typing import Optional, Union
 
-from reference.exact import DoesNotFit, step
+from reference.exact import DoesNotFit, Number, step
 from reference.program import Column, Program, Row
 
-Bounds = tuple[Optional[Fraction], Optional[Fraction]]
+Bounds = tuple[Optional[Number], Optional[Number]]
 
 
 class CheckStep(Exception):
@@ -30,7 +29,7 @@ class Sum:
     def __init__(self) -> None:
         self.number = 0
 
-    def taken(self, symbol: str, left: Fraction, right: Fraction) -> Fraction:
+    def taken(self, symbol: str, left: Number, right: Number) -> Number:
         """The next step."""
         try:
             result = step(symbol, left, right)
@@ -43,7 +42,7 @@ class Sum:
 class ExactSum(Sum):
     """Steps without a limit."""
 
-    def taken(self, symbol: str, left: Fraction, right: Fraction) -> Fraction:
+    def taken(self, symbol: str, left: Number, right: Number) -> Number:
         return {'+': left + right, '-': left - right, '*': left * right}[symbol]
 
 
@@ -56,7 +55,7 @@ def bounds_of(it: Union[Column, Row]) -> Bounds:
     return it.right if it.sense in 'EG' else None, it.right if it.sense in 'EL' else None
 
 
-def reduced_costs(program: Program, duals: list[Fraction], with_objective: bool, steps: Sum) -> list[Fraction]:
+def reduced_costs(program: Program, duals: list[Number], with_objective: bool, steps: Sum) -> list[Number]:
     """The cost of each column less each dual times the row's number for the column, over the rows
     but N in order; all costs are 0 for rows that contradict.
     """
@@ -70,7 +69,7 @@ def reduced_costs(program: Program, duals: list[Fraction], with_objective: bool,
     return result
 
 
-def dual_bound(program: Program, duals: list[Fraction], with_objective: bool, steps: Sum) -> Fraction:
+def dual_bound(program: Program, duals: list[Number], with_objective: bool, steps: Sum) -> Number:
     """The bound by these duals: with the objective's costs, or with all costs 0, as when
     minimizing, for rows that contradict.
 
@@ -78,7 +77,7 @@ def dual_bound(program: Program, duals: list[Fraction], with_objective: bool, st
     """
     is_low = not (with_objective and program.maximize)
     reduced = reduced_costs(program, duals, with_objective, steps)
-    bound = Fraction(0)
+    bound = 0
     for it, factor in [*zip(program.rows, duals), *zip(program.columns, reduced)]:
         if factor:
             selected = bounds_of(it)[0 if (factor > 0) == is_low else 1]

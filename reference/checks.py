@@ -4,11 +4,11 @@ Each statement has one error at most: the first by its place, and at one place t
 least number. A loop with its body is one statement. Names of a statement with an error count as
 declared after it, and its data as not given.
 """
-from fractions import Fraction
 from typing import Iterable, NamedTuple, Optional
 
 from reference import errors
 from reference.expression_checks import ExpressionChecks, Scope
+from reference.extended import is_whole
 from reference.source import Place
 from reference.symbols import MOST_ELEMENTS, MOST_POSITIONS, NO_SET, Element, Symbol, dynamic_sets, elements_of, size_of
 from reference.tree import (Abort, Alias, Assignment, Declaration, Declared, Definition, Display, Item, Loop, ModelItem, Models, Named,
@@ -146,7 +146,8 @@ class Checks(ExpressionChecks):
         return None
 
     def data(self, declared: Declared, domain: Domain) -> dict[Element, object]:
-        """The elements of a list with their values; none where an item has an error, at its place."""
+        """The elements of a list with their values; none where an item has an error, at its place.
+        """
         data: dict[Element, object] = {}
         count = 0
         for item in declared.items:
@@ -196,7 +197,7 @@ class Checks(ExpressionChecks):
                 symbol.equations = []
 
     def equations(self, model: ModelItem) -> list[int]:
-        """The equations of a model in its order, each once."""
+        """The equations of a model in its order, without repetition."""
         if model.has_all:
             return [name for name, symbol in self.symbols.items() if symbol.kind == 'equation']
         for named in model.equations:
@@ -264,7 +265,7 @@ class Checks(ExpressionChecks):
     def setting(self, setting: Setting) -> None:
         word, value = setting.word.text, setting.value
         if word in MOST_OF_OPTION:
-            is_right = isinstance(value, Fraction) and value.denominator == 1 and 0 <= value <= MOST_OF_OPTION[word]
+            is_right = not isinstance(value, str) and is_whole(value) and 0 <= value <= MOST_OF_OPTION[word]
         elif word == 'solprint':
             is_right = value in ('on', 'off')
         elif word == 'lp':

@@ -1,20 +1,22 @@
-"""Which variable enters (docs/internals/SOLVER.md, "Which variable enters"; docs/internals/DESIGN.md,
-"Sizes and bits").
+"""Which variable enters (docs/internals/SOLVER.md, "Which variable enters";
+docs/internals/DESIGN.md, "Sizes and bits").
 
 A pick is given a dictionary and the variables that improve, with their coefficients.
 """
-from fractions import Fraction
-from typing import Callable, NamedTuple
+from functools import partial
+from math import lcm
+from typing import Callable, Iterable, NamedTuple
 
+from reference.exact import Number
 from reference.simplex import CONSTANT, Dictionary
 from reference.standard import Refusal
 
-Improving = dict[int, Fraction]
+Improving = dict[int, Number]
 
 # The rules that a solver tries in turn.
 SOLVERS = {'bland': ('bland',), 'dantzig': ('largest',), 'steepest': ('steepest',),
-           'any': ('steepest', 'shortest', 'gain', 'largest', 'bland')}
-STOPS = 10_000          # the cost of a variable of whose ratios a step does not fit
+           'any': ('steepest', 'shortest', 'gain', 'row', 'both', 'largest', 'bland')}
+MOST_DENOMINATOR = 2 ** 128 - 1
 
 
 class Size(NamedTuple):
@@ -49,12 +51,12 @@ def total(x: Size, y: Size) -> Size:
     return high if apart >= 32 else leading(high.word + (low.word >> apart), high.exponent)
 
 
-def size(x: Fraction) -> Size:
-    """The size of a magnitude."""
-    return quotient(leading(abs(x.numerator)), leading(x.denominator))
+def size(x: Number) -> Size:
+    """The size of a number above 0, whose denominator has at most 127 bits."""
+    return leading((x.numerator << 160) // x.denominator, -160)
 
 
-def worth(dictionary: Dictionary, variable: int, coefficient: Fraction) -> Size:
+def worth(dictionary: Dictionary, variable: int, coefficient: Number) -> Size:
     """The square of the coefficient over 1 and the squares of the numbers in the rows that limit
     the variable.
     """
@@ -66,33 +68,59 @@ def worth(dictionary: Dictionary, variable: int, coefficient: Fraction) -> Size:
     return quotient(product(gain, gain), length)
 
 
+def steepest(dictionary: Dictionary, improving: Improving) -> int:
+    """Of the variables with the greatest coefficients the one whose weight is greatest."""
+    most = min(max(4096 // (len(dictionary.basis) + 1), 8), 128)
+    weighed = sorted(sorted(improving), key=lambda variable: size(improving[variable]), reverse=True)[:most]
+    return greatest({variable: worth(dictionary, variable, improving[variable]) for variable in weighed})
+
+
 def bits(number: int) -> int:
     return abs(number).bit_length()
 
 
-def shortness(dictionary: Dictionary, row: int, variable: int, coefficient: Fraction) -> int:
-    """How many bits the number has on which the variable would pivot."""
-    pivot = dictionary.number(row, variable)
-    return bits(pivot.numerator) + bits(pivot.denominator)
+def denominator(numbers: Iterable[Number]) -> int:
+    """The least denominator that numbers have in common, or the greatest that is used."""
+    return min(lcm(*(number.denominator for number in numbers)), MOST_DENOMINATOR)
 
 
-def gain(dictionary: Dictionary, row: int, variable: int, coefficient: Fraction) -> int:
-    """The bits of that number's numerator, less those of the gain."""
-    pivot, constant = dictionary.number(row, variable), dictionary.number(row, CONSTANT)
-    gained = bits(coefficient.numerator) + bits(constant.numerator) + bits(pivot.denominator)
-    return 1000 + 2 * bits(pivot.numerator) + bits(coefficient.denominator) + bits(constant.denominator) - gained
+def bits_over(number: Number, common: int) -> int:
+    """The bits of a number over a common denominator."""
+    return bits(number.numerator) + bits(common // number.denominator)
 
 
-def cheapest(cost: Callable[[Dictionary, int, int, Fraction], int], dictionary: Dictionary, improving: Improving) -> int:
-    """The variable whose pivot costs least; one that no row limits costs 0."""
-    def cost_of(variable: int) -> int:
+class Pivot:
+    """What a variable's pivot would be: the row that leaves, and the bits of its numbers."""
+
+    def __init__(self, dictionary: Dictionary, variable: int, coefficient: Number) -> None:
+        row = dictionary.leaving(variable, 0)
+        self.number, constant = dictionary.number(row, variable), dictionary.number(row, CONSTANT)
+        self.of_gain = (bits(coefficient.numerator) + bits(constant.numerator) + bits(self.number.denominator)
+                        - bits(coefficient.denominator) - bits(constant.denominator) - bits(self.number.numerator))
+        self.in_row = bits_over(self.number, denominator(dictionary.rows[row].values()))
+        self.in_column = bits_over(self.number, denominator(it.get(variable, 0) for it in dictionary.rows))
+
+
+COSTS: dict[str, Callable[[Pivot], int]] = {
+    'shortest': lambda it: bits(it.number.numerator) + bits(it.number.denominator),
+    'gain': lambda it: bits(it.number.numerator) - it.of_gain,
+    'row': lambda it: 2 * it.in_row - it.of_gain,
+    'both': lambda it: it.in_row + it.in_column - 3 * it.of_gain,
+}
+
+
+def cheapest(cost: Callable[[Pivot], int], dictionary: Dictionary, improving: Improving) -> int:
+    """The variable whose pivot costs least: before all others one that no row limits, after them
+    one of whose ratios a step does not fit.
+    """
+    def order(variable: int) -> tuple[int, int, int]:
         if not dictionary.limiting(variable):
-            return 0
+            return 0, 0, variable
         try:
-            return cost(dictionary, dictionary.leaving(variable, 0), variable, improving[variable])
+            return 1, cost(Pivot(dictionary, variable, improving[variable])), variable
         except Refusal:
-            return STOPS
-    return min(improving, key=lambda variable: (cost_of(variable), variable))
+            return 2, 0, variable
+    return min(improving, key=order)
 
 
 def greatest(values: dict[int, object]) -> int:
@@ -103,15 +131,14 @@ def greatest(values: dict[int, object]) -> int:
 PICKS: dict[str, Callable[[Dictionary, Improving], int]] = {
     'bland': lambda dictionary, improving: min(improving),
     'largest': lambda dictionary, improving: greatest(improving),
-    'steepest': lambda dictionary, improving: greatest({it: worth(dictionary, it, number) for it, number in improving.items()}),
-    'shortest': lambda dictionary, improving: cheapest(shortness, dictionary, improving),
-    'gain': lambda dictionary, improving: cheapest(gain, dictionary, improving),
+    'steepest': steepest,
+    **{name: partial(cheapest, cost) for name, cost in COSTS.items()},
 }
 
 
 class Rule:
-    """A pick, which turns to Bland's rule for the rest of a phase once the pivots in a row that gain
-    nothing are as many as all variables are.
+    """A pick, which turns to Bland's rule for the rest of a phase once the pivots in a row that
+    gain nothing are as many as all variables are.
     """
 
     def __init__(self, name: str, variables: int) -> None:
@@ -126,7 +153,7 @@ class Rule:
         improving = dictionary.improving()
         return PICKS['bland' if self.turned else self.name](dictionary, improving) if improving else -1
 
-    def after(self, constant: Fraction, new_phase: bool) -> None:
+    def after(self, constant: Number, new_phase: bool) -> None:
         """Counts a pivot by the constant of the variable that left."""
         self.idle = 0 if constant or new_phase else self.idle + 1
         self.turned = not new_phase and (self.turned or self.idle >= self.variables)

@@ -1,4 +1,6 @@
-"""The command line (docs/LISTING.md, "Arguments", "Messages", "The order of a run", "Statuses")."""
+"""The command line (docs/LISTING.md, "Arguments", "Messages", "Statuses"; docs/internals/DESIGN.md,
+"The order of a run").
+"""
 import os
 import sys
 from dataclasses import dataclass, field
@@ -27,7 +29,7 @@ DEEPEST = 20_000
 
 @dataclass
 class Request:
-    """What the words ask for."""
+    """What the words request."""
     file: Optional[str] = None
     values: dict[str, str] = field(default_factory=dict)
     has_ranges: bool = False
@@ -137,7 +139,7 @@ def program_of(source: str) -> Tree:
 
 
 def outcome_of(source: str, saved: Optional[Saved] = None, run_from: Callable[[State], Run] = Run) -> Outcome:
-    """Reads, checks and executes a source, which resumes from a save where there is one."""
+    """Reads, checks and executes a source, which resumes from a save if one is given."""
     first_line = saved.source.count('\n') + 3 if saved else 0
     try:
         tree = program_of(source)

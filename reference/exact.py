@@ -1,11 +1,14 @@
 """Exact numbers whose parts have a limit (docs/NUMBERS.md, "What a number is").
 
-A number is a fraction in lowest terms, and `str` of it is its exact text, `n` or `n/d`. Each step
-is taken exactly. Where its result does not fit, `step` raises `DoesNotFit`, and nothing is ever
-rounded.
+A number is a fraction in lowest terms, and `str` of it is its exact text, `n` or `n/d`. A whole
+one is an `int`, with which Python computes fast. Each step is taken exactly. Where its result does
+not fit, `step` raises `DoesNotFit`, and nothing is ever rounded.
 """
 from fractions import Fraction
 from math import gcd
+from typing import Union
+
+Number = Union[int, Fraction]
 
 LIMIT = 2 ** 127 - 1
 
@@ -19,16 +22,26 @@ def is_within(*numbers: int) -> bool:
     return max(map(abs, numbers)) <= LIMIT
 
 
-def fitting(value: Fraction) -> Fraction:
+def ratio(numerator: int, denominator: int) -> Number:
+    """The number of these parts."""
+    return plain(Fraction(numerator, denominator))
+
+
+def plain(value: Number) -> Number:
+    """The number, as an `int` where it is whole."""
+    return value.numerator if value.denominator == 1 else value
+
+
+def fitting(value: Number) -> Number:
     """The value, where both parts are within the limit: the rule of a product, a quotient and a
     power.
     """
     if not is_within(value.numerator, value.denominator):
         raise DoesNotFit
-    return value
+    return plain(value)
 
 
-def total(left: Fraction, right: Fraction) -> Fraction:
+def total(left: Number, right: Number) -> Number:
     """The sum of a/b and c/d, where a(d/g), c(b/g), their sum t and (b/g)(d/h) are within the
     limit; g is gcd(b, d), h is gcd(t, g).
     """
@@ -40,13 +53,13 @@ def total(left: Fraction, right: Fraction) -> Fraction:
     below = (b // g) * (d // h)
     if not is_within(first, second, both, below):
         raise DoesNotFit
-    return Fraction(both // h, below)
+    return both // h if below == 1 else Fraction(both // h, below)
 
 
-def step(symbol: str, left: Fraction, right: Fraction) -> Fraction:
+def step(symbol: str, left: Number, right: Number) -> Number:
     """One step, `+`, `-`, `*` or `/`, of two numbers. The right operand of `/` is not 0."""
     if symbol == '+':
         return total(left, right)
     if symbol == '-':
         return total(left, -right)
-    return fitting(left * right if symbol == '*' else left / right)
+    return fitting(left * right if symbol == '*' else Fraction(left, right))

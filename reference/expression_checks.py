@@ -1,13 +1,13 @@
 """Compile errors in expressions (docs/LANGUAGE.md, "Compile errors").
 
 The place of an error is a reference, an `ord` or `card`, a call, a fold, or the amount of a lag. A
-part without a place of its own, as `yes` or a condition, has the place of the operand, call, fold,
+part without a place, as `yes` or a condition, has the place of the operand, call, fold,
 side or statement around it.
 """
-from fractions import Fraction
 from typing import NamedTuple, Optional
 
 from reference import errors
+from reference.extended import is_whole
 from reference.source import Place
 from reference.symbols import MOST_POSITIONS, NO_SET, Symbol, has_variables, is_below
 from reference.tree import (Call, Chain, Constant, Control, Count, Expression, Fold, Guarded, Index, Lag, Membership, Negative, Not, Reference)
@@ -157,11 +157,11 @@ class ExpressionChecks:
         """On the left the amount of a lag is a whole number or a scalar."""
         amount = lag.amount
         symbol = self.symbols.get(amount.name) if isinstance(amount, Reference) else None
-        is_whole = isinstance(amount, Constant) and isinstance(amount.value, Fraction) and amount.value.denominator == 1
+        is_count = isinstance(amount, Constant) and is_whole(amount.value)
         is_plain = isinstance(amount, Reference) and not amount.suffix and not amount.indices
         is_scalar = is_plain and symbol is not None and symbol.kind == 'parameter' and not symbol.domain
         is_variable = isinstance(amount, Reference) and not amount.suffix and symbol is not None and symbol.kind == 'variable'
-        if not (is_whole or is_scalar or is_variable):
+        if not (is_count or is_scalar or is_variable):
             self.report(lag.at, errors.Compile.WrongKind)
         self.expression(amount, Scope(lag.at, controlled))
 

@@ -1,6 +1,6 @@
 """Values that may be infinite or NA, and the steps on them (docs/NUMBERS.md, "Infinity and NA").
 
-A value is a `Fraction` or one of `INF`, `MINUS_INF` and `NA`. A step without a result raises
+A value is a number or one of `INF`, `MINUS_INF` and `NA`. A step without a result raises
 `StepFault`.
 """
 from enum import Enum
@@ -8,7 +8,7 @@ from fractions import Fraction
 from typing import Callable, Union
 
 from reference import errors
-from reference.exact import DoesNotFit, step
+from reference.exact import DoesNotFit, Number, step
 from reference.texts import rounded
 
 
@@ -20,8 +20,7 @@ class Special(Enum):
 
 
 INF, MINUS_INF, NA = Special.INF, Special.MINUS_INF, Special.NA
-ZERO, ONE = Fraction(0), Fraction(1)
-Value = Union[Fraction, Special]
+Value = Union[Number, Special]
 
 LARGEST_EXPONENT = 1024
 
@@ -34,11 +33,15 @@ class StepFault(Exception):
         self.code = code
 
 
-def number_step(symbol: str, left: Fraction, right: Fraction) -> Fraction:
+def number_step(symbol: str, left: Number, right: Number) -> Number:
     try:
         return step(symbol, left, right)
     except DoesNotFit:
         raise StepFault(errors.Execution.Limit) from None
+
+
+def is_whole(x: Value) -> bool:
+    return not isinstance(x, Special) and x.denominator == 1
 
 
 def sign_of(x: Value) -> int:
@@ -92,36 +95,36 @@ def divided(x: Value, y: Value) -> Value:
     if isinstance(y, Special):
         if isinstance(x, Special):
             raise StepFault(errors.Execution.Undefined)
-        return ZERO
+        return 0
     return infinity(sign_of(x) * sign_of(y)) if isinstance(x, Special) else number_step('/', x, y)
 
 
 def power(x: Value, n: Value) -> Value:
     """The product for every whole exponent of at most 1,024 in magnitude."""
-    if isinstance(n, Special) or n.denominator != 1 or abs(n) > LARGEST_EXPONENT:
+    if not is_whole(n) or abs(n) > LARGEST_EXPONENT:
         raise StepFault(errors.Execution.Exponent)
     if n == 0:
-        return ONE
+        return 1
     if x is NA:
         return NA
     if isinstance(x, Special):
-        return ZERO if n < 0 else infinity(1 if x is INF or n % 2 == 0 else -1)
+        return 0 if n < 0 else infinity(1 if x is INF or n % 2 == 0 else -1)
     if x == 0:
         if n < 0:
             raise StepFault(errors.Execution.Divide)
-        return ZERO
+        return 0
     return fitting_power(x, int(n))
 
 
-def fitting_power(x: Fraction, n: int) -> Fraction:
+def fitting_power(x: Number, n: int) -> Number:
     """The power of a number that is not 0; it fits where both of its parts do."""
     if max(abs(x.numerator), x.denominator) > 1 and abs(n) >= 127:
         raise StepFault(errors.Execution.Limit)
-    return number_step('*', x ** n, ONE)
+    return number_step('*', Fraction(x) ** n, 1)
 
 
-def truncated(x: Fraction) -> Fraction:
-    return Fraction(abs(x.numerator) // x.denominator * sign_of(x))
+def truncated(x: Number) -> Number:
+    return abs(x.numerator) // x.denominator * sign_of(x)
 
 
 def modulo(x: Value, y: Value) -> Value:
@@ -129,14 +132,14 @@ def modulo(x: Value, y: Value) -> Value:
     return subtracted(x, multiplied(y, whole(truncated)(divided(x, y))))
 
 
-def whole(rounding: Callable[[Fraction], Fraction]) -> Callable[[Value], Value]:
+def whole(rounding: Callable[[Number], Number]) -> Callable[[Value], Value]:
     """A rounding, which keeps infinities and NA."""
     return lambda x: x if isinstance(x, Special) else rounding(x)
 
 
-def nearest(x: Fraction) -> Fraction:
+def nearest(x: Number) -> Number:
     """The nearest whole number, from the middle of two away from zero."""
-    return Fraction((2 * abs(x.numerator) + x.denominator) // (2 * x.denominator) * sign_of(x))
+    return (2 * abs(x.numerator) + x.denominator) // (2 * x.denominator) * sign_of(x)
 
 
 def magnitude(x: Value) -> Value:
@@ -144,7 +147,7 @@ def magnitude(x: Value) -> Value:
 
 
 def signum(x: Value) -> Value:
-    return NA if x is NA else Fraction(sign_of(x))
+    return NA if x is NA else sign_of(x)
 
 
 def is_less(x: Value, y: Value) -> bool:
@@ -177,8 +180,8 @@ FUNCTIONS: dict[str, Callable[..., Value]] = {
     'abs': magnitude,
     'sign': signum,
     'sqr': lambda x: multiplied(x, x),
-    'floor': whole(lambda x: Fraction(x.numerator // x.denominator)),
-    'ceil': whole(lambda x: Fraction(-(-x.numerator // x.denominator))),
+    'floor': whole(lambda x: x.numerator // x.denominator),
+    'ceil': whole(lambda x: -(-x.numerator // x.denominator)),
     'trunc': whole(truncated),
     'round': whole(nearest),
     'mod': modulo,

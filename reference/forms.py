@@ -5,11 +5,11 @@ A part without variables is computed as any expression, and has to be a number. 
 before the first part with variables is one such part.
 """
 from dataclasses import dataclass, field
-from fractions import Fraction
 from typing import Union
 
 from reference import errors
-from reference.extended import ONE, ZERO, Special, Value, number_step
+from reference.exact import Number
+from reference.extended import Special, Value, number_step
 from reference.source import Place
 from reference.symbols import Element, has_variables
 from reference.tree import Chain, Expression, Fold, Guarded, Negative, Reference
@@ -21,8 +21,8 @@ Key = tuple[int, Element]
 @dataclass
 class Form:
     """A constant, and the number of each variable's element where it is not 0."""
-    constant: Fraction = ZERO
-    numbers: dict[Key, Fraction] = field(default_factory=dict)
+    constant: Number = 0
+    numbers: dict[Key, Number] = field(default_factory=dict)
 
 
 def plus(left: Form, right: Form) -> Form:
@@ -31,7 +31,7 @@ def plus(left: Form, right: Form) -> Form:
     """
     left.constant = number_step('+', left.constant, right.constant)
     for key in sorted(right.numbers):
-        number = number_step('+', left.numbers.pop(key, ZERO), right.numbers[key])
+        number = number_step('+', left.numbers.pop(key, 0), right.numbers[key])
         if number:
             left.numbers[key] = number
     return left
@@ -45,7 +45,7 @@ def negative(form: Form) -> Form:
     return Form(-form.constant, {key: -number for key, number in form.numbers.items()})
 
 
-def scaled(symbol: str, form: Form, number: Fraction) -> Form:
+def scaled(symbol: str, form: Form, number: Number) -> Form:
     """The form times a number, or divided by one that is not 0."""
     numbers = {key: number_step(symbol, form.numbers[key], number) for key in sorted(form.numbers)}
     return Form(number_step(symbol, form.constant, number), {key: it for key, it in numbers.items() if it})
@@ -57,7 +57,7 @@ class Forms(Evaluator):
     def has_variables(self, e: Expression) -> bool:
         return has_variables(e, self.state.symbols)
 
-    def number(self, value: Value, at: Place, binding: Binding) -> Fraction:
+    def number(self, value: Value, at: Place, binding: Binding) -> Number:
         """A part without variables has to be a number."""
         if isinstance(value, Special):
             raise Stop(errors.Execution.Undefined, at, binding)
@@ -68,7 +68,7 @@ class Forms(Evaluator):
             return Form(self.number(self.value(e, binding), e.start, binding))
         if isinstance(e, Reference):
             element = self.element(e.indices, binding)
-            return Form() if element is None else Form(ZERO, {(e.name, element): ONE})
+            return Form() if element is None else Form(0, {(e.name, element): 1})
         if isinstance(e, Negative):
             return negative(self.form(e.operand, binding))
         if isinstance(e, Guarded):

@@ -4,10 +4,10 @@ One method reads one production. It returns a tree. Where no production continue
 token, that token is `Expected`.
 """
 from dataclasses import replace
-from fractions import Fraction
 from typing import Callable, NamedTuple, Optional, TypeVar
 
 from reference import errors
+from reference.exact import Number
 from reference.extended import INF, NA
 from reference.source import Place, SourceFault
 from reference.texts import TooWide, decimal
@@ -135,12 +135,12 @@ class Grammar:
         token = self.take()
         return self.label(token.text, token.at)
 
-    def number(self) -> Fraction:
+    def number(self) -> Number:
         if self.token.kind != NUMBER:
             raise self.unexpected()
         token = self.take()
         try:
-            return decimal(token.text) or Fraction(0)
+            return decimal(token.text) or 0
         except TooWide:
             raise SourceFault(errors.Source.Number, token.at) from None
 

@@ -1,10 +1,10 @@
 """The lines of a listing (docs/LISTING.md). Lines are without their line feeds."""
-from fractions import Fraction
 from itertools import product
 from typing import Iterable, Optional, Union
 
 from reference.checks import CompileError
-from reference.extended import ZERO, Value, shown
+from reference.exact import Number
+from reference.extended import Value, shown
 from reference.program import Answer, Program, Row
 from reference.proof import proof_lines
 from reference.rows import Generated
@@ -75,7 +75,7 @@ def scalar_value(state: State, symbol: Symbol, suffix: str) -> Value:
     if symbol.kind == 'parameter':
         return state.value(symbol.name, ())
     if symbol.kind == 'model':
-        return Fraction(state.statuses[symbol.name][suffix == 'solvestat'])
+        return state.statuses[symbol.name][suffix == 'solvestat']
     return getattr(state.entry(symbol, ()), suffix)
 
 
@@ -165,15 +165,15 @@ def column_lines(state: State, made: Generated) -> list[str]:
     return lines
 
 
-def bound(value: Optional[Fraction], missing: str) -> str:
+def bound(value: Optional[Number], missing: str) -> str:
     return missing if value is None else rounded(value)
 
 
 def level_lines(state: State, s: Solve, made: Generated, answer: Answer) -> list[str]:
     """Levels and marginals in blocks: the equations that have rows, and then the variables."""
     program = made.program
-    duals = answer.duals or [ZERO] * len(program.rows)
-    reduced = answer.reduced or [ZERO] * len(program.columns)
+    duals = answer.duals or [0] * len(program.rows)
+    reduced = answer.reduced or [0] * len(program.columns)
     rows = [(row.name, row.right if row.sense in 'EG' else None, level, row.right if row.sense in 'EL' else None, dual, '')
             for row, level, dual in zip(program.rows, answer.row_levels, duals)]
     columns = [(it.name, it.lower, level, it.upper, cost, mark(program, answer, place))
@@ -205,6 +205,6 @@ def block(word: str, name: str, lines: list[tuple]) -> list[str]:
         for element, lower, level, upper, marginal, end in lines]
 
 
-def cell(value: Optional[Fraction], missing: str) -> str:
+def cell(value: Optional[Number], missing: str) -> str:
     """A number with three decimals, and a dot for 0."""
     return missing if value is None else '.' if value == 0 else rounded(value)

@@ -5,16 +5,17 @@ Columns and rows are named as the listing names them. Each list of numbers in an
 columns or by rows of the program.
 """
 from dataclasses import dataclass, field
-from fractions import Fraction
 from typing import Optional
+
+from reference.exact import Number
 
 
 @dataclass(frozen=True)
 class Column:
     """A variable's element, such as `x(a,b)`, with its bounds; None is no bound."""
     name: str
-    lower: Optional[Fraction]
-    upper: Optional[Fraction]
+    lower: Optional[Number]
+    upper: Optional[Number]
 
 
 @dataclass(frozen=True)
@@ -26,8 +27,8 @@ class Row:
     """
     name: str
     sense: str
-    coefficients: dict[int, Fraction]
-    right: Fraction
+    coefficients: dict[int, Number]
+    right: Number
 
 
 @dataclass(frozen=True)
@@ -40,9 +41,9 @@ class Program:
     objective: int
     maximize: bool
 
-    def cost(self, column: int) -> Fraction:
+    def cost(self, column: int) -> Number:
         """The cost of a column: 1 for the objective, and 0 for every other one."""
-        return Fraction(int(column == self.objective))
+        return int(column == self.objective)
 
 
 @dataclass(frozen=True)
@@ -70,11 +71,11 @@ class Answer:
     """
     status: str
     pivots: list[tuple[int, int]] = field(default_factory=list)     # what enters, and what leaves
-    levels: list[Fraction] = field(default_factory=list)            # of columns
-    row_levels: list[Fraction] = field(default_factory=list)
-    duals: list[Fraction] = field(default_factory=list)             # of rows
-    reduced: list[Fraction] = field(default_factory=list)           # of columns
-    ray: list[Fraction] = field(default_factory=list)               # of columns
+    levels: list[Number] = field(default_factory=list)            # of columns
+    row_levels: list[Number] = field(default_factory=list)
+    duals: list[Number] = field(default_factory=list)             # of rows
+    reduced: list[Number] = field(default_factory=list)           # of columns
+    ray: list[Number] = field(default_factory=list)               # of columns
     crossed: Optional[int] = None       # a column
     phase: int = 0
     step: Optional[Step] = None

@@ -1,10 +1,10 @@
 """The proof of an answer as the listing has it (docs/LISTING.md, "Proofs, and how to check them by
 hand").
 """
-from fractions import Fraction
 from typing import Union
 
 from reference.certificate import CheckStep, Sum, dual_bound
+from reference.exact import Number
 from reference.program import Answer, Column, Program, Row, Step
 
 WORDS = {'Standard': ('row', 'column', 'part'), 'Exchange': ('row', 'column', 'part'), 'Ratio': ('row',),
@@ -12,7 +12,7 @@ WORDS = {'Standard': ('row', 'column', 'part'), 'Exchange': ('row', 'column', 'p
 Named = Union[list[Column], list[Row]]
 
 
-def not_zero(word: str, named: Named, values: list[Fraction]) -> list[str]:
+def not_zero(word: str, named: Named, values: list[Number]) -> list[str]:
     """A line for each column or row whose number is not 0."""
     return ['  %s %s = %s' % (word, it.name, value) for it, value in zip(named, values) if value]
 

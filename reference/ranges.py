@@ -4,21 +4,20 @@
 All is read off the final dictionary. A right side may move by t while no constant falls below 0, a
 cost while no variable improves.
 """
-from fractions import Fraction
 from typing import Iterable, Optional
 
-from reference.exact import DoesNotFit, step
+from reference.exact import DoesNotFit, Number, step
 from reference.program import Answer, Program
-from reference.simplex import CONSTANT, ZERO, Dictionary
+from reference.simplex import CONSTANT, Dictionary
 from reference.standard import Shift, Standard, standard
 
-Ends = tuple[Optional[Fraction], Optional[Fraction]]
+Ends = tuple[Optional[Number], Optional[Number]]
 
 
-def interval(number: Fraction, kept: Iterable[tuple[Fraction, Fraction]]) -> Ends:
+def interval(number: Number, kept: Iterable[tuple[Number, Number]]) -> Ends:
     """The numbers number + t for which each kept amount + t * gain is at least 0."""
-    low: Optional[Fraction] = None
-    high: Optional[Fraction] = None
+    low: Optional[Number] = None
+    high: Optional[Number] = None
     for amount, gain in kept:
         if gain:
             end = step('/', -amount, gain)
@@ -29,14 +28,14 @@ def interval(number: Fraction, kept: Iterable[tuple[Fraction, Fraction]]) -> End
     return None if low is None else step('+', number, low), None if high is None else step('+', number, high)
 
 
-def entry(dictionary: Dictionary, row: int, variable: int) -> Fraction:
+def entry(dictionary: Dictionary, row: int, variable: int) -> Number:
     """The number of a row at a variable: its entry, and at basic variables 1 in the own row and 0
     in every other.
     """
-    return Fraction(int(dictionary.basis[row] == variable)) if variable in dictionary.basis else dictionary.number(row, variable)
+    return int(dictionary.basis[row] == variable) if variable in dictionary.basis else dictionary.number(row, variable)
 
 
-def right_kept(dictionary: Dictionary, slacks: list[int], sense: str) -> Iterable[tuple[Fraction, Fraction]]:
+def right_kept(dictionary: Dictionary, slacks: list[int], sense: str) -> Iterable[tuple[Number, Number]]:
     """Of each row of the dictionary its constant, and what it gains where the right side rises by
     1.
     """
@@ -47,14 +46,14 @@ def right_kept(dictionary: Dictionary, slacks: list[int], sense: str) -> Iterabl
         yield dictionary.number(row, CONSTANT), -first if sense == 'G' else first
 
 
-def change(dictionary: Dictionary, variable: int, moving: int) -> Fraction:
+def change(dictionary: Dictionary, variable: int, moving: int) -> Number:
     """How a variable changes where one that is not basic rises by 1."""
     if variable in dictionary.basis:
         return -dictionary.number(dictionary.basis.index(variable), moving)
-    return Fraction(int(variable == moving))
+    return int(variable == moving)
 
 
-def cost_kept(dictionary: Dictionary, shift: Shift, variables: int, sign: int) -> Iterable[tuple[Fraction, Fraction]]:
+def cost_kept(dictionary: Dictionary, shift: Shift, variables: int, sign: int) -> Iterable[tuple[Number, Number]]:
     """Of each variable that is not basic its coefficient, and what that gains where the cost rises
     by 1; both negated, to be at least 0.
     """
@@ -65,10 +64,10 @@ def cost_kept(dictionary: Dictionary, shift: Shift, variables: int, sign: int) -
         gain = shift.sign * change(dictionary, shift.variable, moving)
         if shift.second is not None:
             gain = step('-', gain, change(dictionary, shift.second, moving))
-        yield -coefficients.get(moving, ZERO), -sign * gain
+        yield -coefficients.get(moving, 0), -sign * gain
 
 
-def line(word: str, name: str, number: Fraction, kept: Iterable[tuple[Fraction, Fraction]]) -> str:
+def line(word: str, name: str, number: Number, kept: Iterable[tuple[Number, Number]]) -> str:
     """The line of one number, or that a step on the way to an end does not fit."""
     try:
         low, high = interval(number, kept)

@@ -8,11 +8,10 @@ solved again, too, and so are the pivots, an interrupt and a refused step checke
 """
 import re
 import sys
-from fractions import Fraction
 from typing import Optional, Sequence
 
 from reference.command import DEEPEST, outcome_of
-from reference.exact import is_within
+from reference.exact import Number, is_within, ratio
 from reference.listing import echo, error_line, last_line, program_lines
 from reference.program import Answer, Program, Step
 from reference.rows import Generated
@@ -21,7 +20,7 @@ from reference.saves import Saved, joint_source, restore
 from reference.source import MOST_BYTES, SourceFault
 from reference.state import State
 from reference.tree import Solve
-from reference.verdicts import ZERO, fault_of, row_sum
+from reference.verdicts import fault_of, row_sum
 
 USAGE = 'usage: gams25-recheck [--replay] [--restart SAVE] MODEL LISTING'
 SOLVER = re.compile(r'SOLVER [A-Za-z0-9_]+ PIVOTS ([0-9]{1,10}) LIMIT [0-9]+')
@@ -43,11 +42,11 @@ class FalseListing(Exception):
         self.line, self.why = line, why
 
 
-def number_of(text: str, line: int) -> Fraction:
+def number_of(text: str, line: int) -> Number:
     match = NUMBER.fullmatch(text)
     if match is None or not int(match[2] or 1) or not is_within(int(match[1]), int(match[2] or 1)):
         raise FalseListing(line, '%s is no number' % text)
-    return Fraction(int(match[1]), int(match[2] or 1))
+    return ratio(int(match[1]), int(match[2] or 1))
 
 
 class Answers:
@@ -116,12 +115,12 @@ class Answers:
         match = self.match(STEP, place, '  step NAME ..')
         return Step(match[1], tuple(map(int, re.findall('[0-9]+', match[2]))))
 
-    def numbers(self, start: int, end: int, words: tuple[str, ...], with_rows: bool = False) -> tuple[list[Fraction], list[Fraction]]:
+    def numbers(self, start: int, end: int, words: tuple[str, ...], with_rows: bool = False) -> tuple[list[Number], list[Number]]:
         """The numbers after these words, of the columns, or of the rows and then the columns; what
         is not listed is 0.
         """
         named = (list(self.program.rows) if with_rows else []) + list(self.program.columns)
-        numbers, k = [ZERO] * len(named), 0
+        numbers, k = [0] * len(named), 0
         for place in range(start, end):
             match = NAMED.fullmatch(self.lines[place])
             if match is None or match[1] not in words:

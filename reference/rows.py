@@ -2,10 +2,10 @@
 to a linear program").
 """
 from dataclasses import dataclass
-from fractions import Fraction
 from typing import Optional
 
 from reference import errors
+from reference.exact import Number
 from reference.extended import Special
 from reference.forms import Form, Forms, Key, minus
 from reference.program import Column, Program, Row
@@ -26,7 +26,7 @@ class Generated:
 
 
 def index_sets(indices: tuple[Index, ...]) -> tuple[int, ...]:
-    """The sets among indices, each once, in their order."""
+    """The sets among indices, without repetition, in their order."""
     return tuple(dict.fromkeys(index.name for index in indices if index.label is None))
 
 
@@ -43,7 +43,7 @@ def rows_of(definition: Definition, forms: Forms) -> list[tuple[Key, Form]]:
     return rows
 
 
-def number_or_none(value: object) -> Optional[Fraction]:
+def number_or_none(value: object) -> Optional[Number]:
     return None if isinstance(value, Special) else value
 
 

@@ -4,7 +4,7 @@ assigned", "solve", "display, abort", "loop", "option").
 from typing import Iterable
 
 from reference import errors
-from reference.extended import INF, MINUS_INF, ZERO, Special, Value
+from reference.extended import INF, MINUS_INF, Special, Value
 from reference.listing import displayed, execution_error, solve_lines
 from reference.program import Answer, Program
 from reference.rows import Generated, generate, index_sets
@@ -124,7 +124,7 @@ class Run:
         for keys, levels, marginals in ((made.column_keys, answer.levels, answer.reduced), (made.row_keys, answer.row_levels, answer.duals)):
             for place, (name, element) in enumerate(keys):
                 symbol = self.state.symbols[name]
-                marginal = marginals[place] if answer.status == 'Optimal' else ZERO
+                marginal = marginals[place] if answer.status == 'Optimal' else 0
                 self.state.put_entry(symbol, element, self.state.entry(symbol, element)._replace(l=levels[place], m=marginal))
 
 

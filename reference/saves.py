@@ -5,14 +5,13 @@ written again: where that is not the text, it is no save.
 """
 import re
 from dataclasses import dataclass
-from fractions import Fraction
 from typing import Iterator, TypeVar
 
 from reference import errors
 from reference.checks import MOST_OF_OPTION, Checks
 from reference.choice import SOLVERS
-from reference.exact import is_within
-from reference.extended import INF, MINUS_INF, NA, ZERO, Value, exactly
+from reference.exact import is_within, ratio
+from reference.extended import INF, MINUS_INF, NA, Value, exactly
 from reference.run import is_possible
 from reference.source import MOST_BYTES, Place, SourceFault, read_source
 from reference.state import Entry, Settings, State, first_entry, first_state
@@ -24,7 +23,8 @@ HEAD = re.compile(r'gams25 save 1\nsource ([0-9]{1,8})\n')
 SOLVER_NAME = re.compile(r'[A-Za-z][A-Za-z0-9_]{0,62}')
 FRACTION = re.compile(r'-?[0-9]{1,39}(?:/[0-9]{1,39})?')
 COUNT = re.compile(r'[0-9]{1,10}')
-SOLVER_STATUS = {0: 0, 1: 1, 3: 1, 4: 1, 6: 2, 7: 2, 13: 4}         # the one that goes with a model status
+# The one that goes with a model status.
+SOLVER_STATUS = {0: 0, 1: 1, 3: 1, 4: 1, 6: 2, 7: 2, 13: 4}
 
 Given = TypeVar('Given')
 
@@ -166,13 +166,13 @@ def read_part(state: State, name: int, lines: Iterator[str], dynamic: set[int]) 
     if symbol.kind == 'set':
         read_members(state, symbol, rows, dynamic)
     elif symbol.kind == 'parameter':
-        state.values[name] = {element: other_than(ZERO, read_value(*rest)) for element, rest in rows}
+        state.values[name] = {element: other_than(0, read_value(*rest)) for element, rest in rows}
     else:
         state.entries[name] = {element: other_than(first_entry(symbol), read_entry(rest)) for element, rest in rows}
 
 
 def other_than(absent: Given, given: Given) -> Given:
-    """What is given; it differs from what is there where nothing is given."""
+    """What is given; it differs from the absent entry where nothing is given."""
     if given == absent:
         raise NoSave
     return given
@@ -215,7 +215,7 @@ def read_value(text: str) -> Value:
     numerator, _, denominator = text.partition('/')
     if not is_within(int(numerator), int(denominator or 1)) or denominator and not int(denominator):
         raise NoSave
-    return Fraction(int(numerator), int(denominator or 1))
+    return ratio(int(numerator), int(denominator or 1))
 
 
 def read_entry(words: list[str]) -> Entry:

@@ -5,12 +5,10 @@ of the objective, what it is: a constant less the sum of entry times variable. S
 row has its coefficients negated, and one rule of exchange serves all rows.
 """
 from dataclasses import dataclass
-from fractions import Fraction
 
+from reference.exact import Number
 from reference.program import Program
 from reference.standard import CONSTANT, Standard, negated, taken
-
-ZERO = Fraction(0)
 
 
 @dataclass
@@ -19,12 +17,12 @@ class Dictionary:
     the last.
     """
     basis: list[int]
-    rows: list[dict[int, Fraction]]
+    rows: list[dict[int, Number]]
     opening_due: bool
 
-    def number(self, row: int, key: int) -> Fraction:
+    def number(self, row: int, key: int) -> Number:
         """A number of a row: its constant, or its entry at a variable that is not basic."""
-        return self.rows[row].get(key, ZERO)
+        return self.rows[row].get(key, 0)
 
     @property
     def phase(self) -> int:
@@ -33,14 +31,14 @@ class Dictionary:
         """
         return 1 if self.opening_due or 0 in self.basis else 2
 
-    def coefficients(self) -> dict[int, Fraction]:
+    def coefficients(self) -> dict[int, Number]:
         """The coefficients by which variables improve: of the objective, negated entries; in phase
         1 the entries of variable 0's row.
         """
         priced = self.rows[self.basis.index(0)] if 0 in self.basis else negated(self.rows[-1])
         return {variable: number for variable, number in priced.items() if variable != CONSTANT}
 
-    def improving(self) -> dict[int, Fraction]:
+    def improving(self) -> dict[int, Number]:
         """The variables that improve, with their coefficients."""
         return {variable: number for variable, number in self.coefficients().items() if number > 0}
 
@@ -48,7 +46,7 @@ class Dictionary:
         """The rows that limit a variable."""
         return [row for row in range(len(self.basis)) if self.number(row, entering) > 0]
 
-    def least(self, rows: list[int], values: list[Fraction]) -> int:
+    def least(self, rows: list[int], values: list[Number]) -> int:
         """Of rows with values the one whose value is least; of equal ones that with the least basic
         variable, and so variable 0 first.
         """
@@ -69,15 +67,15 @@ class Dictionary:
         """
         old = self.rows[leaving]
         divisor = old.pop(entering)
-        old[self.basis[leaving]] = Fraction(1)
+        old[self.basis[leaving]] = 1
         own = {key: taken('/', old[key], divisor, 'Exchange', pivot, leaving + 1, key + 1, 0) for key in sorted(old)}
         for place, row in enumerate(self.rows):
-            factor = row.pop(entering, ZERO)
+            factor = row.pop(entering, 0)
             if place == leaving or not factor:
                 continue
             for key, number in own.items():
                 part = taken('*', factor, number, 'Exchange', pivot, place + 1, key + 1, 0)
-                row[key] = taken('-', row.get(key, ZERO), part, 'Exchange', pivot, place + 1, key + 1, 1)
+                row[key] = taken('-', row.get(key, 0), part, 'Exchange', pivot, place + 1, key + 1, 1)
                 if not row[key]:
                     del row[key]
         self.rows[leaving] = own
@@ -90,16 +88,16 @@ class Dictionary:
 
 def first_dictionary(program: Program, form: Standard) -> Dictionary:
     """The slacks are basic. Where a right side is below 0, variable 0 enters every row, and the
-    opening pivot is due.
+    opening pivot is next.
     """
     rows = [dict(row) for row in form.rows]
-    opening_due = any(row.get(CONSTANT, ZERO) < 0 for row in rows)
+    opening_due = any(row.get(CONSTANT, 0) < 0 for row in rows)
     if opening_due:
         for row in rows:
-            row[0] = Fraction(-1)
+            row[0] = -1
     direction = 1 if program.maximize else -1
     shift = form.shifts[program.objective]
-    objective = {variable: Fraction(-direction * sign) for variable, sign in shift.parts()}
+    objective = {variable: -direction * sign for variable, sign in shift.parts()}
     if shift.base:
         objective[CONSTANT] = direction * shift.base
     basis = [form.variables + row for row in range(1, len(rows) + 1)]

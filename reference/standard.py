@@ -4,13 +4,13 @@ greatest.
 docs/internals/SOLVER.md, "The standard form"; docs/LISTING.md, "PROOF Refused".
 """
 from dataclasses import dataclass, field
-from fractions import Fraction
 from typing import Optional
 
-from reference.exact import DoesNotFit, step
+from reference.exact import DoesNotFit, Number, step
 from reference.program import Column, Program, Row, Step
 
-# The key of the constant in a row of numbers. Variable v has the key v; in steps key k is column k + 1.
+# The key of the constant in a row of numbers. Variable v has the key v; in steps key k is column k
+# + 1.
 CONSTANT = -1
 
 
@@ -22,7 +22,7 @@ class Refusal(Exception):
         self.step = Step(kind, numbers)
 
 
-def taken(symbol: str, left: Fraction, right: Fraction, kind: str, *numbers: int) -> Fraction:
+def taken(symbol: str, left: Number, right: Number, kind: str, *numbers: int) -> Number:
     """The step of this name, or its refusal."""
     try:
         return step(symbol, left, right)
@@ -35,7 +35,7 @@ class Shift:
     """A column is its base plus sign times a variable; without bounds it is a variable less a
     second one.
     """
-    base: Fraction
+    base: Number
     sign: int
     variable: int
     second: Optional[int] = None
@@ -52,13 +52,13 @@ class Standard:
     shifts: list[Shift]
     variables: int
     # Numbers by variable, with the right side at CONSTANT.
-    rows: list[dict[int, Fraction]] = field(default_factory=list)
+    rows: list[dict[int, Number]] = field(default_factory=list)
     # The slacks of each row of the program: none for N, two for E.
     slacks: list[list[int]] = field(default_factory=list)
     # The slack of each column with two bounds.
     bound_slack: dict[int, int] = field(default_factory=dict)
 
-    def added(self, row: dict[int, Fraction]) -> int:
+    def added(self, row: dict[int, Number]) -> int:
         """Adds a row, and gives its slack."""
         self.rows.append({key: number for key, number in row.items() if number})
         return self.variables + len(self.rows)
@@ -80,12 +80,12 @@ def shifts_of(columns: list[Column]) -> tuple[list[Shift], int]:
         elif column.upper is not None:
             shifts.append(Shift(column.upper, -1, last))
         else:
-            shifts.append(Shift(Fraction(0), 1, last, last + 1))
+            shifts.append(Shift(0, 1, last, last + 1))
             last += 1
     return shifts, last
 
 
-def shifted(row: Row, shifts: list[Shift], number: int) -> dict[int, Fraction]:
+def shifted(row: Row, shifts: list[Shift], number: int) -> dict[int, Number]:
     """The row over variables: from the right side goes, column by column, the coefficient times the
     bound. Its row has this number.
     """
@@ -100,7 +100,7 @@ def shifted(row: Row, shifts: list[Shift], number: int) -> dict[int, Fraction]:
     return result
 
 
-def negated(row: dict[int, Fraction]) -> dict[int, Fraction]:
+def negated(row: dict[int, Number]) -> dict[int, Number]:
     """The row with the other signs, which is no step."""
     return {key: -number for key, number in row.items()}
 
@@ -120,5 +120,5 @@ def standard(program: Program) -> Standard:
     for place, column in enumerate(program.columns):
         if column.lower is not None and column.upper is not None:
             width = taken('-', column.upper, column.lower, 'Standard', len(form.rows) + 1, place + 1, 1)
-            form.bound_slack[place] = form.added({form.shifts[place].variable: Fraction(1), CONSTANT: width})
+            form.bound_slack[place] = form.added({form.shifts[place].variable: 1, CONSTANT: width})
     return form

@@ -4,7 +4,7 @@
 from dataclasses import dataclass, field
 from typing import NamedTuple
 
-from reference.extended import INF, MINUS_INF, ZERO, Value
+from reference.extended import INF, MINUS_INF, Value
 from reference.symbols import Element, Symbol
 from reference.tree import Tree
 
@@ -30,9 +30,9 @@ class Settings:
 
 def first_entry(symbol: Symbol) -> Entry:
     """What an element has before anything is put: the bounds of its type, and 0."""
-    lower = ZERO if symbol.kind == 'variable' and symbol.type == 'positive' else MINUS_INF
-    upper = ZERO if symbol.kind == 'variable' and symbol.type == 'negative' else INF
-    return Entry(lower, upper, ZERO, ZERO)
+    lower = 0 if symbol.kind == 'variable' and symbol.type == 'positive' else MINUS_INF
+    upper = 0 if symbol.kind == 'variable' and symbol.type == 'negative' else INF
+    return Entry(lower, upper, 0, 0)
 
 
 @dataclass
@@ -72,7 +72,7 @@ class State:
         self.positions.pop(symbol.name, None)
 
     def value(self, name: int, element: Element) -> Value:
-        return self.values[name].get(element, ZERO)
+        return self.values[name].get(element, 0)
 
     def put_value(self, name: int, element: Element, value: Value) -> None:
         if value == 0:

@@ -24,11 +24,13 @@ class Symbol:
     dimension was declared there.
     """
     name: int
-    kind: str                                                       # set, parameter, variable, equation, model
+    # Set, parameter, variable, equation, model.
+    kind: str
     domain: tuple[Optional['Symbol'], ...] = ()
     type: str = 'free'                                              # of a variable
     data: dict[Element, Optional[Value]] = field(default_factory=dict)
-    labels: set[int] = field(default_factory=set)                   # those of a set's data, of one dimension
+    # Those of a set's data, of one dimension.
+    labels: set[int] = field(default_factory=set)
     equations: list[int] = field(default_factory=list)              # of a model
 
     @property

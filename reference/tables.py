@@ -1,10 +1,10 @@
 """The lines of a table (docs/LANGUAGE.md, "table")."""
 import re
 from dataclasses import dataclass
-from fractions import Fraction
 from typing import Callable, NamedTuple, Optional
 
 from reference import errors
+from reference.exact import Number
 from reference.source import Place, SourceFault, column_after
 from reference.texts import TooWide, decimal
 from reference.tokens import LABEL_FORM, MOST_LABEL
@@ -17,7 +17,7 @@ class Entry(NamedTuple):
     """A number of a table with its place, and the labels of its row and of its heading."""
     at: Place
     labels: tuple[int, ...]
-    value: Fraction
+    value: Number
 
 
 @dataclass
@@ -103,7 +103,7 @@ class Table:
         try:
             value = decimal(text[1:] if text[0] in '+-' else text)
         except TooWide:
-            value, is_within = Fraction(0), False
+            value, is_within = 0, False
         if value is None:
             raise self.fault(errors.Source.BadRow, line, number, word.start())
         first, end = column_after(line[:word.start()]), column_after(line[:word.end()])

@@ -2,10 +2,9 @@
 shown").
 """
 import re
-from fractions import Fraction
 from typing import Optional
 
-from reference.exact import LIMIT
+from reference.exact import LIMIT, Number, ratio
 
 NUMBER = re.compile(r'(?:(?P<whole>[0-9]+)(?:\.(?P<decimals>[0-9]*))?|\.(?P<alone>[0-9]+))(?:[eE](?P<exponent>[+-]?[0-9]+))?')
 
@@ -17,7 +16,7 @@ class TooWide(Exception):
     """A number's text that is not within the limit."""
 
 
-def decimal(text: str) -> Optional[Fraction]:
+def decimal(text: str) -> Optional[Number]:
     """The number that a text means, or None where it is no number's text.
 
     It is m times ten to the power e, where m does not end in 0. For e from 0 on the product has to
@@ -30,14 +29,14 @@ def decimal(text: str) -> Optional[Fraction]:
     written = (match['whole'] or '') + decimals
     digits = written.strip('0')
     if not digits:
-        return Fraction(0)
+        return 0
     exponent = short(match['exponent'] or '0') - len(decimals) + len(written) - len(written.rstrip('0'))
     if len(digits) > MOST_DIGITS or abs(exponent) > MOST_DIGITS:
         raise TooWide
     numerator, denominator = int(digits) * 10 ** max(exponent, 0), 10 ** max(-exponent, 0)
     if numerator > LIMIT or denominator > LIMIT:
         raise TooWide
-    return Fraction(numerator, denominator)
+    return ratio(numerator, denominator)
 
 
 def short(exponent: str) -> int:
@@ -48,7 +47,7 @@ def short(exponent: str) -> int:
     return -int(digits) if exponent.startswith('-') else int(digits)
 
 
-def rounded(value: Fraction, decimals: int = 3) -> str:
+def rounded(value: Number, decimals: int = 3) -> str:
     """The number with that many decimals, rounded from the middle of two away from zero; `-` only
     where a digit is not 0.
     """

@@ -40,7 +40,8 @@ class Token(NamedTuple):
     written: str
 
 
-# The modes that read a token of code, with the mode after it, and the one after a word that begins no statement.
+# The modes that read a token of code, with the mode after it, and the one after a word that begins
+# no statement.
 AFTER_CODE = {'code': ('code', 'code'), 'item': ('item', 'named'), 'table': ('code', 'table_named'), 'table_rest': ('code', 'code')}
 
 
@@ -95,7 +96,7 @@ class Lexer:
 
     # ---- blanks and line ends
     def gap(self) -> bool:
-        """Passes blanks and line ends, and gives whether anything is left. A line end may be a
+        """Passes blanks and line ends, and gives whether anything follows. A line end may be a
         token.
         """
         while True:

@@ -5,9 +5,9 @@ expression is its first character, a sign and parentheses before it included; `a
 place that errors name.
 """
 from dataclasses import dataclass, field
-from fractions import Fraction
 from typing import NamedTuple, Optional, Union
 
+from reference.exact import Number
 from reference.extended import Value
 from reference.source import Place
 
@@ -216,7 +216,7 @@ class Setting(NamedTuple):
     """An option's word, and its value: a number, or a word."""
     word: Word
     at: Place
-    value: Union[Fraction, str]
+    value: Union[Number, str]
 
 
 @dataclass(frozen=True)
@@ -244,8 +244,8 @@ class TextTable:
         return self.places.get(text.lower())
 
     def enter(self, text: str) -> Optional[int]:
-        """The number of a text, which comes last where it is met first; None where there is no room
-        for it.
+        """The number of a text, which comes last where it is met first; None where there are
+        65,536.
         """
         place = self.places.get(text.lower())
         if place is None:

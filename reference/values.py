@@ -3,13 +3,12 @@
 A binding gives each controlled set its label, in the order in which they were controlled. Operands
 are computed from the left, conditions after `$` before their operand, and the first fault stops.
 """
-from fractions import Fraction
 from itertools import product
 from typing import Callable, Collection, Iterable, Iterator, Optional
 
 from reference import errors
-from reference.extended import (FUNCTIONS, ONE, RELATIONS, ZERO, StepFault, Value, added, divided,
-                                greater, lesser, multiplied, negated, power, subtracted)
+from reference.extended import (FUNCTIONS, RELATIONS, StepFault, Value, added, divided, greater, is_whole, lesser,
+                                multiplied, negated, power, subtracted)
 from reference.source import Place
 from reference.state import State
 from reference.symbols import Element, Symbol
@@ -76,7 +75,7 @@ class Evaluator:
         self.by_type: dict[type, Callable[..., Value]] = {
             Constant: lambda e, binding: e.value, Reference: self.reference, Count: self.count, Call: self.call, Fold: self.fold,
             Negative: lambda e, binding: negated(self.value(e.operand, binding)), Chain: self.chain,
-            Not: lambda e, binding: Fraction(not self.holds(e.operand, binding)), Guarded: self.guarded}
+            Not: lambda e, binding: int(not self.holds(e.operand, binding)), Guarded: self.guarded}
 
     def value(self, e: Expression, binding: Binding) -> Value:
         return self.by_type[type(e)](e, binding)
@@ -100,13 +99,13 @@ class Evaluator:
         symbol = self.state.symbols[e.name]
         element = self.element(e.indices, binding)
         if element is None:
-            return ZERO
+            return 0
         if symbol.kind == 'parameter':
             return self.state.value(e.name, element)
         if symbol.kind == 'set':
-            return Fraction(element in self.state.members[symbol.name])
+            return int(element in self.state.members[symbol.name])
         if symbol.kind == 'model':
-            return Fraction(self.state.statuses[e.name][e.suffix == 'solvestat'])
+            return self.state.statuses[e.name][e.suffix == 'solvestat']
         return getattr(self.state.entry(symbol, element), e.suffix)
 
     def element(self, indices: Iterable[Index], binding: Binding) -> Optional[Element]:
@@ -122,7 +121,7 @@ class Evaluator:
         if not index.lag:
             return binding[index.name]
         amount = self.value(index.lag.amount, binding)
-        if not isinstance(amount, Fraction) or amount.denominator != 1:
+        if not is_whole(amount):
             raise Stop(errors.Execution.LagNotWhole, index.lag.at, binding)
         return self.lagged(self.state.symbols[index.name], binding[index.name], index.lag.operator, int(amount))
 
@@ -137,20 +136,20 @@ class Evaluator:
     def count(self, e: Count, binding: Binding) -> Value:
         symbol = self.state.symbols[e.name]
         if e.word == 'card':
-            return Fraction(len(self.state.members[symbol.name]))
-        return Fraction(self.state.position(symbol, binding[e.name]) + 1)
+            return len(self.state.members[symbol.name])
+        return self.state.position(symbol, binding[e.name]) + 1
 
     # ---- steps
     def chain(self, e: Chain, binding: Binding) -> Value:
         if e.level == 'and':
-            return Fraction(all(self.holds(part.operand, binding) for part in e.parts))
+            return int(all(self.holds(part.operand, binding) for part in e.parts))
         if e.level == 'or':
             return self.either(e, binding)
         left = self.value(e.parts[0].operand, binding)
         for operator, operand in e.parts[1:]:
             right = self.value(operand, binding)
             if e.level == 'relation':
-                left = Fraction(RELATIONS[operator](left, right))
+                left = int(RELATIONS[operator](left, right))
             else:
                 left = self.step(STEPS[operator], (left, right), operand.start, binding)
         return left
@@ -163,13 +162,13 @@ class Evaluator:
                 holds = holds != self.holds(operand, binding)
             else:
                 holds = holds or self.holds(operand, binding)
-        return Fraction(holds)
+        return int(holds)
 
     def guarded(self, e: Guarded, binding: Binding) -> Value:
         """Conditions are computed from the last to the first; where one does not hold the value is
         0.
         """
-        return self.value(e.operand, binding) if self.guards_hold(e, binding) else ZERO
+        return self.value(e.operand, binding) if self.guards_hold(e, binding) else 0
 
     def guards_hold(self, e: Guarded, binding: Binding) -> bool:
         return all(self.holds(guard, binding) for guard in reversed(e.guards))
@@ -191,7 +190,7 @@ class Evaluator:
         inside = self.domain(e.control, e.at, binding)
         if e.word in ('smin', 'smax') and not inside:
             raise Stop(errors.Execution.EmptyExtreme, e.at, binding)
-        value: Optional[Value] = {'sum': ZERO, 'prod': ONE}.get(e.word)
+        value: Optional[Value] = {'sum': 0, 'prod': 1}.get(e.word)
         for inner in inside:
             body = self.value(e.body, inner)
             value = body if value is None else self.step(FOLDS[e.word], (value, body), e.at, binding)
@@ -214,7 +213,7 @@ class Evaluator:
 
     def candidates(self, control: Control, members: list[list[Element]], binding: Binding) -> Iterable[Element]:
         """The elements of the sets in order; without those at which a leading factor of the
-        condition is 0, where there is one.
+        condition is 0.
 
         Nothing depends on which factor leads: it and those before it are read without a fault, so
         at 0 the condition does not hold.

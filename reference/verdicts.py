@@ -3,28 +3,27 @@
 Each function gives the first reason why it does not, or None. Sums are exact and without a limit;
 nothing is solved.
 """
-from fractions import Fraction
 from typing import Iterable, Optional
 
 from reference.certificate import ExactSum, NoBound, dual_bound, reduced_costs
+from reference.exact import Number
 from reference.program import Answer, Program, Row
 
-ZERO = Fraction(0)
 Reason = Optional[str]
 
 
-def row_sum(row: Row, point: list[Fraction]) -> Fraction:
-    return sum((number * point[place] for place, number in row.coefficients.items()), ZERO)
+def row_sum(row: Row, point: list[Number]) -> Number:
+    return sum(number * point[place] for place, number in row.coefficients.items())
 
 
-def row_fault(row: Row, total: Fraction, right: Fraction) -> Reason:
+def row_fault(row: Row, total: Number, right: Number) -> Reason:
     """Why a row's sum is not equal to, at most, or at least a number."""
     is_right = {'E': total == right, 'L': total <= right, 'G': total >= right, 'N': True}[row.sense]
     return None if is_right else 'the sum of row %s is %s, and %s is needed' % (
         row.name, total, {'E': '%s', 'L': 'at most %s', 'G': 'at least %s'}[row.sense] % right)
 
 
-def point_fault(program: Program, point: list[Fraction]) -> Reason:
+def point_fault(program: Program, point: list[Number]) -> Reason:
     """Why a point is not possible."""
     for column, level in zip(program.columns, point):
         if column.lower is not None and level < column.lower or column.upper is not None and level > column.upper:
@@ -36,12 +35,12 @@ def first(reasons: Iterable[Reason]) -> Reason:
     return next((reason for reason in reasons if reason is not None), None)
 
 
-def proved_bound(program: Program, duals: list[Fraction], with_objective: bool) -> tuple[Fraction, Reason]:
+def proved_bound(program: Program, duals: list[Number], with_objective: bool) -> tuple[Number, Reason]:
     """The bound that the duals prove, or why they prove none."""
     try:
         return dual_bound(program, duals, with_objective, ExactSum()), None
     except NoBound as fault:
-        return ZERO, str(fault)
+        return 0, str(fault)
 
 
 def optimal_fault(program: Program, answer: Answer) -> Reason:
@@ -85,7 +84,7 @@ def unbounded_fault(program: Program, answer: Answer) -> Reason:
     for column, move in zip(program.columns, answer.ray):
         if column.lower is not None and move < 0 or column.upper is not None and move > 0:
             return 'the ray moves %s to its bound' % column.name
-    fault = first(row_fault(row, row_sum(row, answer.ray), ZERO) for row in program.rows)
+    fault = first(row_fault(row, row_sum(row, answer.ray), 0) for row in program.rows)
     move = answer.ray[program.objective]
     is_better = move > 0 if program.maximize else move < 0
     return fault and 'along the ray ' + fault or (None if is_better else 'the ray does not make the objective better')

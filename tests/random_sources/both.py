@@ -1,4 +1,4 @@
-"""Runs a scenario by the program and by the reference, each in a folder of its own, and compares
+"""Runs a scenario by the program and by the reference, each in a separate folder, and compares
 all that they write.
 """
 import contextlib

@@ -69,7 +69,7 @@ def new_labels(world: World) -> tuple[list[str], Optional[str]]:
 
 
 def domain_of(world: World, most: int, is_starred: float = 0.12) -> Domain:
-    """A domain of at most so many positions."""
+    """A domain of at most n positions."""
     draw = world.draw
     sets = [it.name for it in world.domain_sets()]
     size = draw.weighted((6, 1), (3, 2), (1, 3), (0.1, 4))
@@ -77,7 +77,7 @@ def domain_of(world: World, most: int, is_starred: float = 0.12) -> Domain:
 
 
 def tuples_over(world: World, domain: Domain) -> list[tuple[str, ...]]:
-    """Some elements of a domain, each once."""
+    """Some elements of a domain, without repetition."""
     draw = world.draw
     positions = [world.labels_at(it) for it in domain]
     if not all(positions):
@@ -98,7 +98,7 @@ def element_text(draw: Draw, element: tuple[str, ...]) -> str:
 
 
 def set_item(world: World) -> str:
-    """A set: one of labels of its own, a subset, one of several dimensions, or one without
+    """A set: one of new labels, a subset, one of several dimensions, or one without
     elements.
     """
     draw = world.draw
@@ -162,7 +162,7 @@ def value(draw: Draw) -> str:
 
 
 def entry_value(draw: Draw) -> str:
-    """A number behind its element."""
+    """A number after its element."""
     written = value(draw)
     return draw.weighted((8, ' '), (2, ' = '), (1, '=')) + written
 
@@ -223,7 +223,7 @@ def items(draw: Draw, word: str, parts: list[str]) -> str:
 
 
 def declaration(world: World) -> str:
-    """A declaration of any kind; a table is one of its own."""
+    """A declaration of any kind; a table is a separate one."""
     draw = world.draw
     kind = draw.weighted((4, 'set'), (4, 'parameter'), (2.5, 'scalar'), (2, 'variable'), (1, 'equation'))
     draw.note('declaration ' + kind)
@@ -312,7 +312,7 @@ def table_block(draw: Draw, rows: list[tuple[str, ...]], heads: list[str], is_fi
             sign = draw.weighted((8, ''), (1, '-'), (0.5, '+'))
             cells.append((sign + digits(draw)[:6] if draw.chance(0.75) else '').rjust(width))
         if draw.chance(0.02):
-            # a number right behind the last column of a heading: it is under none
+            # a number right after the last column of a heading: it is under none
             cells = [' ' * (width * draw.between(1, len(words))) + digits(draw)[:1]]
         lines.append((row.ljust(left) + ''.join(cells)).rstrip())
         if draw.chance(0.04):

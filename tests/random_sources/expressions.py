@@ -227,7 +227,7 @@ def power(scope: Scope) -> Tokens:
 
 
 def guarded(scope: Scope) -> Tokens:
-    """An operand, perhaps with conditions behind it."""
+    """An operand, perhaps with conditions after it."""
     draw = scope.world.draw
     tokens = operand(scope)
     while scope.depth > 0 and draw.chance(0.07):
@@ -237,7 +237,7 @@ def guarded(scope: Scope) -> Tokens:
 
 
 def own_guard(scope: Scope) -> Optional[Tokens]:
-    """A division that only a condition keeps from a fault: behind `$`, or in the right operand of
+    """A division that only a condition keeps from a fault: after `$`, or in the right operand of
     `and` and `or`.
     """
     draw = scope.world.draw
@@ -412,7 +412,7 @@ def linear_term(scope: Scope, variables: list[Symbol]) -> Tokens:
 
 
 def linear_factor(scope: Scope, variables: list[Symbol]) -> Tokens:
-    """A variable, with a number before or behind it, or a condition."""
+    """A variable, with a number before or after it, or a condition."""
     draw = scope.world.draw
     found = reference(scope, draw.pick(variables))
     if not found:

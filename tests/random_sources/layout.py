@@ -23,7 +23,7 @@ def is_apart(left: str, right: str) -> bool:
 
 
 def between(draw: Draw, left: str, right: str) -> str:
-    """What stands between two tokens: mostly nothing or a blank, now and then a line end, a comment
+    """What is between two tokens: mostly nothing or a blank, now and then a line end, a comment
     or a tab.
     """
     kind = draw.random.random()

@@ -1,6 +1,6 @@
 """Pieces of sources with each error, by its number, and changes of right sources at a few places.
 
-A piece stands by itself: its names begin with `q`, which no drawn name does. Each is put among
+A piece is by itself: its names begin with `q`, which no drawn name does. Each is put among
 statements that are right.
 """
 import re
@@ -149,7 +149,8 @@ def changed(draw: Draw, text: str) -> str:
 
 
 def name_changed(draw: Draw, text: str) -> str:
-    """One name, label or function in place of another one: of the wrong kind, dimension or domain."""
+    """One name, label or function in place of another one: of the wrong kind, dimension or domain.
+    """
     tokens = TOKEN.findall(text)
     places = [it for it, token in enumerate(tokens) if token[0].isalpha() and token.lower() not in KEYWORDS]
     if places:

@@ -10,7 +10,7 @@ HUGE = ['1.6e38', '0.9e38', '8e37', '2**126', '2**125', '2**64', '1e38', '3**79'
 
 
 def coefficient(draw: Draw, is_huge: float = 0.0) -> str:
-    """A number that stands before a variable; it has no sign."""
+    """A number that is before a variable; it has no sign."""
     if draw.chance(is_huge):
         return draw.pick(HUGE)
     return draw.call((8, lambda: str(draw.between(1, 9))), (2, lambda: '%d.%d' % (draw.between(0, 9), draw.between(1, 9))),
@@ -142,7 +142,7 @@ def stalling(draw: Draw) -> str:
 
 
 def turning(draw: Draw, extra: int) -> str:
-    """The example that cycles, with so many columns beside it, which put off the turn to Bland."""
+    """The example that cycles, with n columns beside it, which defer the turn to Bland."""
     columns = ['y%d' % it for it in range(extra)]
     text = 'positive variables %s; variable z;\n' % ', '.join(['x1', 'x2', 'x3', 'x4'] + columns)
     text += 'equations obj, r1, r2, r3;\nobj.. z =e= 10*x1 - 57*x2 - 9*x3 - 24*x4;\n'
@@ -161,6 +161,42 @@ def gain_after_turning(draw: Draw) -> str:
     text += 'r1.. 0.5*x1 - 5.5*x2 - 2.5*x3 + 9*x4 =l= 0;\nr2.. 0.5*x1 - 1.5*x2 - 0.5*x3 + x4 =l= 0;\n'
     text += 'r3.. x1 =l= %d;\nr4.. y1 + y2 =l= %d;\n' % (draw.between(1, 5), most)
     return text + 'model m /all/; option lp = dantzig;\nsolve m using lp maximizing z; display z.l, y1.l, y2.l;'
+
+
+def crowded(draw: Draw, count: int, bounded: int) -> str:
+    """n columns that steepest edge weighs only some of them; those with an upper bound make
+    rows. The weight is greatest where the cost is near a number that is drawn.
+    """
+    text = 'set j /1*%d/, r /1*2/; parameter c(j), a(r,j);\n' % count
+    text += 'c(j) = mod(%d*ord(j), 97)/8 + 1; a(r,j) = c(j)*c(j)/(%d + ord(r));\n' % (draw.between(2, 96), draw.between(0, 8))
+    text += 'positive variable x(j); variable z; equations obj, most(r);\nobj.. z =e= sum(j, c(j)*x(j));\n'
+    text += 'most(r).. sum(j, a(r,j)*x(j)) =l= %d;\nmodel m /all/;\n' % draw.between(50, 500)
+    text += 'x.up(j)$(ord(j) <= %d) = 1 + mod(ord(j), %d);\n' % (bounded, draw.between(2, 5))
+    text += 'option lp = %s, limrow = 0, limcol = 0, iterlim = %d;\n' % (draw.pick(['steepest', 'any']), draw.between(2, 20))
+    return text + 'solve m using lp maximizing z;'
+
+
+def decimal(draw: Draw, most: int, places: int) -> str:
+    """A number above 0 with n decimals."""
+    number = draw.between(1, most * 10 ** places)
+    return '%d.%0*d' % (number // 10 ** places, places, number % 10 ** places) if places else str(number)
+
+
+def diet(draw: Draw) -> str:
+    """The cheapest way to cover needs of very different sizes. Most solvers meet a number that does
+    not fit, and `any` reaches its later rules.
+    """
+    foods, needs, places = draw.between(9, 14), draw.between(8, 11), draw.between(1, 4)
+    sizes = [10 ** draw.between(0, 3) for _ in range(needs)]
+    costs = ', '.join('f%d %s' % (food, decimal(draw, 20, draw.between(0, 2))) for food in range(1, foods + 1))
+    parts = ['n%d.f%d %s' % (need, food, decimal(draw, 9 * size, places))
+             for need, size in enumerate(sizes, 1) for food in range(1, foods + 1) if draw.chance(0.85)]
+    due = ', '.join('n%d %s' % (need, decimal(draw, 20 * size, places)) for need, size in enumerate(sizes, 1))
+    text = 'set f /f1*f%d/, n /n1*n%d/;\nparameter c(f) /%s/,\nb(n) /%s/,\na(n,f) /' % (foods, needs, costs, due)
+    text += ',\n'.join(', '.join(parts[it:it + 8]) for it in range(0, len(parts), 8)) + '/;\n'
+    text += 'positive variable x(f); variable z; equations cost, need(n);\ncost.. z =e= sum(f, c(f)*x(f));\n'
+    text += 'need(n).. sum(f, a(n,f)*x(f)) =g= b(n);\nmodel m /all/;\noption lp = %s, limrow = 0, limcol = 0;\n' % draw.pick(['any', 'any', 'steepest'])
+    return text + 'solve m using lp minimizing z;'
 
 
 def first_phase_stall(draw: Draw) -> str:

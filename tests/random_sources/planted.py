@@ -1,5 +1,5 @@
 """Mistakes that are planted in a copy of the reference, one at a time: a file of the package, its
-words, and what stands there instead.
+words, and the words that replace them.
 """
 from typing import NamedTuple
 
@@ -19,13 +19,13 @@ MISTAKES = [Mistake(*it) for it in [
     ('texts.py', 'units = (2 * numerator + denominator) // (2 * denominator)', 'units = (2 * numerator + denominator - 1) // (2 * denominator)'),
     ('texts.py', "sign = '-' if value < 0 and units else ''", "sign = '-' if value < 0 else ''"),
     ('texts.py', 'if numerator > LIMIT or denominator > LIMIT:', 'if numerator > LIMIT:'),
-    ('extended.py', 'return Fraction(abs(x.numerator) // x.denominator * sign_of(x))', 'return Fraction(x.numerator // x.denominator)'),
-    ('extended.py', 'return ZERO if n < 0 else infinity(1 if x is INF or n % 2 == 0 else -1)', 'return ZERO if n < 0 else infinity(sign_of(x))'),
+    ('extended.py', 'return abs(x.numerator) // x.denominator * sign_of(x)', 'return x.numerator // x.denominator'),
+    ('extended.py', 'return 0 if n < 0 else infinity(1 if x is INF or n % 2 == 0 else -1)', 'return 0 if n < 0 else infinity(sign_of(x))'),
     ('extended.py', 'return NA if NA in (x, y) else y if is_less(x, y) else x', 'return y if is_less(x, y) else x'),
     # the standard form
     ('standard.py', "'E': [upper, negated(upper)]", "'E': [negated(upper), upper]"),
     ('standard.py', 'Shift(column.upper, -1, last)', 'Shift(column.upper, 1, last)'),
-    ('standard.py', "taken('-', column.upper, column.lower,", "taken('-', column.upper, Fraction(0),"),
+    ('standard.py', "taken('-', column.upper, column.lower,", "taken('-', column.upper, 0,"),
     ('standard.py', "result[CONSTANT] = taken('-', result[CONSTANT], moved,", "result[CONSTANT] = taken('+', result[CONSTANT], moved,"),
     # pivots
     ('simplex.py', '(self.basis[row] for row in rows)', '(-self.basis[row] for row in rows)'),
@@ -34,14 +34,20 @@ MISTAKES = [Mistake(*it) for it in [
     ('choice.py', 'self.idle >= self.variables', 'self.idle > self.variables'),
     ('choice.py', '(self.turned or self.idle >= self.variables)', 'self.idle >= self.variables'),
     ('choice.py', 'length = total(length, product(number, number))', 'length = total(length, number)'),
-    ('choice.py', "('steepest', 'shortest', 'gain', 'largest', 'bland')", "('shortest', 'steepest', 'gain', 'largest', 'bland')"),
+    ('choice.py', '[:most]', ''),
+    ('choice.py', '(len(dictionary.basis) + 1)', 'len(dictionary.basis)'),
+    ('choice.py', 'leading((x.numerator << 160) // x.denominator, -160)', 'quotient(leading(x.numerator), leading(x.denominator))'),
+    ('choice.py', "('steepest', 'shortest', 'gain', 'row', 'both', 'largest', 'bland')", "('steepest', 'gain', 'shortest', 'row', 'both', 'largest', 'bland')"),
+    ('choice.py', 'bits(it.number.numerator) + bits(it.number.denominator)', 'bits(it.number.numerator)'),
+    ('choice.py', 'bits(it.number.numerator) - it.of_gain', 'bits(it.number.numerator) - 2 * it.of_gain'),
+    ('choice.py', '2 * it.in_row - it.of_gain', 'it.in_row - it.of_gain'),
     ('solve.py', 'form.all_variables', 'form.variables'),
-    ('simplex.py', 'row.get(CONSTANT, ZERO) < 0 for row', 'row.get(CONSTANT, ZERO) <= 0 for row'),
+    ('simplex.py', 'row.get(CONSTANT, 0) < 0 for row', 'row.get(CONSTANT, 0) <= 0 for row'),
     ('simplex.py', 'for key in sorted(old)}', 'for key in sorted(old, reverse=True)}'),
     ('simplex.py', 'for place, row in enumerate(self.rows):', 'for place, row in reversed(list(enumerate(self.rows))):'),
     ('solve.py', 'if entering and not dictionary.limiting(entering):', 'if len(pivots) < limit and entering and not dictionary.limiting(entering):'),
     ('solve.py', 'column.lower > column.upper', 'column.lower >= column.upper'),
-    # the way back, bounds and ranges
+    # recovery, bounds and ranges
     ('recovery.py', "{'L': 1, 'G': -1, 'N': 0}", "{'L': 1, 'G': 1, 'N': 0}"),
     ('recovery.py', "taken('+', cost, multiplier,", "taken('-', cost, multiplier,"),
     ('recovery.py', '{variable: -dictionary.number(row, entering)', '{variable: dictionary.number(row, entering)'),
@@ -56,7 +62,7 @@ MISTAKES = [Mistake(*it) for it in [
     ('values.py', 'place %= len(members)', 'place %= max(1, len(members) - 1)'),
     ('values.py', 'for guard in reversed(e.guards)', 'for guard in e.guards'),
     ('values.py', 'holds = holds or self.holds(operand, binding)', 'holds = self.holds(operand, binding) or holds'),
-    ('values.py', "{'sum': ZERO, 'prod': ONE}", "{'sum': ZERO, 'prod': ZERO}"),
+    ('values.py', "{'sum': 0, 'prod': 1}", "{'sum': 0, 'prod': 0}"),
     ('values.py', "'-': holds and not right", "'-': holds != right"),
     ('values.py', 'MOST_IN_DOMAIN = 16_777_216', 'MOST_IN_DOMAIN = 16_785_409'),
     # rows and the run
@@ -65,7 +71,7 @@ MISTAKES = [Mistake(*it) for it in [
     ('rows.py', "{'L': 1, 'G': 1, 'E': 2, 'N': 0}", "{'L': 1, 'G': 1, 'E': 1, 'N': 0}"),
     ('run.py', 'computed.append((element, self.right(s, symbol, inside)))', 'self.put(symbol, s.target, element, self.right(s, symbol, inside))'),
     ('run.py', "{'lo': value, 'up': value, 'l': value}", "{'lo': value, 'up': value}"),
-    ('run.py', "marginals[place] if answer.status == 'Optimal' else ZERO", "marginals[place] if answer.status == 'Optimal' else self.state.entry(symbol, element).m"),
+    ('run.py', "marginals[place] if answer.status == 'Optimal' else 0", "marginals[place] if answer.status == 'Optimal' else self.state.entry(symbol, element).m"),
     ('state.py', 'if entry == first_entry(symbol):', 'if entry is None:'),
     # texts of the listing
     ('listing.py', "' (%d more rows)' % (len(rows) - limit)", "' (%d more rows)' % len(rows)"),

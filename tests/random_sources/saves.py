@@ -45,7 +45,7 @@ def lines_exchanged(draw: Draw, lines: list[bytes]) -> bytes:
 
 
 def number_changed(draw: Draw, text: bytes) -> bytes:
-    """A number behind the source in another form, or another number."""
+    """A number after the source in another form, or another number."""
     places = [it for it in re.finditer(rb'(?<=[ \n])-?\d+(?:/\d+)?(?=[ \n])', text) if it.start() > text.find(b'\nsettings')]
     if not places:
         return text + b' '

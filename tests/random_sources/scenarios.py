@@ -78,7 +78,7 @@ def usual(kind: str) -> list[int]:
 
 
 def resumed(draw: Draw, turn: int) -> Scenario:
-    """A source whose last state is saved, and one or two that go on from it."""
+    """A source whose last state is saved, and one or two that restart from it."""
     first, world = start(draw)
     steps = [Step(['--save', 's.sav', 'a.gms'], {'a.gms': encoded(first)})]
     for place in range(draw.weighted((3, 1), (1, 2))):
@@ -98,7 +98,7 @@ def start(draw: Draw) -> tuple[str, World]:
 
 
 def going_on(draw: Draw, world: World) -> str:
-    """A source that goes on: further statements over the names of the first, and now and then what
+    """A source that restarts: further statements over the names of the first, and now and then what
     only one file may have.
     """
     text, _ = sources.program(draw, draw.between(2, 7), world)
@@ -139,6 +139,12 @@ def large(draw: Draw, which: int) -> Scenario:
     return made[which % len(made)]()
 
 
+# Seeds of diets to which later rules of `any` have the answer.
+DIETS = [98, 118, 7, 89, 108]
+# Columns, and how many of them have an upper bound.
+CROWDS = [(150, 9), (300, 300), (70, 70), (90, 60), (600, 600)]
+
+
 def scenario(seed: int) -> Scenario:
     """The scenario of a seed. Seeds go through the kinds in turn, so that any 300 in a row have
     each kind and nearly each error.
@@ -153,6 +159,10 @@ def scenario(seed: int) -> Scenario:
         text = models.whole(draw, turn) if kind == 8 else models.refused(draw, turn)
         if kind == 7 and turn % 3 == 2:
             text = models.turning(draw, turn // 3 % 7)
+        if kind == 7 and turn % 9 == 7:
+            text = models.crowded(draw, *CROWDS[turn // 9 % len(CROWDS)])
+        if kind == 7 and turn % 9 == 4:
+            text = models.diet(draw if turn % 2 else Draw(DIETS[turn // 18 % len(DIETS)]))
         return one(draw, text, ['--ranges', 'a.gms'])
     if kind < 12:
         return changed(draw)

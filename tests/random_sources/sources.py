@@ -92,7 +92,7 @@ def joined(draw: Draw, parts: list[Statement]) -> str:
 
 
 def program(draw: Draw, count: int, world: Optional[World] = None) -> tuple[str, World]:
-    """A source of about so many statements, and what it declares, perhaps besides what is declared
+    """A source of about n statements, and what it declares, perhaps besides what is declared
     already.
     """
     parts: list[Statement] = []
