@@ -4,14 +4,16 @@ import re
 from dataclasses import dataclass
 
 TOP = os.path.dirname(os.path.dirname(os.path.abspath(__file__)))
-FOLDERS = ['.', 'docs', 'docs/internals', 'examples', 'editors', 'show', 'tests', 'bench']
-KINDS = {'gams', 'listing', 'sh', 'output', 'text', 'vim', 'json', 'rust'}
+FOLDERS = ['.', 'docs', 'docs/internals', 'examples', 'editors', 'reference', 'tests', 'tests/show', 'bench']
+KINDS = {'gams', 'listing', 'sh', 'output', 'text', 'json', 'cases'}
 FENCE = re.compile(r'```(\S*)(.*)')
 
 
 @dataclass
 class Block:
-    """A fenced block: its kind, the marks after it, its text, its line, and the source that a comment puts before it."""
+    """A fenced block: its kind, the marks after it, its text, its line, and the source that a
+    comment puts before it.
+    """
     kind: str
     marks: list
     text: str
@@ -40,7 +42,9 @@ def lines_of(document: str) -> list:
 
 
 def blocks_of(document: str) -> list:
-    """The fenced blocks of a document, in order. `<!-- given`, on a line of its own, begins a source that the blocks after it take."""
+    """The fenced blocks of a document, in order. `<!-- given`, on a separate line, begins a source
+    that the blocks after it take.
+    """
     found, given, lines = [], '', iter(enumerate(lines_of(document), 1))
     for number, line in lines:
         fence = FENCE.fullmatch(line.strip())
@@ -64,8 +68,9 @@ def blocks_of(document: str) -> list:
 def sources_of(blocks: list) -> list:
     """The whole source of each block ```gams, in order, with its block.
 
-    The mark `part` puts the source of the last comment `<!-- given` before it; `add` puts it behind the source that its file has so
-    far, and keeps both as the file; `try` does that and does not keep it.
+    The mark `part` puts the source of the last comment `<!-- given` before it; `add` puts it after
+    the source that its file has so far, and keeps both as the file; `try` does that and does not
+    keep it.
     """
     files, found = {}, []
     for block in blocks:

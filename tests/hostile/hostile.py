@@ -1,4 +1,6 @@
-"""What the scripts of this folder share: their words, runs of the program in a hostile place, and what is due of them."""
+"""What the scripts of this folder share: their words, runs of the program in a hostile place, and
+what is expected of them.
+"""
 import argparse
 import concurrent.futures
 import os
@@ -11,7 +13,7 @@ from dataclasses import dataclass, field
 TOP = os.path.dirname(os.path.dirname(os.path.dirname(os.path.realpath(__file__))))
 HERE = os.path.join(TOP, 'tests', 'hostile')
 SECONDS = 120                    # that a run may take
-NO_MEMORY = 6                    # the status where memory was wanting
+NO_MEMORY = 6                    # the status where the run was out of memory
 FILE = 'a.gms'
 
 
@@ -36,7 +38,7 @@ class Outcome:
 
 @dataclass(frozen=True)
 class Place:
-    """Where a run takes place: what stands in its environment, and what is done before it starts."""
+    """Where a run takes place: what is in its environment, and what is done before it starts."""
     environment: dict = field(default_factory=dict)
     before: object = None        # called in the new process
     output: object = subprocess.PIPE
@@ -44,7 +46,9 @@ class Place:
 
 
 def words_of(doc, *options):
-    """The words of a script; `doc` says what it does, and an option is its name, its kind, its first value and what it is for."""
+    """The words of a script; `doc` says what it does, and an option is its name, its kind, its
+    first value and what it is for.
+    """
     parser = argparse.ArgumentParser(description=doc, formatter_class=argparse.RawDescriptionHelpFormatter)
     parser.add_argument('program', nargs='?', metavar='PROGRAM', help='what is tried; the program that ./gams25 runs if left out')
     parser.add_argument('--only', default='', metavar='TEXT', help='the sources whose name holds TEXT')
@@ -63,7 +67,9 @@ def own_program():
 
 
 def built(source, folder):
-    """The library that the C compiler makes of a file here; ends the script where there is no compiler."""
+    """The library that the C compiler makes of a file here; ends the script where there is no
+    compiler.
+    """
     compiler = os.environ.get('CC') or next((it for it in ('cc', 'gcc', 'clang') if shutil.which(it)), None)
     if compiler is None:
         sys.exit('there is no C compiler (cc, gcc, clang, or $CC), so nothing was tried')
@@ -78,7 +84,7 @@ def read(path):
 
 
 def outcome(program, run, place=Place()):
-    """What comes of a run in a place. A run that does not end is one that a signal killed."""
+    """The outcome of a run in a place. A run that does not end is one that a signal killed."""
     with tempfile.TemporaryDirectory(prefix='gams25-hostile-') as folder:
         for name, content in run.files.items():
             with open(os.path.join(folder, name), 'wb') as stream:
@@ -92,7 +98,9 @@ def outcome(program, run, place=Place()):
 
 
 def due_of(program, run, place=Place()):
-    """What a run does where nothing is in its way; ends the script where that is not what it is to do."""
+    """What a run does where nothing is in its way; ends the script where that is not what it is to
+    do.
+    """
     due = outcome(program, run, place)
     if due.status != run.status or not any(run.shows in it for it in (due.says, *due.files.values())):
         sys.exit('%s: status %d and %r are due, and without any fault it ends with %d and says %r'
@@ -101,7 +109,7 @@ def due_of(program, run, place=Place()):
 
 
 def differs(found, due):
-    """How an outcome is not the one that is due, or None."""
+    """How an outcome is not the one that is expected, or None."""
     for what in ('status', 'says', 'errors', 'files'):
         if getattr(found, what) != getattr(due, what):
             return '%s: due %s, is %s' % (what, brief(getattr(due, what)), brief(getattr(found, what)))
@@ -109,7 +117,9 @@ def differs(found, due):
 
 
 def is_no_front(found, due, before):
-    """How what an outcome left is no front of what is due, or None. `before` are the files that were there."""
+    """How what an outcome left is no prefix of what is expected, or None. `before` are the files
+    that were there.
+    """
     if not due.says.startswith(found.says):
         return 'it said %s' % brief(found.says)
     if found.errors:
@@ -127,13 +137,14 @@ def brief(what):
 
 
 def tried(jobs, tries):
-    """The answers of these functions, in their order, with so many at a time."""
+    """The answers of these functions, in their order, with n at a time."""
     with concurrent.futures.ThreadPoolExecutor(jobs) as pool:
         yield from pool.map(lambda one: one(), tries)
 
 
 def end(what, count, told):
-    """Says how many were tried and what was wrong, and ends the script: with 0 where nothing was."""
+    """Says how many were tried and what was wrong, and ends the script: with 0 where nothing was.
+    """
     for line in told:
         print(line)
     print('%d %s tried, %d wrong' % (count, what, len(told)))

@@ -1,6 +1,7 @@
-"""The dictionary simplex method over Python's fractions, with the limit of numbers, as docs/internals/SOLVER.md says it and by the plainest means.
+"""The dictionary simplex method over Python's fractions, with the limit of numbers, as
+docs/internals/SOLVER.md says it and by the plainest means.
 
-It stands apart from the program: `solves` compares what both make of the same linear programs.
+It is independent of the program: `solves` compares what both make of the same linear programs.
 """
 from dataclasses import dataclass, field
 from fractions import Fraction
@@ -36,7 +37,9 @@ def total(x, y, step):
 
 @dataclass(frozen=True)
 class Program:
-    """A linear program: bounds of columns, None where there is none; rows of a sense, a right side and entries by column."""
+    """A linear program: bounds of columns, None where there is none; rows of a sense, a right side
+    and entries by column.
+    """
     columns: list
     rows: list
     objective: int
@@ -45,7 +48,7 @@ class Program:
 
 @dataclass
 class Shift:
-    """How a column is told by variables: a bound and one of them, or two."""
+    """How variables determine a column: a bound and one of them, or two."""
     kind: str                    # 'lower', 'upper' or 'free'
     variable: int
     bound: object                # the bound, or the second variable
@@ -58,9 +61,11 @@ class Walk:
     rule: str
     limit: int
     pivots: int = 0
-    end: tuple = ()              # its name, and what belongs to it: the crossed column, the phase, the step
+    # Its name, and what belongs to it: the crossed column, the phase, the step.
+    end: tuple = ()
     shifts: list = field(default_factory=list)
-    origins: list = field(default_factory=list)   # of each standard row: the row of the program, or None and the column that it bounds
+    # Of each standard row: the row of the program, or None and the column that it bounds.
+    origins: list = field(default_factory=list)
 
     def run(self):
         for column, (lower, upper) in enumerate(self.program.columns):
@@ -195,7 +200,7 @@ class Walk:
             self.pivot(entering, place)
             idle = 0 if was and not self.in_phase_1() else idle
 
-    # --- the way back ---
+    # --- recovery ---
 
     def finish(self, end, phase=None):
         self.end = end, phase

@@ -1,5 +1,6 @@
-"""The runs that memory and system calls are taken from: models, a source for each error that a source alone can have, the ways a solve ends,
-words, saves."""
+"""The runs that memory and system calls are taken from: models, a source for each error that a
+source alone can have, the ways a solve ends, words, saves.
+"""
 import os
 
 from hostile import FILE, NO_MEMORY, TOP, Run, read
@@ -83,7 +84,9 @@ def run(name, source, *rest):
 
 
 def models():
-    """The first row, the transport model, dynamic sets, and an example each with loops, tables, two solvers and an empty source."""
+    """The first row, the transport model, dynamic sets, and an example each with loops, tables, two
+    solvers and an empty source.
+    """
     yield run('empty', '')
     yield run('first_row', 'scalar a /1.5/; a = a/3; display a;', 0, b'SCALAR a = 0.500')
     yield run('dynamic_sets', SETS, 0, b'END status 0 solves 3')
@@ -132,7 +135,9 @@ def saves(program, outcome):
 
 
 def large_lists():
-    """Sources of at most a megabyte whose lists ask for gigabytes: by ranges, and by lists in parentheses of sets and of parameters."""
+    """Sources of at most a megabyte whose lists request gigabytes: by ranges, and by lists in
+    parentheses of sets and of parameters.
+    """
     element = '.'.join(['(a,b,c,d)'] * 10)
     for name, form, count in (('ranges', 'set i%d /x1*x65536/;', 40_000),
                               ('sets', 'set s%%d(%s) /%s/;' % (','.join('*' * 10), element), 7_500),

@@ -1,4 +1,4 @@
-"""Studies that are drawn: sources of which each goes on where the one before it ended."""
+"""Chains of sources that are drawn: each restarts from the save of the one before it."""
 SIZES = (1, 2, 3, 3, 4, 5)       # how many labels a set has
 NUMBERS = ('0', '1', '1', '2', '3', '7', '1/2', '2/3', '0.125', '100')
 SENSES = ('=l=', '=l=', '=g=', '=e=', '=n=')
@@ -8,7 +8,9 @@ ENDS = ('', '', '\n', '\n\n', '\n* a remark', '\n* a remark\n', '\n$ontext\nword
 
 
 class Study:
-    """What the sources so far have declared. A set is known by its labels, and what stands for it or is in it by that set."""
+    """What the sources so far have declared. A set is known by its labels, and what is declared
+    over it by that set.
+    """
 
     def __init__(self, rng):
         self.rng, self.count, self.labels = rng, 0, []
@@ -32,7 +34,7 @@ class Study:
     # ---- declarations
 
     def new_set(self):
-        """A set whose labels stand in their order, some of them new."""
+        """A set whose labels are in their order, some of them new."""
         name = self.name('i')
         new = ['%s%d' % (self.rng.choice(('a', 'b', 'north', 'T')), len(self.labels) + k) for k in range(self.rng.choice(SIZES))]
         old = [label for label in self.labels if self.is_likely(0.3)]
@@ -222,7 +224,7 @@ class Study:
         return self.display() if kind < 29 else self.assignment()
 
     def part(self, first, count):
-        """A source of so many statements more; the first one begins with sets and data."""
+        """A source of n statements more; the first one begins with sets and data."""
         lines = [self.new_set(), self.new_set(), self.new_parameter()] if first else []
         lines += [self.statement() for _ in range(count)]
         has_table = any(line.startswith('table') for line in lines)
@@ -231,6 +233,6 @@ class Study:
 
 
 def drawn(rng):
-    """The sources of a study: the base case, and one or two that go on from it."""
+    """The sources of a chain: the base case, and one or two that restart from it."""
     study = Study(rng)
     return [study.part(k == 0, rng.randrange(1, 9)) for k in range(rng.choice((2, 2, 2, 3)))]

@@ -1,7 +1,8 @@
 """Reads a page of `gams25-show html` as its reader does, and tells what it shows, a fact a line.
 
-Of a chart it tells the numbers that its marks stand for: from where a bar, a point or a line is, and from
-the numbers beside the axis. So what is expected follows from the listing, and not from how a page is laid out.
+Of a chart it tells the numbers that its marks stand for: from where a bar, a point or a line is,
+and from the numbers beside the axis. So what is expected follows from the listing, and not from how
+a page is laid out.
 """
 import math
 from dataclasses import dataclass, field

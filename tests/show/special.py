@@ -192,7 +192,8 @@ def full_disk() -> List[str]:
 
 
 def large_listing() -> List[str]:
-    """A listing of 2 MB takes bounded memory: a table, csv and the glance stay below 48 MB of data."""
+    """A listing of 2 MB takes bounded memory: a table, csv and the glance stay below 48 MB of data.
+    """
     code = ('import resource, sys; resource.setrlimit(resource.RLIMIT_DATA, (48 << 20, 48 << 20)); sys.path.insert(0, %r); '
             'from show.cli import main; from show.commands import COMMANDS; sys.exit(main(sys.argv[1:], COMMANDS))' % TOP)
     entries = b''.join(b'  %-9s %14s\n' % (b'i%d.j%d' % (i, j), b'%d.000' % (i * j)) for i in range(1, 401) for j in range(1, 201))
@@ -209,7 +210,9 @@ def large_listing() -> List[str]:
 
 
 def example(path: str, expected: int) -> List[str]:
-    """The glance, records, page and check of an example: their statuses, and no certificate is false."""
+    """The glance, records, page and check of an example: their statuses, and no certificate is
+    false.
+    """
     with folder_with({}):
         made = [(words, made_by(words)) for words in (
             [path], ['csv', '--solve', 'all', path], ['json', path], ['html', path], ['check', '--solve', 'all', path])]
@@ -223,7 +226,9 @@ def example(path: str, expected: int) -> List[str]:
 
 
 def examples() -> Iterator[Tuple[str, int]]:
-    """The listings of the examples, with the status that their statuses of models and their last lines mean."""
+    """The listings of the examples, with the status that their statuses of models and their last
+    lines mean.
+    """
     for folder in ('examples/expected', 'examples/water/expected'):
         for name in sorted(os.listdir(os.path.join(TOP, folder))):
             if name.endswith('.lst'):
