@@ -1,6 +1,8 @@
-"""Linear models that are solved for their time: each as a source of the program, and as the other solvers read it (CPLEX LP format).
+"""Linear models that are solved for their time: each as a source of the program, and as the other
+solvers read it (CPLEX LP format).
 
-All numbers are drawn by one generator from the size of the model, so a model of a name is the same everywhere.
+All numbers are drawn by one generator from the size of the model, so a model of a name is the same
+everywhere.
 """
 from decimal import Decimal
 
@@ -22,7 +24,9 @@ def drawn(seed):
 
 
 def lp_text(objective, rows, bounds):
-    """A program that is minimized as the other solvers read it (CPLEX LP format): rows of a name, terms, sense and right side."""
+    """A program that is minimized as the other solvers read it (CPLEX LP format): rows of a name,
+    terms, sense and right side.
+    """
     line = "{}: {} {} {}"
     terms = lambda pairs: " ".join(f"{'-' if c < 0 else '+'} {abs(c)} {x}" for c, x in pairs)
     lines = ["minimize", f" cost: {terms(objective)}", "subject to"]
@@ -36,7 +40,9 @@ def listed(parameter, pairs):
 
 
 def transport(plants):
-    """The generator's model with as many markets as plants: its source, and the same for the other solvers."""
+    """The generator's model with as many markets as plants: its source, and the same for the other
+    solvers.
+    """
     draw = drawn(plants)
     demands = [10 + draw(90) for _ in range(plants)]
     supplies = [sum(demands) // plants + 1 + draw(10) for _ in range(plants)]
@@ -63,8 +69,9 @@ def transport(plants):
 
 
 def plan(periods, products, places):
-    """A plan of so many products that share hours in each period, and are stored, with so many decimals in hours and prices: its source,
-    and the same for the other solvers."""
+    """A plan of n products that share hours in each period, and are stored, with n decimals in
+    hours and prices: its source, and the same for the other solvers.
+    """
     draw = drawn(periods)
     unit = 10**places
     demands = [[20 + draw(60) for _ in range(periods)] for _ in range(products)]
@@ -100,8 +107,10 @@ def plan(periods, products, places):
 
 
 def blend(raws, products, qualities, places):
-    """Products that are blended from raws, each quality of each above a limit, with so many decimals in prices and qualities: its source,
-    and the same for the other solvers. To share out each raw by the products' demands keeps to all limits."""
+    """Products that are blended from raws, each quality of each above a limit, with n decimals in
+    prices and qualities: its source, and the same for the other solvers. To share out each raw by
+    the products' demands keeps to all limits.
+    """
     draw = drawn(raws)
     unit = 10**places
     dues = [50 + draw(100) for _ in range(products)]
@@ -136,8 +145,10 @@ def blend(raws, products, qualities, places):
 
 
 def staircase(blocks):
-    """So many blocks, each with eight activities that use six resources and make six goods, which are stored from block to block: its source,
-    and the same for the other solvers. The activities of a plan that was drawn keep to all limits."""
+    """n blocks, each with eight activities that use six resources and make six goods, which are
+    stored from block to block: its source, and the same for the other solvers. The activities of a
+    plan that was drawn keep to all limits.
+    """
     draw = drawn(blocks)
     acts, kinds, each = range(8), range(6), range(blocks)
     uses = [[max(draw(6) - 2, 0) for _ in acts] for _ in kinds]
@@ -174,7 +185,9 @@ def staircase(blocks):
 
 
 def assignment(size):
-    """So many persons for as many tasks, each pair at a cost: its source, and the same for the other solvers."""
+    """n persons for as many tasks, each pair at a cost: its source, and the same for the other
+    solvers.
+    """
     draw = drawn(size)
     each = range(size)
     costs = [[1 + draw(99) for _ in each] for _ in each]
@@ -196,8 +209,9 @@ def assignment(size):
 
 
 def network(nodes):
-    """A flow at least cost through so many nodes, each with an arc to the next one and three to others: its source, and the same for the
-    other solvers."""
+    """A flow at least cost through n nodes, each with an arc to the next one and three to others:
+    its source, and the same for the other solvers.
+    """
     draw = drawn(nodes)
     ends = [sorted({(n + 1) % nodes, *((n + 2 + draw(nodes - 2)) % nodes for _ in range(3))}) for n in range(nodes)]
     arcs = [(n, m) for n in range(nodes) for m in ends[n]]

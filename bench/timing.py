@@ -1,6 +1,8 @@
-"""What the scripts of this folder share: their words, runs of the program on a source, and a table of kinds of sources.
+"""What the scripts of this folder share: their words, runs of the program on a source, and a table
+of kinds of sources.
 
-Times are processor times of whole runs, the least of several. From them goes the time of a source without what is timed.
+Times are processor times of whole runs, the least of several. From them goes the time of a source
+without what is timed.
 """
 import argparse
 import os
@@ -19,7 +21,9 @@ SHARE = 50                       # of a size, where a script is only tried
 
 
 def asked(doc):
-    """The program that the words of a script name, ready to be timed; `doc` says what the script does."""
+    """The program that the words of a script name, ready to be timed; `doc` says what the script
+    does.
+    """
     parser = argparse.ArgumentParser(description=doc, formatter_class=argparse.RawDescriptionHelpFormatter)
     parser.add_argument("program", nargs="?", metavar="PROGRAM", help="what is timed; the program that ./gams25 runs if left out")
     parser.add_argument("--quick", action="store_true", help="small sizes, each run once: tries the script and gives no figures")
@@ -34,9 +38,11 @@ def own_program():
 
 
 def used_by(words, folder, ends=(0, 3), seconds=None):
-    """Runs a command in a folder, and tells its processor time and its peak memory in megabytes. It has to end with one of these statuses;
-    3 is that of a run which a fault stops. The memory is never less than that of the script itself, from which the command was started.
-    Where it may take so many seconds of the processor, it is ended after them."""
+    """Runs a command in a folder, and tells its processor time and its peak memory in megabytes. It
+    has to end with one of these statuses; 3 is that of a run which a fault stops. The memory is
+    never less than that of the script itself, from which the command was started. Where it may take
+    n seconds of the processor, it is ended after them.
+    """
     with open(f"{folder}/said", "w", encoding="utf-8") as said:
         running = subprocess.Popen(words, cwd=folder, stdout=said, stderr=subprocess.STDOUT)
         if seconds:
@@ -55,8 +61,9 @@ def timed(words, folder):
 
 
 def instructions_of(words, folder, ends=(0, 3)):
-    """How many instructions of its own a command takes in a folder, by valgrind: those of the C library do not count, so that figures of two
-    machines can be compared."""
+    """How many instructions a command itself takes in a folder, by valgrind: those of the C library
+    do not count, so that figures of two machines can be compared.
+    """
     if not shutil.which("valgrind"):
         sys.exit("valgrind is not installed, so nothing was counted")
     profile = f"{folder}/profile"
@@ -67,7 +74,9 @@ def instructions_of(words, folder, ends=(0, 3)):
 
 
 def own_cost(profile, program):
-    """The cost of a callgrind profile in the code of a program itself: of each line behind its name that is not the cost of a call."""
+    """The cost of a callgrind profile in the code of a program itself: of each line after its name
+    that is not the cost of a call.
+    """
     names, cost, is_own, is_call = {}, 0, False, False
     for line in profile.splitlines():
         named = re.fullmatch(r"c?ob=(\(\d+\))(?: (.*))?", line)
@@ -101,7 +110,7 @@ class Program:
         return count // SHARE if self.quick else count
 
     def once(self, source, due):
-        """The processor time of a run, whose listing has to hold the text that is due."""
+        """The processor time of a run, whose listing has to hold the text that is expected."""
         with tempfile.TemporaryDirectory() as folder:
             with open(f"{folder}/a.gms", "w", encoding="ascii") as f:
                 f.write(source)
@@ -122,14 +131,18 @@ def shows(number):
 
 
 def beside(time, unit):
-    """How many times as long as the unit a time is; no number where a difference of times came out below 0."""
+    """How many times as long as the unit a time is; no number where a difference of times came out
+    below 0.
+    """
     return time / unit if time > 0 and unit > 0 else float("nan")
 
 
 def seconds(program, kind, count):
     """The seconds that what a kind of source counts takes, and the bytes of the source.
 
-    A kind gives for a count the front of a source, what is timed behind it, and the whole number that `a` has at its end."""
+    A kind gives for a count the beginning of a source, what is timed after it, and the whole number
+    that `a` has at its end.
+    """
     front, work, value = kind(count)
     without = program.least(f"{front}display a;\n", shows("0.000"))
     whole = f"{front}{work}display a;\n"
