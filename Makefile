@@ -1,4 +1,5 @@
-# Installs gams25: `make install` under /usr/local, `make install PREFIX=$HOME/.local` for one user. `make check` runs the tests.
+# Installs gams25: `make install` under /usr/local, `make install PREFIX=$HOME/.local` for one user.
+# `make check` runs the tests.
 PREFIX = /usr/local
 DESTDIR =
 

@@ -9,7 +9,7 @@ Series = Tuple[str, List[Optional[Fraction]]]
 ZERO = Fraction(0)
 LETTER = Fraction(66, 10)         # the width of a letter of a label
 BAR, GAP = 16, 6
-WIDTH = Fraction(570)            # of a picture; two have room side by side
+WIDTH = Fraction(570)            # of a picture; two fit side by side
 MOST_BARS = 48
 MOST_SERIES = 8
 LONGEST = 26                      # letters of a label in a chart
@@ -56,7 +56,7 @@ def bars(title: str, items: List[Item], kind: str = 'level') -> str:
 
 
 def axis(frame: Frame, scale: Scale, labels: Sequence[str], left: Fraction, step: Fraction, bottom: int) -> None:
-    """The rules and numbers of the values, and as many labels of the places as have room."""
+    """The rules and numbers of the values, and as many labels of the places as fit."""
     for tick in scale.ticks:
         y = scale.at(tick)
         frame.put(line_between(left, y, left + step * (len(labels) - 1), y, 'zero' if tick == 0 else 'rule'),

@@ -1,8 +1,9 @@
 """`check`: verifies a printed certificate in exact fractions, over the rows and columns that the
 listing prints.
 
-A printed number with three decimals may be rounded by up to 1/2000. So a comparison has three results: it holds for the
-printed numbers; it fails, whatever was rounded; or it fails by no more than rounding may hide, and is left open.
+A printed number with three decimals may be rounded by up to 1/2000. So a comparison has three
+results: it holds for the printed numbers; it fails, whatever was rounded; or it fails by no more
+than rounding may hide, and stays open.
 """
 from dataclasses import dataclass, field
 from fractions import Fraction
@@ -16,7 +17,8 @@ from .program import Program, Terms, program_of
 VERIFIED, FALSE, OPEN = 0, 1, 2
 ROUNDING = Fraction(1, 2000)
 ZERO = Fraction(0)
-ANSWERS: Dict[int, Tuple[str, int]] = {       # by model status: the certificate, and the solver status
+# By model status: the certificate, and the solver status.
+ANSWERS: Dict[int, Tuple[str, int]] = {
     m.OPTIMAL: ('Optimal', 1), m.UNBOUNDED: ('Unbounded', 1), m.INFEASIBLE: ('Infeasible', 1),
     m.INTERMEDIATE_INFEASIBLE: ('Interrupted', 2), m.INTERMEDIATE_NONOPTIMAL: ('Interrupted', 2),
     m.NO_SOLUTION: ('Refused', 4)}
@@ -42,7 +44,7 @@ class Findings:
             self.failures.append(text)
 
     def demand(self, holds: bool, text: str) -> None:
-        """Asks for what no rounding can change."""
+        """Requires what no rounding can change."""
         if holds:
             self.held += 1
         else:

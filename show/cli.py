@@ -50,7 +50,7 @@ FLAGS = FIGURES + COMMON + ('plain',)
 
 @dataclass
 class Request:
-    """What the arguments ask for."""
+    """What the arguments request."""
     command: str
     words: List[str] = field(default_factory=list)
     options: Dict[str, str] = field(default_factory=dict)

@@ -13,7 +13,8 @@ from .words import counted, exit_status, meaning_of
 
 WITH_LEVELS = (m.OPTIMAL, m.UNBOUNDED, m.INTERMEDIATE_NONOPTIMAL)
 ZERO = Fraction(0)
-Numbers = Dict[str, Tuple[str, Fraction]]        # by the element in lower case: as written, and its number
+# By the element in lower case: as written, and its number.
+Numbers = Dict[str, Tuple[str, Fraction]]
 
 
 @dataclass

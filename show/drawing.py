@@ -24,7 +24,7 @@ def short(value: Fraction) -> str:
 
 
 def tick_step(extent: Fraction, most: int) -> Fraction:
-    """The least round step that divides an extent in at most so many parts."""
+    """The least round step that divides an extent in at most n parts."""
     power = Fraction(1)
     while power * 10 * most <= extent:
         power *= 10
@@ -77,7 +77,7 @@ def box(x: Number, y: Number, width: Number, height: Number, kind: str, told: st
 
 
 def shortened(text: str, most: int) -> str:
-    """A label within so many letters."""
+    """A label within n letters."""
     return text if len(text) <= most else text[:most - 1] + '…'
 
 

@@ -27,7 +27,8 @@ ECHOED = re.compile(rb' {0,5}(\d+)  ')
 TOP, IN_ITEM, IN_ROWS, IN_COLUMNS = 'top', 'item', 'rows', 'columns'
 IN_COUNTS, IN_LEVELS, IN_PROOF = 'counts', 'levels', 'proof'
 INDENTED = {IN_ITEM: ENTRY, IN_COLUMNS: COEFFICIENT, IN_LEVELS: FIGURES, IN_PROOF: PROVED}
-PLAIN: List[Tuple[str, str, str]] = [   # how a line in a solve begins, its event, where the next one is
+# How a line in a solve begins, its event, where the next one is.
+PLAIN: List[Tuple[str, str, str]] = [
     ('EQUATION ', EQUATION, IN_ROWS),
     ('VARIABLE ', VARIABLE, IN_COLUMNS),
     ('ROWS ', COUNTS, IN_COUNTS),

@@ -35,14 +35,14 @@ def number_of(text: str) -> Optional[Fraction]:
 
 
 def rounded(value: Fraction, places: int = 3) -> Fraction:
-    """The value at so many decimals, rounded from the middle of two away from zero."""
+    """The value at n decimals, rounded from the middle of two away from zero."""
     scale = 10 ** places
     magnitude = int(abs(value) * scale + HALF)
     return Fraction(magnitude if value >= 0 else -magnitude, scale)
 
 
 def decimal_text(value: Fraction, places: int = 3) -> str:
-    """The value as the listing prints it: so many decimals, and no sign where it is shown as
+    """The value as the listing prints it: n decimals, and no sign where it is shown as
     zero."""
     scaled = abs(rounded(value, places)) * 10 ** places
     digits = str(scaled.numerator).rjust(places + 1, '0')

@@ -32,7 +32,8 @@ def shown_line(raw: bytes) -> str:
         kept += b' ' * step if byte == 9 else bytes([byte])
         place += step
     text = kept.decode('utf-8', 'replace').rstrip('\r')
-    return ''.join(it if it.isprintable() else '\ufffd' for it in text)       # a terminal acts on none of it
+    # A terminal acts on none of it.
+    return ''.join(it if it.isprintable() else '\ufffd' for it in text)
 
 
 def source_line(listing: Listing, number: int) -> Optional[bytes]:

@@ -1,4 +1,5 @@
-"""Lays a table out within a width, row by row; what does not fit into memory waits outside of it."""
+"""Lays a table out within a width, row by row; what does not fit into memory waits outside of it.
+"""
 from itertools import groupby
 from typing import Callable, Iterable, Iterator, List, Sequence, Tuple
 

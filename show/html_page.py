@@ -104,7 +104,8 @@ class Page:
             for figure, exact in (('level', levels), ('marginal', marginals)):
                 if figure in symbol.figures:
                     drawn.append(charts_for(self.listing, self.labels, symbol, figure, exact))
-        pictures = [it for pair in zip_longest(*drawn, fillvalue='') for it in pair]      # marginals beside levels
+        # Marginals beside levels.
+        pictures = [it for pair in zip_longest(*drawn, fillvalue='') for it in pair]
         if any(pictures):
             self.parts.append('<div class="charts">%s</div>' % ''.join(pictures))
         self.parts.append('</div>' + table(self.table_name(), symbol.name, symbol_columns(self.listing, symbol)))

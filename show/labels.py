@@ -1,8 +1,8 @@
 """Splits elements into labels. A label may itself have commas and dots where the source quotes it.
 
-A listing writes `x(a,b)` for two labels and for the one label 'a,b'. The echoed source decides: a label with
-such characters is quoted there, and each reference to `x` shows how many labels it has. Where several readings
-remain the element is ambiguous, and is not split.
+A listing writes `x(a,b)` for two labels and for the one label 'a,b'. The echoed source decides: a
+label with such characters is quoted there, and each reference to `x` shows how many labels it has.
+Where several readings remain the element is ambiguous, and is not split.
 """
 import re
 from typing import Dict, Iterator, List, NamedTuple, Set, Tuple
@@ -54,7 +54,8 @@ class Labels:
     """What the echo of a listing tells about labels."""
 
     def __init__(self, listing: Listing, is_plain: bool = False) -> None:
-        self.is_plain = is_plain                               # the user says that no label has a comma or a dot
+        # The user says that no label has a comma or a dot.
+        self.is_plain = is_plain
         self.is_complete = not listing.is_restarted and bool(listing.echo)
         self.lines = list(code_lines(listing.echo))
         self.special: Set[str] = set()
@@ -95,7 +96,7 @@ class Labels:
         return PLAIN.match(text) is not None or text.lower() in self.special
 
     def readings(self, parts: List[str], separator: str, most: int) -> List[Tuple[str, ...]]:
-        """The ways to join neighbouring parts into at most so many labels."""
+        """The ways to join neighbouring parts into at most n labels."""
         if not parts:
             return [()]
         found: List[Tuple[str, ...]] = []
@@ -113,7 +114,7 @@ class Labels:
         sizes = self.dimensions(name)
         if self.is_complete and not sizes:                     # a set without a domain
             sizes = {1}
-        if sizes == {len(parts)}:                              # no label has room for a separator
+        if sizes == {len(parts)}:                              # no label can have a separator
             return Reading(tuple(parts))
         if not self.is_complete:
             return Reading((inner,), len(parts) == 1)

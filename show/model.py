@@ -56,7 +56,8 @@ class Block:
 class PrintedRows:
     """The rows of one equation that the listing prints, and how many more there are."""
     name: str
-    rows: List[str] = field(default_factory=list)    # each as it is printed, without its first blank
+    # Each as it is printed, without its first blank.
+    rows: List[str] = field(default_factory=list)
     hidden: int = 0
 
 
@@ -110,7 +111,7 @@ class Solve:
     value: str = ''                                  # the objective's level as printed
     blocks: List[Block] = field(default_factory=list)
     proof: Optional[Proof] = None
-    is_whole: bool = False                           # whether the listing goes on after it
+    is_whole: bool = False                           # whether the listing continues after it
 
     @property
     def is_minimizing(self) -> bool:
@@ -135,12 +136,14 @@ class Display:
     """One item of a display or of an abort. A scalar has `value`, others have `entries`."""
     after: int                                       # how many solves come before it
     line: int
-    kind: str                                        # SET, PARAMETER, VARIABLE, EQUATION, SCALAR, TEXT
+    # SET, PARAMETER, VARIABLE, EQUATION, SCALAR, TEXT.
+    kind: str
     name: str                                        # of a TEXT the text
     value: str = ''
     entries: List[Tuple[str, str]] = field(default_factory=list)   # element, number ('' in a set)
     count: int = 0                                   # of entries, kept or not
-    least: str = ''                                  # the least number of an entry, where it is kept
+    # The least number of an entry, where it is kept.
+    least: str = ''
     most: str = ''
 
 

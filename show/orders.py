@@ -3,7 +3,8 @@ import heapq
 from typing import Callable, Dict, Iterable, List, Optional, Set, Tuple
 
 Key = Tuple[str, ...]
-Place = Callable[[str], int]      # where a label comes first; it decides what the elements leave open
+# Where a label comes first; it decides what the elements leave open.
+Place = Callable[[str], int]
 MOST_PAIRS = 1 << 17              # of neighbours; of a symbol with more, places alone decide
 
 

@@ -38,14 +38,17 @@ class Program:
     objective: str
     is_minimizing: bool
     rows: Dict[str, Row] = field(default_factory=dict)             # those whose terms are printed
-    entries: Dict[str, Terms] = field(default_factory=dict)        # by column, where all of it is printed
+    # By column, where all of it is printed.
+    entries: Dict[str, Terms] = field(default_factory=dict)
     limits: Dict[str, Limit] = field(default_factory=dict)         # of rows
     bounds: Dict[str, Bounds] = field(default_factory=dict)        # of columns
     has_rows: bool = False                                         # whether all rows are known
-    has_columns: bool = False                                      # whether all columns with their bounds are
+    # Whether all columns with their bounds are.
+    has_columns: bool = False
     limrow: int = 0                                                # what prints all rows
     limcol: int = 0                                                # what prints all columns
-    clashes: List[str] = field(default_factory=list)               # places where the listing contradicts itself
+    # Places where the listing contradicts itself.
+    clashes: List[str] = field(default_factory=list)
 
     def options(self) -> str:
         """The options with which the listing would print the whole linear program."""

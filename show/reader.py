@@ -267,7 +267,8 @@ class SparingReader(Reader):
             return
         name = self.display.name.lower()
         self.keeps_entries = name in self.names
-        if self.keeps_entries and self.chosen is None:          # only the last display of a name is wanted
+        # Only the last display of a name is needed.
+        if self.keeps_entries and self.chosen is None:
             for it in self.listing.displays[:-1]:
                 if it.name.lower() == name:
                     it.entries = []

@@ -101,7 +101,8 @@ class RecordReader(StreamReader):
         self.shown: Dict[str, Spool] = {}
         self.labels: Optional[Labels] = None
         self.warned: Set[str] = set()
-        self.spool: Optional[Spool] = None            # of the display that is read, where it is wanted
+        # Of the display that is read, where it is needed.
+        self.spool: Optional[Spool] = None
         self.found: Set[str] = set()                  # the names of which there are records
 
     def of(self) -> Labels:
@@ -131,7 +132,7 @@ class RecordReader(StreamReader):
         drop(solve)
 
     def close(self) -> None:
-        """Puts the records of the last solve, where it is wanted and not yet put."""
+        """Puts the records of the last solve, where it is needed and not yet put."""
         solves = self.listing.solves
         if solves and (self.number is None and not self.is_all or (self.builder and self.number in (None, solves[-1].number))):
             self.finish(solves[-1])
@@ -152,7 +153,8 @@ class RecordReader(StreamReader):
         key = display.name.lower()
         self.found.add(key)
         if key in self.shown and not self.is_all and self.number is None:
-            self.shown.pop(key).close()            # the last display of a name replaces those before it
+            # The last display of a name replaces those before it.
+            self.shown.pop(key).close()
         self.spool = self.shown.setdefault(key, Spool())
         if display.value:
             self.spool.put(Record(display.after, display.line, display.kind.lower(), display.name, (),

@@ -40,7 +40,8 @@ def solved_names(solve: Solve) -> Dict[str, str]:
     if solve.proof:
         for word in ('level', 'point', 'ray'):
             names.update({element.partition('(')[0]: 'VAR' for element in solve.proof.of(word)})
-        other = 'EQU' if solve.columns else 'VAR' if solve.rows else ''      # all variables, or equations, are named
+        # All variables, or equations, are named.
+        other = 'EQU' if solve.columns else 'VAR' if solve.rows else ''
         for word in ('marginal', 'row'):
             for element in solve.proof.of(word):
                 names.setdefault(element.partition('(')[0], 'EQU' if word == 'row' else other)
@@ -86,7 +87,7 @@ def of_display(display: Display, labels: Labels) -> Symbol:
 
 
 def names_in(listing: Listing, solve: Optional[Solve]) -> List[str]:
-    """What `table` and `csv` can be asked for."""
+    """What `table` and `csv` can show."""
     names = list(solved_names(solve)) if solve else []
     names += [it.name for it in listing.displays if it.kind != 'TEXT']
     return list(dict.fromkeys(names))

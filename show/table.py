@@ -23,7 +23,8 @@ class Shown:
 
     def __init__(self, name: str, kind: str, figures: Tuple[str, ...]) -> None:
         self.name, self.kind, self.figures = name, kind, figures
-        self.elements = Store()         # labels, the text of an element that is not split, four numbers
+        # Labels, the text of an element that is not split, four numbers.
+        self.elements = Store()
         self.depth = -1                 # the most labels of an element that is split
         self.ambiguous = ''             # an element that is not
 
@@ -42,7 +43,7 @@ class Shown:
 
 
 class TableReader(StreamReader):
-    """Keeps the elements of the displays that may be asked for, the last of each name."""
+    """Keeps the elements of the displays that may be requested, the last of each name."""
 
     def __init__(self, path: str, names: Sequence[str], request: Request) -> None:
         super().__init__(path, request.solve)

@@ -38,7 +38,7 @@ def times(factor: Fraction, text: str) -> str:
 
 
 def side_sentence(parts: List[Tuple[str, Fraction]], total: Fraction, is_least: bool) -> str:
-    """What rows and bounds ask for together, or give together."""
+    """What rows and bounds require together, or supply together."""
     names = [times(factor, element) for element, factor in parts]
     shown = names if len(names) <= MOST else names[:MOST] + ['%d more' % (len(names) - MOST)]
     together = ' together' if len(names) > 1 else ''
