@@ -212,19 +212,28 @@ class Machine:
         self.known[stack] = takes, done
         return takes, done
 
+    def start(self, rule: str) -> Dict[int, tuple]:
+        """The states before the first token of a rule."""
+        return {self.stack(self.rules[rule][0], -1): ()}
+
+    def step(self, live: Dict[int, tuple], token: Token) -> Dict[int, tuple]:
+        """The states after a token, each with the way to it; none where the token cannot follow."""
+        found: Dict[int, tuple] = {}
+        for stack, ways in live.items():
+            takes = self.follow(stack)[0]
+            for terminal in terminals_of(token, self.words):
+                for then, path in takes.get(terminal, ()):
+                    found.setdefault(then, (ways, path))
+        return found
+
     def read(self, rule: str, tokens: List[Token]) -> 'Reading':
         """Reads tokens, the last of which is the end, up to the first that cannot follow."""
-        live: Dict[int, tuple] = {self.stack(self.rules[rule][0], -1): ()}
+        live = self.start(rule)
         for count, token in enumerate(tokens):
             if token.kind == END:
                 done = [(ways, self.follow(stack)[1]) for stack, ways in live.items() if self.follow(stack)[1] is not None]
                 return Reading(count, bool(done), live, (done[0][0], done[0][1]) if done else ())
-            found: Dict[int, tuple] = {}
-            for stack, ways in live.items():
-                takes = self.follow(stack)[0]
-                for terminal in terminals_of(token, self.words):
-                    for then, path in takes.get(terminal, ()):
-                        found.setdefault(then, (ways, path))
+            found = self.step(live, token)
             if not found:
                 return Reading(count, False, live, ())
             live = found
