@@ -164,8 +164,8 @@ def gain_after_turning(draw: Draw) -> str:
 
 
 def crowded(draw: Draw, count: int, bounded: int) -> str:
-    """n columns that steepest edge weighs only some of them; those with an upper bound make
-    rows. The weight is greatest where the cost is near a number that is drawn.
+    """More columns than steepest edge weighs; those with an upper bound make rows. The weight is
+    greatest where the cost is near a number that is drawn.
     """
     text = 'set j /1*%d/, r /1*2/; parameter c(j), a(r,j);\n' % count
     text += 'c(j) = mod(%d*ord(j), 97)/8 + 1; a(r,j) = c(j)*c(j)/(%d + ord(r));\n' % (draw.between(2, 96), draw.between(0, 8))
@@ -173,6 +173,15 @@ def crowded(draw: Draw, count: int, bounded: int) -> str:
     text += 'most(r).. sum(j, a(r,j)*x(j)) =l= %d;\nmodel m /all/;\n' % draw.between(50, 500)
     text += 'x.up(j)$(ord(j) <= %d) = 1 + mod(ord(j), %d);\n' % (bounded, draw.between(2, 5))
     text += 'option lp = %s, limrow = 0, limcol = 0, iterlim = %d;\n' % (draw.pick(['steepest', 'any']), draw.between(2, 20))
+    return text + 'solve m using lp maximizing z;'
+
+
+def alike(draw: Draw) -> str:
+    """Columns whose costs differ in bits that steepest edge does not weigh."""
+    text = 'set j /1*8/; parameter c(j); positive variable x(j); variable z; equation obj;\n'
+    text += 'c(j) = %d/%d + mod(%d*ord(j), 11)/(2**%d + %d*ord(j));\n' % (
+        draw.between(1, 99), draw.between(1, 9), draw.between(1, 10), draw.between(33, 50), draw.between(1, 999))
+    text += 'obj.. z =e= sum(j, c(j)*x(j)); model m /all/; x.up(j) = 1;\noption lp = %s, iterlim = 2;\n' % draw.pick(['steepest', 'any'])
     return text + 'solve m using lp maximizing z;'
 
 

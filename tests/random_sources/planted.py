@@ -41,6 +41,7 @@ MISTAKES = [Mistake(*it) for it in [
     ('choice.py', 'bits(it.number.numerator) + bits(it.number.denominator)', 'bits(it.number.numerator)'),
     ('choice.py', 'bits(it.number.numerator) - it.of_gain', 'bits(it.number.numerator) - 2 * it.of_gain'),
     ('choice.py', '2 * it.in_row - it.of_gain', 'it.in_row - it.of_gain'),
+    ('choice.py', '- 3 * it.of_gain', '- 2 * it.of_gain'),
     ('solve.py', 'form.all_variables', 'form.variables'),
     ('simplex.py', 'row.get(CONSTANT, 0) < 0 for row', 'row.get(CONSTANT, 0) <= 0 for row'),
     ('simplex.py', 'for key in sorted(old)}', 'for key in sorted(old, reverse=True)}'),
