@@ -16,11 +16,12 @@ bits n = 128 - leading_zeros w128 n
 abbrev pub length_of : Number → ℕ
 length_of x = bits (nat_abs x.numerator) + bits x.denominator
 
--- The gain is the coefficient times the constant over the pivot number. Its bits are those of three whole numbers, less those of three
--- others.
+-- The gain is the coefficient times the constant over the pivot number. These are the bits of the
+-- three integers that multiply in it.
 abbrev pub gain_above : Number → Number → Number → ℕ
 gain_above coefficient constant number = bits (nat_abs coefficient.numerator) + bits (nat_abs constant.numerator) + bits number.denominator
 
+-- the bits of the three integers that divide in the gain
 abbrev pub gain_below : Number → Number → Number → ℕ
 gain_below coefficient constant number = bits coefficient.denominator + bits constant.denominator + bits (nat_abs number.numerator)
 
