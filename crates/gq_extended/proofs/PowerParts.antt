@@ -1,4 +1,5 @@
--- The parts of a power of a reduced fraction are the powers of its parts: so a power fits only where each lower power does.
+-- The numerator and denominator of a power of a reduced fraction are the powers of the
+-- fraction's: so a power fits only if each lower power does.
 use Rattle.std.proofs.Common.{◌≡◌, ◌≢◌, ℕ, zero, suc, ◌+◌, ◌*◌, ◌/◌, ◌%◌, ◌^◌, ◌≤◌, true, false, Bool, ℤ, pos, negsuc, neg_ℤ, ◌*ℤ◌, nat_abs, refl, sym, ap, ◌∙◌, subst, arith, mul-pos, Result, Ok, Err}
 use Rattle.std.specs.Result.{IsErr}
 use Rattle.std.proofs.lemmas.Bool.Decides.{nat_tests}

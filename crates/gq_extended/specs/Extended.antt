@@ -1,5 +1,6 @@
--- Extended numbers, and what each step on them gives: exact numbers, the two infinities and NA.
--- The language and its extended range arithmetic: GAMS User's Guide, "Parameters". Which steps on infinities and NA are faults is this project's own rule.
+-- Extended numbers, and what each step on them gives: exact numbers, the two infinities and NA. The
+-- language and its extended range arithmetic: GAMS User's Guide, "Parameters". Which steps on
+-- infinities and NA are faults is this project's rule.
 use Rattle.std.specs.Prelude.{ℕ, zero, suc, ◌%◌, Bool, true, false, ◌&&◌, ◌==◌, nat_le, if◌then◌else◌, ℤ, pos, negsuc, ◌*ℤ◌, nat_abs, Option, Some, None, Result, Ok, Err}
 use Rattle.gq_number.specs.Number.{Number, whole, ◌+ℚ◌, ◌*ℚ◌, ◌/ℚ◌, neg_ℚ, sign_of, truncated, floor_of, ceiling_of, rounded}
 use Rattle.gq_number.specs.Order.{abs_ℚ}
@@ -24,7 +25,7 @@ abbrev pub Outcome : Type 0
 Outcome = Result Extended ExtendedFault
 
 infixl 10 ◌then_step◌
--- where one step gives a value the next goes on with it; a fault stays
+-- if one step gives a value, the next step applies to it; a fault stays
 abbrev pub ◌then_step◌ : Outcome → (Extended → Outcome) → Outcome
 (Ok x) then_step next = next x
 (Err fault) then_step next = Err fault
@@ -100,7 +101,8 @@ product limit na y = Ok na
 product limit x na = Ok na
 product limit x y = infinity_of (direction x *ℤ direction y)
 
--- the quotient by what is not 0: over an infinity a number is 0, and an infinity over a number goes by the two signs
+-- the quotient by what is not 0: a number over an infinity is 0, and the sign of an infinity over a
+-- number follows from the two signs
 abbrev pub divided : ℕ → Extended → Extended → Outcome
 divided limit (number x) (number y) = number_if (fits limit (x /ℚ y)) (x /ℚ y)
 divided limit na y = Ok na
@@ -139,7 +141,8 @@ truncation x = to_whole truncated x
 
 -- ---- remainders
 
--- what is left of x after it is divided by y, in four steps: the quotient, without its fraction, times y, taken from x
+-- the remainder of x divided by y, in four steps: the quotient, without its fraction, times y,
+-- taken from x
 unfoldable pub remainder : ℕ → Extended → Extended → Outcome
 remainder limit x y =
     quotient limit x y then_step λ q. product limit y (truncation q) then_step λ p. difference limit x p
@@ -151,7 +154,8 @@ abbrev pub exponent_of : Extended → Option ℤ
 exponent_of (number y) = if y.denominator == 1 && nat_le (nat_abs y.numerator) 1024 then Some y.numerator else None
 exponent_of y = None
 
--- a power with a whole exponent: to the power 0 everything is 1, NA too; below 0 an infinity is 0 and 0 has none; above 0 an infinity goes by the sign of the product
+-- a power with a whole exponent: to the power 0 everything is 1, NA too; below 0 an infinity gives
+-- 0 and 0 has no power; above 0 the sign of an infinity follows the sign of the product
 abbrev pub raised : ℕ → Extended → ℤ → Outcome
 raised limit x (pos zero) = Ok (number (whole (pos 1)))
 raised limit na n = Ok na

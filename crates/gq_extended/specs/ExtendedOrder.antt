@@ -1,4 +1,6 @@
--- The order of extended numbers, the six relations, the lesser and the greater of two (GAMS User's Guide, "Conditional Expressions, Assignments and Equations", numerical relations). How NA compares is this project's own rule.
+-- The order of extended numbers, the six relations, the lesser and the greater of two (GAMS User's
+-- Guide, "Conditional Expressions, Assignments and Equations", numerical relations). How NA
+-- compares is this project's rule.
 use Rattle.std.specs.Prelude.{Bool, true, false, not, Option, Some, None}
 use Rattle.std.specs.declared.cmp.Ordering.{Ordering}
 use Rattle.std.specs.declared.cmp.Ordering.TheVariants.{Less, Equal, Greater}

@@ -8,7 +8,7 @@ ghost use Rattle.gq_extended.specs.Extended.{Extended, number, plus_infinity, mi
 ghost use Rattle.gq_extended.specs.declared.fault.ExtendedFault.TheVariants.{Divide};
 ghost use Rattle.gq_extended.specs.ExtendedOrder.{equals, is_less, is_at_most, lesser, greater};
 
-/// On numbers alone the steps are those of a field with this limit: the exact number, where it fits.
+/// On numbers alone the steps are those of a field with this limit: the exact number, if it fits.
 pub fn number_laws()
     ensures sum { (limit : ℕ) (x y : Number) →
         sum limit (number x) (number y) ≡ number_if (sum_fits limit x y) (x +ℚ y) }
@@ -36,8 +36,9 @@ pub fn number_laws()
     ensures at_most { (x y : Number) → IsTrue (is_at_most (number x) (number y)) ↔ (x ≤ℚ y) }
 {}
 
-/// Sums and products do not depend on the order of their operands, faults included; nothing is divided by 0, NA
-/// neither; and NA stays in sums, differences, products and quotients by what is not 0.
+/// Sums and products do not depend on the order of their operands, faults included. Nothing is
+/// divided by 0, not even NA. NA stays in sums, differences, products and quotients by what is not
+/// 0.
 pub fn step_laws()
     ensures sum_commutes { (limit : ℕ) (x y : Extended) → sum limit x y ≡ sum limit y x }
     ensures product_commutes { (limit : ℕ) (x y : Extended) →
@@ -54,7 +55,8 @@ pub fn step_laws()
         x ≢ number (whole (pos 0)) → quotient limit na x ≡ Ok na }
 {}
 
-/// The remainder of numbers is what division with a whole quotient leaves, and is below the divisor in magnitude.
+/// The remainder of numbers is what division with a whole quotient leaves, and is below the divisor
+/// in magnitude.
 pub fn remainder_laws()
     ensures value { (limit : ℕ) (x y r : Number) →
         remainder limit (number x) (number y) ≡ Ok (number r) →
@@ -63,8 +65,8 @@ pub fn remainder_laws()
         remainder limit (number x) (number y) ≡ Ok (number r) → abs_ℚ r <ℚ abs_ℚ y }
 {}
 
-/// The relations: `=` is being the same, NA included; `<` orders all but NA, with the infinities at its ends; and no
-/// relation but `<>` holds between NA and another value, none but `=` between NA and NA.
+/// The relations: `=` is equality, NA included; `<` orders all but NA, with the infinities at its
+/// ends; only `<>` holds between NA and another value, and only `=` between NA and NA.
 pub fn relation_laws()
     ensures equals { (x y : Extended) → IsTrue (equals x y) ↔ (x ≡ y) }
     ensures transitive { (x y z : Extended) →
@@ -85,8 +87,8 @@ pub fn relation_laws()
         greater x y ≡ (if is_at_most y x then x else y) }
 {}
 
-/// Powers with whole exponents, as in any algebra text: the first power is the number, and exponents of
-/// a number other than 0 add up.
+/// Powers with whole exponents, as in any algebra text: the first power is the number, and
+/// exponents of a number other than 0 add up.
 pub fn power_laws()
     ensures zeroth { (x : Number) → power_ℚ x (pos 0) ≡ whole (pos 1) }
     ensures first { (x : Number) → power_ℚ x (pos 1) ≡ x }

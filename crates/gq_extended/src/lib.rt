@@ -1,4 +1,5 @@
-//! Floor 1, numbers. Extended numbers: exact numbers with a limit, the two infinities and NA, and each step on them.
+//! Layer 1, numbers. Extended numbers: exact numbers with a limit, the two infinities and NA, and
+//! each step on them.
 #![tactic(auto)]
 
 mod extended;

@@ -27,8 +27,9 @@ fn whole_exponent<F: ExactField>(exponent: Ext<F>) -> Option<i32>
     }
 }
 
-/// The product of `exponent` factors `base`, by squares from the exponent's highest bit down: each number on the way
-/// is a lower power, whose parts are at most those of the result.
+/// The product of `exponent` factors `base`, by squares from the exponent's highest bit down. Each
+/// intermediate number is a lower power, whose numerator and denominator are at most those of the
+/// result.
 fn times_itself<F: ExactField>(base: F, exponent: u32) -> Result<F, Limit>
     ensures { Answers F.value result (fits F.limit (product_of exponent (F.value base)))
         (product_of exponent (F.value base)) }
@@ -60,9 +61,10 @@ fn number_power<F: ExactField>(base: F, exponent: i32) -> Result<Ext<F>, Extende
 }
 
 impl<F: ExactField> Ext<F> {
-    /// The power. `Exponent` exactly where `exponent` is no number, not whole, or above 1,024 in magnitude, whatever
-    /// is raised; else `Divide` exactly for 0 to a power below 0, and `Limit` exactly where a number is raised whose
-    /// reduced power does not fit. To the power 0 everything is 1, NA too.
+    /// The power. `Exponent` exactly if `exponent` is no number, not whole, or above 1,024 in
+    /// magnitude, whatever the base; else `Divide` exactly for 0 to a power below 0, and `Limit`
+    /// exactly for a number whose reduced power does not fit. To the power 0 everything is 1, NA
+    /// too.
     #[tactic(auto, unfolding(crate::specs::Extended::power))]
     pub fn power(self, exponent: Ext<F>) -> Result<Ext<F>, ExtendedFault>
         ensures { outcome F.value result

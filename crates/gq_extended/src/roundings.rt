@@ -38,7 +38,8 @@ impl<F: ExactField> Ext<F> {
         }
     }
 
-    /// The nearest whole number, and from the middle of two the one further from 0; an infinity and NA stay.
+    /// The nearest whole number, and from the middle of two the one further from 0; an infinity and
+    /// NA stay.
     #[tactic(auto, unfolding(crate::specs::Extended::nearest))]
     pub fn round(self) -> Ext<F>
         ensures { extended F.value result ≡ nearest (extended F.value self) }

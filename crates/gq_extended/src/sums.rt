@@ -21,8 +21,8 @@ impl<F: ExactField> Ext<F> {
         }
     }
 
-    /// The sum. `Limit` exactly where both are numbers and their sum in the field is `Limit`, and `Undefined` exactly
-    /// for two opposite infinities.
+    /// The sum. `Limit` exactly if both are numbers and their sum in the field is `Limit`, and
+    /// `Undefined` exactly for two opposite infinities.
     #[tactic(auto, unfolding(crate::specs::Extended::sum))]
     pub fn add(self, other: Ext<F>) -> Result<Ext<F>, ExtendedFault>
         ensures { outcome F.value result

@@ -35,7 +35,7 @@ cast_twice w z n e narrow wide =
     ∙ ap (λ k. to_z w (of_z w k)) (to_z-of_z w128 n (fits_signed_from_abs w128 n wide))
     ∙ to_z-of_z w n (fits_signed_from_abs w n narrow)
 
--- a fraction that fits so many bits, with its numerator by another name
+-- a fraction that fits this many bits, with its numerator by another name
 pub fitting_parts : (bits : ℕ) (f : Fraction) (n : ℤ) → n ≡ (fraction_value f).numerator → fits (2 ^ bits - 1) (fraction_value f) ≡ true → IsFraction bits n f.denominator
 fitting_parts bits f n e fit =
     let small = parts_small (fraction_value f) (2 ^ bits - 1) fit in
@@ -47,7 +47,8 @@ fitting_parts bits f n e fit =
       denominator_small = omega arith;
     }
 
--- a fraction with a numerator of its own that fits so many bits: its parts, and that they are its number
+-- a fraction with a numerator, within this many bits: the bounds of both, and that they are its
+-- number
 pub record Fitting (bits : ℕ) (f : Fraction) (n : ℤ) : Type 0 where
   pub parts : IsFraction bits n f.denominator
   pub same : (p : IsFraction bits n f.denominator) → number_of n f.denominator p ≡ fraction_value f

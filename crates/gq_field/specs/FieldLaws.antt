@@ -1,4 +1,5 @@
--- That fields whose parts have so many bits keep the laws of a field with a limit: each law once, and then for each field.
+-- Fields of fractions of some number of bits keep the laws of a field with a limit: each law once,
+-- and then for each field.
 use Rattle.std.proofs.Common.{◌≡◌, ℕ, ◌-◌, ◌^◌, ◌<◌, ◌≤◌, true, ℤ, nat_abs, refl, ap, subst, arith}
 use Rattle.std.proofs.Math.Nat.{pow-le-pow_right}
 use Rattle.std.proofs.Props.{props}

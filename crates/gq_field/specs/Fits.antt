@@ -7,8 +7,9 @@ use Rattle.gq_field.specs.declared.field.Limit.{Limit}
 abbrev pub fits : ℕ → Number → Bool
 fits limit x = nat_le (nat_abs x.numerator) limit && nat_le x.denominator limit
 
--- The sum of a/b and c/d fits where each number on the way is at most the limit in magnitude: with g the greatest common divisor of b and d,
--- u = a (d/g), v = c (b/g), their sum t, and the denominator (b/g) (d/h), h being the greatest common divisor of t and g.
+-- Whether the sum of a/b and c/d fits: each intermediate number is at most the limit in magnitude.
+-- With g the greatest common divisor of b and d, these are u = a (d/g), v = c (b/g), their sum t,
+-- and the denominator (b/g) (d/h), where h is the greatest common divisor of t and g.
 abbrev pub sum_fits : ℕ → Number → Number → Bool
 sum_fits limit x y =
     let g : ℕ = gcd x.denominator y.denominator in

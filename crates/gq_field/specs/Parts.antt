@@ -1,4 +1,4 @@
--- The parts of a value: a reduced fraction in so many bits.
+-- The numerator and denominator of a value: a reduced fraction of this many bits.
 use Rattle.std.specs.Prelude.{ℕ, ◌^◌, ◌<◌, ℤ, nat_abs}
 use Rattle.gq_number.specs.Number.{Number}
 use Rattle.gq_number.specs.Reduced.{IsReduced}

@@ -8,8 +8,8 @@ use crate::divisor::WORD;
 use crate::fraction::Fraction;
 use std::cmp::Ordering;
 
-/// How a/b and c/d compare, of any size. Where their whole parts are the same, the rests decide, and two rests compare as they do
-/// turned over, the other way round.
+/// How a/b and c/d compare, of any size. If their integer parts are equal, the remainders decide:
+/// two proper fractions compare as the reverse of their reciprocals.
 #[inline(never)]
 fn compare_by_turns(a: u128, b: u128, c: u128, d: u128) -> Ordering
     requires first { 0 < b }

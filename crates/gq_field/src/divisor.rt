@@ -1,4 +1,5 @@
-//! The greatest common divisor and the quotient of two magnitudes. Numbers of one word take no division of 128 bits.
+//! The greatest common divisor and the quotient of two magnitudes. Numbers of one word take no
+//! division of 128 bits.
 ghost use Rattle.std.specs.Prelude.{◌≡◌, ◌<◌, ◌/◌, ◌%◌};
 ghost use Rattle.gq_number.specs.Gcd.{gcd};
 
@@ -35,8 +36,8 @@ fn gcd_of_any(a: u128, b: u128) -> u128
     gcd_of_words(x as u64, y as u64) as u128
 }
 
-/// The greatest common divisor of two words: that of their odd parts, times the powers of 2 that they share. The
-/// binary algorithm of Knuth, The Art of Computer Programming, volume 2, 4.5.2.
+/// The greatest common divisor of two words: that of their odd parts, times the powers of 2 that
+/// they share. The binary algorithm of Knuth, The Art of Computer Programming, volume 2, 4.5.2.
 pub fn gcd_of_words(a: u64, b: u64) -> u64
     ensures { result ≡ gcd a b }
 {
@@ -56,8 +57,8 @@ pub fn gcd_of_words(a: u64, b: u64) -> u64
     }
 }
 
-/// The greatest common divisor of two odd numbers. The difference, without its factors of 2, takes the place of the
-/// greater, until the lesser is 1 or both are the same.
+/// The greatest common divisor of two odd numbers. The difference, without its factors of 2,
+/// replaces the greater, until the lesser is 1 or both are equal.
 pub fn gcd_of_odds(a: u64, b: u64) -> u64
     requires first { a % 2 ≡ 1 }
     requires second { b % 2 ≡ 1 }

@@ -18,8 +18,9 @@ pub struct Limit;
 
 /// A field of exact numbers whose parts are at most a limit in magnitude.
 ///
-/// A value means a number, its reduced fraction. A step answers the exact number where it fits, and `Limit` exactly where it does not:
-/// a sum or a difference fits where each number on the way does, any other step where its number does.
+/// A value means a number, its reduced fraction. A step answers the exact number if it fits, and
+/// `Limit` exactly if it does not: a sum or a difference fits if each intermediate number does, any
+/// other step if its result does.
 pub trait ExactField: Copy {
     ghost use Rattle.gq_field.specs.Fits.{fits, sum_fits, Answers};
     ghost use Rattle.gq_field.specs.Values.{fraction_value};
@@ -65,7 +66,8 @@ pub trait ExactField: Copy {
         Self::narrowed(Fraction::whole(n < 0, n.unsigned_abs() as u128))
     }
 
-    /// The fraction of `num` over `den`, which is not 0, reduced. `Limit` exactly where a part of the reduced fraction does not fit.
+    /// The reduced fraction of `num` over `den`, which is not 0. `Limit` exactly if the reduced
+    /// numerator or denominator does not fit.
     final fn from_parts(num: i128, den: u128) -> Result<Self, Limit>
         requires { 0 < den }
         ensures { Answers value result (fits limit (ratio num den)) (ratio num den) }
@@ -146,8 +148,8 @@ pub trait ExactField: Copy {
         Self::narrowed(to_nearest(self.widened()))
     }
 
-    /// The sum. `Limit` exactly where a number on the way does not fit: the numerators over the common denominator,
-    /// their sum, or the denominator of the result.
+    /// The sum. `Limit` exactly if an intermediate number does not fit: the numerators over the
+    /// common denominator, their sum, or the denominator of the result.
     final fn add(self, other: Self) -> Result<Self, Limit>
         ensures { Answers value result (sum_fits limit (value self) (value other))
             (value self +ℚ value other) }
@@ -174,7 +176,8 @@ pub trait ExactField: Copy {
         Ok(Self::narrowed(fraction))
     }
 
-    /// The quotient by `d`, which is not 0. `Limit` exactly where a part of the reduced quotient does not fit.
+    /// The quotient by `d`, which is not 0. `Limit` exactly if the reduced numerator or denominator
+    /// does not fit.
     final fn div(self, d: Self) -> Result<Self, Limit>
         requires { value d ≢ whole (pos 0) }
         ensures { Answers value result (fits limit (value self /ℚ value d))

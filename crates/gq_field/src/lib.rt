@@ -1,4 +1,5 @@
-//! Floor 1, numbers. Exact numbers with a limit: fields of fractions whose parts fit, and what a step answers that does not.
+//! Layer 1, numbers. Exact numbers with a limit: fields of fractions whose numerators and
+//! denominators fit, and what a step that does not fit answers.
 #![tactic(auto)]
 
 mod compare;

@@ -54,8 +54,8 @@ fn sum_over_same(limit: u128, x: Fraction, y: Fraction) -> Result<Fraction, Limi
     })
 }
 
-/// The sum over the common denominator, then divided by what its numerator has in common with the greatest common
-/// divisor of the denominators.
+/// The sum over the common denominator, then divided by the common divisor of its numerator and the
+/// greatest common divisor of the denominators.
 #[inline(never)]
 fn sum_over_common(limit: u128, x: Fraction, y: Fraction) -> Result<Fraction, Limit>
     requires { limit < 2 ^ 127 }

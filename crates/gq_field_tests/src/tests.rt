@@ -5,7 +5,8 @@ use std::cmp::Ordering;
 use std::process::Abort;
 use std::test::Fail;
 
-/// Parts of the values that are tried: the small ones, some that have many divisors, and those next to the limit.
+/// Numerators and denominators of the tested values: small ones, some that have many divisors, and
+/// those next to the limit.
 const PARTS: [u8; 22] = [
     1, 2, 3, 4, 5, 6, 7, 8, 9, 10, 11, 12, 42, 63, 64, 85, 96, 100, 120, 125, 126, 127,
 ];
@@ -143,7 +144,7 @@ fn tiny_answers_by_the_rules(rt: HostRuntime) -> Result<(), Fail> {
     Ok(())
 }
 
-/// Whether each call of a sign or an order answers as it is due, on numbers that fit every field.
+/// Whether each call of a sign or an order answers as expected, on numbers that fit every field.
 fn signs_are_due<F: ExactField>(half: F, seven: F) -> bool {
     half.parts() == (-1, 2)
         && half.neg().parts() == (1, 2)
@@ -153,7 +154,7 @@ fn signs_are_due<F: ExactField>(half: F, seven: F) -> bool {
         && half.cmp_value(seven) == Ordering::Less
 }
 
-/// Whether each call of arithmetic answers as it is due, on numbers that fit every field.
+/// Whether each call of arithmetic answers as expected, on numbers that fit every field.
 fn steps_are_due<F: ExactField>(half: F, seven: F) -> Result<bool, Limit> {
     let sum = half.add(F::one())?;
     let difference = half.sub(seven)?;
@@ -168,7 +169,7 @@ fn steps_are_due<F: ExactField>(half: F, seven: F) -> Result<bool, Limit> {
     Ok(is_due && quotient.parts() == (-1, 14))
 }
 
-/// Whether each call that rounds answers as it is due of -7/2.
+/// Whether each call that rounds answers as expected for -7/2.
 fn wholes_are_due<F: ExactField>(fraction: F) -> bool {
     fraction.trunc().parts() == (-3, 1)
         && fraction.floor().parts() == (-4, 1)
@@ -176,7 +177,7 @@ fn wholes_are_due<F: ExactField>(fraction: F) -> bool {
         && fraction.round_whole().parts() == (-4, 1)
 }
 
-/// Whether each call answers as it is due, on numbers that fit every field.
+/// Whether each call answers as expected, on numbers that fit every field.
 fn calls_are_due<F: ExactField>() -> Result<bool, Limit> {
     let half = F::from_parts(-3, 6)?;
     let seven = F::from_int(7);
@@ -192,7 +193,7 @@ fn half_and_tiny_answer_each_call(rt: HostRuntime) {
     assert!(rt; calls_are_due::<Tiny>() == Ok(true));
 }
 
-/// Whether products next to the limit of `Half` answer as they are due.
+/// Whether products next to the limit of `Half` are as expected.
 fn products_end_at_the_limit() -> Result<bool, Limit> {
     let large = Half::from_parts(9223372036854775807, 2)?;
     let small = Half::from_parts(2, 9223372036854775807)?;
@@ -200,8 +201,8 @@ fn products_end_at_the_limit() -> Result<bool, Limit> {
     Ok(large.mul(small) == Ok(Half::one()) && large.mul(four) == Err(Limit))
 }
 
-/// Whether sums next to the limit of `Half` answer as they are due: one whose numerators have too large a sum is refused, though its
-/// half would fit.
+/// Whether sums next to the limit of `Half` are as expected: one whose numerators have too large a
+/// sum is refused, though its half would fit.
 fn sums_end_at_the_limit() -> Result<bool, Limit> {
     let large = Half::from_parts(9223372036854775807, 2)?;
     let third = Half::from_parts(4000000000, 3)?;

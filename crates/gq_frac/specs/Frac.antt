@@ -1,4 +1,5 @@
--- The number that a value of 127 bits means, and that these values keep the laws of a field with a limit.
+-- The number that a value of 127 bits means, and that these values keep the laws of a field with a
+-- limit.
 use Rattle.std.proofs.Common.{◌≡◌, ℕ, ◌-◌, ◌^◌, ◌<◌, ◌≤◌, true, refl, arith}
 use Rattle.gq_number.specs.Number.{Number}
 use Rattle.gq_field.specs.Fits.{fits}

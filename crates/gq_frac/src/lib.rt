@@ -1,4 +1,5 @@
-//! Floor 1, numbers. Exact numbers over 128 bits, and how they are those of the field with 63 bits.
+//! Layer 1, numbers. Exact numbers over 128 bits, and how they agree with those of the field with
+//! 63 bits.
 #![tactic(auto)]
 
 mod frac;

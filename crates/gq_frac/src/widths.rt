@@ -14,7 +14,8 @@ pub fn widen(h: Half) -> Frac
     Frac::narrowed(h.widened())
 }
 
-/// The same number over 63 bits, or `None` exactly where a part of it is over 2^63 - 1 in magnitude.
+/// The same number over 63 bits, or `None` exactly if its numerator or denominator is over 2^63 - 1
+/// in magnitude.
 pub fn narrow(f: Frac) -> Option<Half>
     ensures value { IfSome result (λ h. half_value h ≡ frac_value f) }
     ensures fits { IsSome result ↔ (fits (2 ^ 63 - 1) (frac_value f) ≡ true) }

@@ -1,4 +1,4 @@
--- How an order is proved from orders that are known: their sum, each times a factor, and one identity.
+-- How to prove an order from known orders: their sum, each times a factor, and one identity.
 use Rattle.std.proofs.Common.{◌≡◌, pos, sym, ap, ◌∙◌, subst}
 use Rattle.gq_number.specs.Number.{Number, whole, ◌+ℚ◌, ◌*ℚ◌}
 use Rattle.gq_number.specs.Order.{◌≤ℚ◌, ◌<ℚ◌}
@@ -46,7 +46,8 @@ times_equal z e = ap (λ a. z *ℚ a) e
 pub clash : {u v : Number} → u <ℚ v → v ≡ u → ⊥
 clash {u} {v} h e = Order.≢_from_<ℚ u v h (sym e)
 
--- `simp linear_ℚ h` proves an order from the same order written otherwise: no differences, and sums of products in one order.
+-- `simp linear_ℚ h` proves an order from an equivalent one: no differences, and sums of products in
+-- one order.
 pub ruleset linear_ℚ = (Order.-ℚ-≤ℚ, Order.≤ℚ--ℚ, Order.-ℚ-<ℚ, Order.<ℚ--ℚ, ring_ℚ)
 
 -- `search order_ℚ` proves an order in a few steps from orders that are hypotheses.

@@ -1,4 +1,5 @@
--- A number means a fraction, which need not be reduced: the relation in which the laws of numbers are proved.
+-- A number means a fraction, which need not be reduced: the relation in which the laws of numbers
+-- are proved.
 use Rattle.std.proofs.Common.{◌≡◌, ℕ, zero, suc, ◌*◌, ◌/◌, ◌<◌, ℤ, pos, ◌*ℤ◌, nat_abs, int_div, refl, sym, ap, ◌∙◌, subst, arith}
 use Rattle.std.specs.Int.{◌∣◌}
 use Rattle.std.proofs.Math.Nat.{dvd_antisymm, dvd-mul_left}

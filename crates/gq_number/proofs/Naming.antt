@@ -1,4 +1,5 @@
--- How numbers are named: by whole numbers, by pairs of parts, by decimal literals; and when two names are of one number.
+-- How numbers are named: by whole numbers, by numerator and denominator, by decimal literals; and
+-- when two names are of one number.
 use Rattle.std.proofs.Common.{◌≡◌, ◌≢◌, ◌↔◌, ℕ, zero, suc, ◌+◌, ◌*◌, ◌^◌, ◌<◌, ℤ, pos, ◌+ℤ◌, ◌*ℤ◌, neg_ℤ, ◌≤ℤ◌, ◌<ℤ◌, refl, sym, ap, ap₂, ◌∙◌, subst₂, arith, mul-pos}
 use Rattle.std.proofs.lemmas.Int.{ints}
 use Rattle.std.proofs.lemmas.Grind.{pow_more}

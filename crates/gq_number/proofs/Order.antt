@@ -210,7 +210,7 @@ pub <ℚ--ℚ : (x y z : Number) → (x <ℚ y -ℚ z) ↔ (x +ℚ z <ℚ y)
 <ℚ--ℚ x y z =
     (λ h. subst (λ a. x +ℚ z <ℚ a) (back y z) (+ℚ-<ℚ_right x (y -ℚ z) z h), λ h. <ℚ_cancel_right x (y -ℚ z) z (subst (λ a. x +ℚ z <ℚ a) (sym (back y z)) h))
 
--- what is left between two numbers
+-- the difference of two numbers in order is at least 0
 pub gap_≤ℚ : (x y : Number) → x ≤ℚ y → whole (pos 0) ≤ℚ y -ℚ x
 gap_≤ℚ x y h = (≤ℚ--ℚ (whole (pos 0)) y x).1 (subst (λ a. a ≤ℚ y) (sym (zero-+ℚ x)) h)
 

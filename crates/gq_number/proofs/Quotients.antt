@@ -1,4 +1,5 @@
--- The laws of reciprocals and quotients, and the set of them by which `simp` proves an identity with quotients.
+-- The laws of reciprocals and quotients, and the set of them by which `simp` proves an identity
+-- with quotients.
 use Rattle.std.proofs.Common.{◌≡◌, ◌≢◌, ◌↔◌, ℕ, zero, suc, ◌*◌, ℤ, pos, negsuc, ◌*ℤ◌, neg_ℤ, ◌⊎◌, inl, inr, refl, sym, ap, ◌∙◌, arith, zero-mul}
 use Rattle.gq_number.specs.Number.{Number, whole, turned_over, ◌+ℚ◌, ◌-ℚ◌, ◌*ℚ◌, ◌/ℚ◌, neg_ℚ, inv_ℚ}
 use Rattle.gq_number.proofs.Whole.{from_less, less_pos, less_negsuc, less-*ℤ, less-neg}
@@ -170,5 +171,7 @@ pub /ℚ-≡ : (x y z : Number) → y ≢ whole (pos 0) → (x /ℚ y ≡ z) ↔
 pub ≡-/ℚ : (x y z : Number) → z ≢ whole (pos 0) → (x ≡ y /ℚ z) ↔ (x *ℚ z ≡ y)
 ≡-/ℚ x y z some = (λ e. ap (λ w. w *ℚ z) e ∙ /ℚ-*ℚ_self y z some, λ e. sym (*ℚ-/ℚ_self x z some) ∙ ap (λ w. w /ℚ z) e)
 
--- `simp field_ℚ` proves an identity with quotients: all is brought over one denominator, and the equation multiplied out. That a divisor is not 0 is to be a hypothesis, or to follow from one by a lemma in the list.
+-- `simp field_ℚ` proves an identity with quotients: it brings all over one denominator and
+-- multiplies the equation out. That a divisor is not 0 has to be a hypothesis, or to follow from
+-- one by a lemma in the list.
 pub ruleset field_ℚ = (/ℚ-≡, ≡-/ℚ, inv_is, /ℚ-/ℚ, /ℚ-/ℚ_right, *ℚ-/ℚ, /ℚ-*ℚ, +ℚ_over, over-+ℚ, -ℚ_over, over--ℚ, *ℚ-≢-zero, ring_ℚ)

@@ -1,4 +1,5 @@
--- The laws of a ring that follow, and the set of them by which `simp` proves an identity of numbers.
+-- The laws of a ring that follow, and the set of them by which `simp` proves an identity of
+-- numbers.
 use Rattle.std.proofs.Common.{◌≡◌, ◌↔◌, pos, sym, ap, ◌∙◌}
 use Rattle.gq_number.specs.Number.{Number, whole, ◌+ℚ◌, ◌-ℚ◌, ◌*ℚ◌, neg_ℚ}
 use Rattle.gq_number.proofs.Field.{+ℚ_comm, +ℚ_assoc, +ℚ-zero, +ℚ-neg, -ℚ_is, *ℚ_comm, *ℚ_assoc, *ℚ-one, *ℚ-+ℚ, /ℚ_is}
@@ -99,5 +100,7 @@ pub -ℚ-≡ : (x y z : Number) → (x -ℚ y ≡ z) ↔ (x ≡ z +ℚ y)
 pub ≡--ℚ : (x y z : Number) → (x ≡ y -ℚ z) ↔ (x +ℚ z ≡ y)
 ≡--ℚ x y z = (λ e. ap (λ w. w +ℚ z) e ∙ back y z, λ e. sym (away x z) ∙ ap (λ w. w -ℚ z) e)
 
--- `simp ring_ℚ` proves an identity of numbers: each side becomes one difference of sums of products, and the equation one between sums of products in one order. An equation that is known goes before it: `simp (e, ring_ℚ)`.
+-- `simp ring_ℚ` proves an identity of numbers: each side becomes a difference of sums of products,
+-- and the equation one between sums of products in one order. A known equation goes before it:
+-- `simp (e, ring_ℚ)`.
 pub ruleset ring_ℚ = (-ℚ-≡, ≡--ℚ, neg_is, -ℚ-zero, +ℚ--ℚ, -ℚ-+ℚ, -ℚ--ℚ, -ℚ--ℚ_right, *ℚ--ℚ, -ℚ-*ℚ, +ℚ-zero, zero-+ℚ, *ℚ-one, one-*ℚ, *ℚ-zero, zero-*ℚ, *ℚ-+ℚ, +ℚ-*ℚ, +ℚ_assoc, +ℚ_comm, +ℚ_left_comm, *ℚ_assoc, *ℚ_comm, *ℚ_left_comm)

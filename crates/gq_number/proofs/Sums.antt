@@ -187,7 +187,8 @@ pub sum_by_ℚ_zero_only : {X : Type 0} (f : X → Number) (xs : List X) → All
 sum_by_ℚ_zero_only f xs h e =
     All-from_recursion (λ x. f x ≡ whole (pos 0)) xs (zero_terms f xs (recursion_from_All (λ x. whole (pos 0) ≤ℚ f x) xs h) e)
 
--- `simp (sums_ℚ, ring_ℚ)` takes a sum apart: over a list that is written out, over an append, and by its terms
+-- `simp (sums_ℚ, ring_ℚ)` takes a sum apart: over a list that is written out, over an append, and
+-- by its terms
 pub ruleset sums_ℚ = (sum_by_ℚ-nil, sum_by_ℚ-cons, sum_by_ℚ-append, sum_by_ℚ-zero, sum_by_ℚ-+ℚ, sum_by_ℚ--ℚ, sum_by_ℚ-neg, sum_by_ℚ-*ℚ, sum_by_ℚ-*ℚ_right, sum_by_ℚ-map, sum_by_ℚ-flat_map)
 
 -- ---- inner products

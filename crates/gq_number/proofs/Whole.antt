@@ -1,4 +1,5 @@
--- The laws of whole numbers that are needed above them. A whole number is read as one counting number less another; an identity is then one of counting numbers.
+-- The laws of whole numbers that the other laws need. A whole number is read as one counting number
+-- less another, which makes an identity one of counting numbers.
 use Rattle.std.proofs.Common.{◌≡◌, ℕ, suc, ◌+◌, ◌*◌, ◌/◌, ◌<◌, ℤ, pos, negsuc, ◌+ℤ◌, ◌*ℤ◌, neg_ℤ, nat_abs, int_div, ap, ◌∙◌, arith}
 use Rattle.std.proofs.lemmas.Int.{ints, unsigned_abs-mul}
 use Rattle.std.proofs.Math.Nat.{eq_of_mul-eq-mul_right, div-mul_cancel}

@@ -1,7 +1,8 @@
 -- The greatest common divisor of two counting numbers.
 use Rattle.std.specs.Prelude.{ℕ, zero, suc, ◌%◌}
 
--- what Euclid's algorithm has after at most so many steps: the greatest common divisor where they are more than b
+-- what Euclid's algorithm has after at most `steps` steps: the greatest common divisor if there are
+-- more steps than b
 unfoldable pub gcd_in_steps : ℕ → ℕ → ℕ → ℕ
 gcd_in_steps zero a b = a
 gcd_in_steps (suc steps) a zero = a

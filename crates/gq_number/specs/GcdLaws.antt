@@ -1,4 +1,5 @@
--- That Euclid's algorithm finds the greatest common divisor, and what is left of two numbers once it is taken out: the definition of a fraction needs these.
+-- Euclid's algorithm finds the greatest common divisor, and what remains of two numbers without it:
+-- the definition of a fraction uses these.
 use Rattle.std.proofs.Common.{◌≡◌, ℕ, zero, suc, ◌+◌, ◌*◌, ◌/◌, ◌%◌, ◌<◌, refl, sym, ap, ◌∙◌, subst, subst₂, arith, mul-one, zero-mul, mod-lt}
 use Rattle.std.specs.Int.{◌∣◌, IsGcd}
 use Rattle.std.proofs.lemmas.Nat.Gcd.{IsGcd-from_zero, IsGcd-from_mod, IsGcd-swap, same_from_IsGcd}
@@ -23,7 +24,7 @@ pub gcd-scaled : (a b c : ℕ) → 0 < c → IsGcd (a * c) (b * c) (gcd a b * c)
 unfolding gcd
 gcd-scaled a b c pos_c = scaled_in_steps (suc b) a b c (omega arith) pos_c
 
--- it is what its name says
+-- gcd a b is the greatest common divisor of a and b
 pub gcd_is : (a b : ℕ) → IsGcd a b (gcd a b)
 gcd_is a b = subst₂ (λ x y. IsGcd x y (gcd a b)) (mul-one a) (mul-one b) (subst (λ g. IsGcd (a * 1) (b * 1) g) (mul-one (gcd a b)) (gcd-scaled a b 1 (omega arith)))
 

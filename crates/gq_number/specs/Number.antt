@@ -70,12 +70,14 @@ abbrev pub quotient_towards_zero : ℤ → ℕ → ℤ
 quotient_towards_zero (pos n) d = pos (n / d)
 quotient_towards_zero (negsuc n) d = neg_ℤ (pos (suc n / d))
 
--- the greatest whole number that is at most n over d: for n = -(k + 1), one below the negated quotient of k
+-- the greatest whole number that is at most n over d: for n = -(k + 1), one below the negated
+-- quotient of k
 abbrev pub quotient_down : ℤ → ℕ → ℤ
 quotient_down (pos n) d = pos (n / d)
 quotient_down (negsuc k) d = negsuc (k / d)
 
--- the whole number nearest to n over d: twice the magnitude and one denominator, over two denominators, without fraction
+-- the whole number nearest to n over d: twice the magnitude plus one denominator, over two
+-- denominators, without fraction
 abbrev pub quotient_to_nearest : ℤ → ℕ → ℤ
 quotient_to_nearest (pos n) d = pos ((2 * n + d) / (2 * d))
 quotient_to_nearest (negsuc n) d = neg_ℤ (pos ((2 * suc n + d) / (2 * d)))

@@ -1,4 +1,5 @@
--- The order of exact numbers, that of fractions by their cross products (any algebra text); the lesser, the greater and the magnitude.
+-- The order of exact numbers, that of fractions by their cross products (any algebra text); the
+-- lesser, the greater and the magnitude.
 use Rattle.std.specs.Prelude.{pos, ◌*ℤ◌, ◌≤ℤ◌, ◌<ℤ◌}
 use Rattle.std.specs.declared.cmp.Ordering.{Ordering}
 use Rattle.std.specs.Ordering.{int_cmp}

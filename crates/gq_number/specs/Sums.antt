@@ -1,4 +1,5 @@
--- Finite sums of exact numbers over lists (Graham, Knuth and Patashnik, Concrete Mathematics, chapter 2), and inner products of lists and rows (any text on linear algebra).
+-- Finite sums of exact numbers over lists (Graham, Knuth and Patashnik, Concrete Mathematics,
+-- chapter 2), and inner products of lists and rows (any text on linear algebra).
 use Rattle.std.specs.Prelude.{pos, List, [], ◌∷◌, map}
 use Rattle.gq_number.specs.Number.{Number, whole, ◌+ℚ◌, ◌*ℚ◌}
 

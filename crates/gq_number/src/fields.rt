@@ -33,8 +33,8 @@ pub fn cancellation_laws()
         (x ≡ whole (pos 0)) ⊎ (y ≡ whole (pos 0)) }
 {}
 
-/// Fractions of numbers: how they are added, multiplied and divided, and which number each is, as in any algebra
-/// text. The divisor 0 gives 0.
+/// Fractions of numbers: how they are added, multiplied and divided, and which number each is, as
+/// in any algebra text. The divisor 0 gives 0.
 pub fn quotient_laws()
     ensures by_zero { (x : Number) → x /ℚ whole (pos 0) ≡ whole (pos 0) }
     ensures by_one { (x : Number) → x /ℚ whole (pos 1) ≡ x }

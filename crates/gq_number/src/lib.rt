@@ -1,4 +1,4 @@
-//! Floor 1, numbers. What exact numbers are, and their laws.
+//! Layer 1, numbers. What exact numbers are, and their laws.
 #![tactic(auto)]
 
 mod divisors;

@@ -53,8 +53,8 @@ pub fn sign_laws()
         whole (pos 0) <ℚ x → y <ℚ whole (pos 0) → x /ℚ y <ℚ whole (pos 0) }
 {}
 
-/// The lesser and the greater of two numbers, and the magnitude, with the triangle inequality, as in
-/// any text on real analysis.
+/// The lesser and the greater of two numbers, and the magnitude, with the triangle inequality, as
+/// in any text on real analysis.
 pub fn extreme_laws()
     ensures min_is_one { (x y : Number) → (min_ℚ x y ≡ x) ⊎ (min_ℚ x y ≡ y) }
     ensures min_is_greatest_below { (x y z : Number) → (z ≤ℚ min_ℚ x y) ↔ ((z ≤ℚ x) × (z ≤ℚ y)) }

@@ -17,7 +17,7 @@ one_digit fraction digit left less divisor rest p e f =
     let unit : 10 ^ (p + 1) ≡ 10 * 10 ^ p = (let g : p + 1 ≡ suc p = omega arith in ap (λ n. 10 ^ n) g) ∙ pow-succ' 10 p in
     omega arith ∙ ap (λ u. rest * u) (sym unit)
 
--- the decimals and what is left, for the whole fraction
+-- the decimals and the remainder, for the whole fraction
 units_are : (above below t fraction left : ℕ) → fraction * below + left ≡ above % below * t → above * t ≡ (above / below * t + fraction) * below + left
 units_are above below t fraction left e = let split = div-add-mod' above below in ap (λ n. n * t) (sym split) ∙ omega arith
 

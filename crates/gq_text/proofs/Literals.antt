@@ -50,7 +50,7 @@ whole_is m u w k e =
     let split : 10 ^ u ≡ 10 ^ w * 10 ^ k = ap (λ n. 10 ^ n) e ∙ pow-add 10 w k in
     cross_nat (m * 10 ^ u) (10 ^ w) (m * 10 ^ k) 1 (tens_above w) (omega arith) (ap (λ t. m * t * 1) split ∙ omega arith) ∙ ratio-one (pos (m * 10 ^ k))
 
--- and with more below, one power stands below
+-- and with more powers in the denominator, one remains there
 fraction_is : (m u w k : ℕ) → w ≡ u + k → ratio (pos (m * 10 ^ u)) (10 ^ w) ≡ ratio (pos m) (10 ^ k)
 fraction_is m u w k e =
     let split : 10 ^ w ≡ 10 ^ u * 10 ^ k = ap (λ n. 10 ^ n) e ∙ pow-add 10 u k in

@@ -1,4 +1,4 @@
--- That the rounded text is the nearest of its form, and that a number's shortest digits are its own.
+-- The rounded text is the nearest of its form, and the shortest digits of a number determine it.
 use Rattle.std.proofs.Common.{◌≡◌, ◌≢◌, ℕ, suc, ◌*◌, ◌%◌, ◌^◌, List, sym, ap, ◌∙◌, subst, subst₂, arith, inl, inr, ℤ, pos, negsuc}
 use Rattle.gq_number.specs.Number.{Number, whole, ratio, ◌+ℚ◌, ◌-ℚ◌, ◌*ℚ◌, ◌/ℚ◌, neg_ℚ, rounded}
 use Rattle.gq_number.specs.Order.{◌≤ℚ◌, ◌<ℚ◌, abs_ℚ}

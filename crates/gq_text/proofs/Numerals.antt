@@ -5,7 +5,7 @@ use Rattle.std.proofs.Math.Pow.{pow-add}
 use Rattle.std.proofs.lemmas.Bool.{cases_lt}
 use Rattle.gq_text.specs.Numeral.{AreDigits, spelled, IsNumeral}
 
--- what digits spell, by a front and the digits behind it
+-- the number that digits spell, by a prefix and the digits after it
 pub spelled-append : (xs ys : List ℕ) → spelled (xs ++ ys) ≡ spelled xs * 10 ^ length ys + spelled ys
 spelled-append [] ys = omega arith
 spelled-append (x ∷ xs) ys =
@@ -25,7 +25,7 @@ pub AreDigits_front : (xs ys : List ℕ) → AreDigits (xs ++ ys) → AreDigits 
 AreDigits_front [] ys h = tt
 AreDigits_front (x ∷ xs) ys h = (h.0, h.1, AreDigits_front xs ys h.2)
 
--- so many digits spell less than ten to their number
+-- the number that n digits spell is less than 10^n
 pub spelled-lt : (xs : List ℕ) → AreDigits xs → spelled xs < 10 ^ length xs
 spelled-lt [] h = omega arith
 spelled-lt (x ∷ xs) h =
@@ -33,7 +33,7 @@ spelled-lt (x ∷ xs) h =
     let top : (x - 48) * 10 ^ length xs ≤ 9 * 10 ^ length xs = mul-le-mul_right (10 ^ length xs) (omega arith) in
     subst (λ p. (x - 48) * 10 ^ length xs + spelled xs < p) (sym (pow-succ' 10 (length xs))) (omega arith)
 
--- a digit and a rest below its unit are known by what they come to
+-- a digit and a rest below its unit are determined by their sum
 not_below : (a b r s u : ℕ) → a < b → a * u + r ≡ b * u + s → r < u → ⊥
 not_below a b r s u low e small =
     let room : (a + 1) * u ≤ b * u = mul-le-mul_right u (omega arith) in
@@ -56,7 +56,7 @@ same_digits (x ∷ xs) (y ∷ ys) h k l e =
     let split = one_split (x - 48) (y - 48) (spelled xs) (spelled ys) (10 ^ length xs) (subst (λ u. (x - 48) * 10 ^ length xs + spelled xs ≡ (y - 48) * u + spelled ys) (sym unit) e) (spelled-lt xs h.2) (subst (λ u. spelled ys < u) (sym unit) (spelled-lt ys k.2)) in
     ap₂ (λ (b : ℕ) (bs : List ℕ). b ∷ bs) (omega (arith, split.0)) (same_digits xs ys h.2 k.2 as_long split.1)
 
--- a numeral of several digits is at least ten to the number of those behind the first
+-- a numeral of several digits is at least ten to the number of digits after the first
 numeral_low : (n b : ℕ) (bs : List ℕ) → IsNumeral n (b ∷ bs) → 0 < length bs → 10 ^ length bs ≤ n
 numeral_low n b bs numeral more =
     let first : b ≢ 48 = numeral.first (omega arith) in

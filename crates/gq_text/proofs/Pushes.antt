@@ -1,11 +1,11 @@
--- Digits that are appended one after another, from the first on.
+-- Digits that are appended in order, from the first on.
 use Rattle.std.proofs.Common.{◌≡◌, ℕ, zero, suc, ◌+◌, ◌-◌, ◌*◌, ◌/◌, ◌%◌, ◌^◌, ◌<◌, ◌≤◌, List, [], ◌∷◌, ◌++◌, length, refl, sym, ap, ◌∙◌, subst, arith, append_assoc, length-append, div-add-mod', mod-lt, div-lt_iff_lt-mul}
 use Rattle.std.proofs.Math.Nat.{pow-succ', one-le-pow}
 use Rattle.gq_text.specs.Numeral.{AreDigits, spelled, IsNumeral}
 use Rattle.gq_text.specs.Appends.{AppendsDigits, AppendsNumeral}
 use Rattle.gq_text.proofs.Numerals.{spelled_push, spelled-lt, AreDigits-append}
 
--- of n in so many places all digits but the last so many are appended, and this is left
+-- of n with `places` digits all but the last `left` are appended, and this rest remains
 pub record HasDigits (old now : List ℕ) (n places left rest : ℕ) : Type 0 where
   pub digits : List ℕ
   pub appended : now ≡ old ++ digits
@@ -58,7 +58,7 @@ tenth_small n (suc k) some small =
     let less : k ≡ suc k - 1 = omega arith in
     subst (λ j. n / 10 < 10 ^ j) less ((div-lt_iff_lt-mul {k = 10} {x = n} {y = 10 ^ k} (omega arith)).1 (omega arith))
 
--- the digits of a tenth, and behind them the last digit
+-- the digits of a tenth, and the last digit after them
 pub digit_behind : (old now : List ℕ) (n places : ℕ) → 0 < places → AppendsDigits old now (n / 10) (places - 1) → AppendsDigits old (now ++ (48 + n % 10) ∷ []) n places
 digit_behind old now n places some tenth =
     let last : n % 10 < 10 = mod-lt n (omega arith) in

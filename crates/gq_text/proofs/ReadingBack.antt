@@ -16,7 +16,7 @@ use Rattle.gq_text.specs.ExactText.{whole_text, exact_text, signed}
 use Rattle.gq_text.proofs.Exacts.{numeral_is, fitting, either}
 use Rattle.gq_text.proofs.Splits.{one_split, all_in_front}
 
--- what is there where a fact holds is there, where it does
+-- if a value exists exactly when a fact holds, and the fact holds, the value exists
 some-iff : (o : Option ℕ) (P : Type 0) (v : ℕ) → SomeIff o P v → P → IsSomeAnd o (λ m. m ≡ v)
 some-iff None P v h p = absurd (h p)
 some-iff (Some m) P v h p = h.1
@@ -32,14 +32,14 @@ digits_back text digits rest o n small is split found =
     let value : 0 * 10 ^ length digits + spelled digits ≡ n = omega (arith, spells) in
     subst (λ v. IsSomeAnd o (λ k. k ≡ v)) value (some-iff o (0 * 10 ^ length digits + spelled digits < 2 ^ 128) (0 * 10 ^ length digits + spelled digits) found (omega (arith, value, small)))
 
--- and nothing stands behind them
+-- and nothing follows them
 pub digits_alone : (text digits rest : List ℕ) (n : ℕ) → n < 2 ^ 128 → text ≡ decimal n → SplitsDigits text digits rest → rest ≡ []
 digits_alone text digits rest n small is split =
     (all_in_front text digits rest split (subst AreDigits (sym is) (numeral_is n (omega (arith, small))).digits)).1
 
 -- ---- the parts of an exact text
 
--- what stands behind a numerator: nothing, or `/` and a denominator
+-- what follows a numerator: nothing, or `/` and a denominator
 abbrev pub over_text : Number → List ℕ
 over_text x = if x.denominator == 1 then [] else codes "/" ++ decimal x.denominator
 
@@ -87,7 +87,7 @@ sign_split (negsuc n) text tail negative unsigned small is split =
       ]
     ]
 
--- a numerator's digits, and what stands behind them
+-- a numerator's digits, and what follows them
 pub record HasParts (x : Number) (negative : Bool) (digits rest : List ℕ) : Type 0 where
   pub signed_is : x.numerator ≡ signed negative (spelled digits)
   pub small : spelled digits < 2 ^ 127
@@ -102,7 +102,7 @@ parts_back x text unsigned digits rest negative small is sign split =
     let spells : spelled digits ≡ front.magnitude = ap spelled same.0 ∙ m.spells in
     record { signed_is = front.signed_is ∙ ap (signed negative) (sym spells); small = omega (arith, spells, size, small); rest_is = same.1 }
 
--- what stands behind a numerator is read as the denominator
+-- what follows a numerator is read as the denominator
 pub below_back : (x : Number) (rest : List ℕ) (o : Option ℕ) → x.denominator < 2 ^ 127 → rest ≡ over_text x → (rest ≡ [] → IsSomeAnd o (λ d. d ≡ 1)) → ((n : ℕ) → n < 2 ^ 128 → rest ≡ 47 ∷ decimal n → IsSomeAnd o (λ d. d ≡ n)) → IsSomeAnd o (λ d. d ≡ x.denominator)
 below_back x rest o small is one other =
     either (x.denominator == 1) (IsSomeAnd o (λ d. d ≡ x.denominator))

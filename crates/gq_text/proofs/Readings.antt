@@ -26,7 +26,7 @@ no_digits text before behind rest x p none_before none_behind h =
     let behind_is : length behind ≡ length d.behind = ap length same.same_behind in
     omega arith
 
--- with something behind the digits that is no exponent
+-- with something after the digits that is no exponent
 pub no_power : (text before behind rest : List ℕ) (x : Number) → Divides text before behind rest → ((e : ℤ) → ¬ IsExponent rest e) → ¬ MeansNumber text x
 no_power text before behind rest x p none h =
     let d = h.0 in

@@ -23,7 +23,7 @@ nearest_nat n m c d some_c some_d e =
     let top : (2 * n + c) * d ≡ (2 * m + d) * c = omega arith in
     sym (mul-div-mul_right (2 * n + c) (2 * c) some_d) ∙ ap₂ (λ a b. a / b) top (let f : 2 * c * d ≡ 2 * d * c = omega arith in f) ∙ mul-div-mul_right (2 * m + d) (2 * d) some_c
 
--- so many units, with the sign of a whole number
+-- k units, with the sign of a whole number
 pub with_sign_of : ℤ → ℕ → ℤ
 with_sign_of (pos n) k = pos k
 with_sign_of (negsuc n) k = neg_ℤ (pos k)
@@ -64,7 +64,7 @@ rounded_units x t some =
 
 -- ---- the text
 
--- a whole part and decimals below their unit are those of so many units
+-- a whole part and decimals below their unit are the quotient and the remainder of k
 parts_back : (whole' fraction t k : ℕ) → 0 < t → whole' * t + fraction ≡ k → fraction < t → (k / t ≡ whole') × (k % t ≡ fraction)
 parts_back whole' fraction t k some e small =
     let quotient : k / t ≡ whole' = div-eq_of_lt-le {k = whole'} t {m = k} (omega arith) (omega arith) in
@@ -87,7 +87,7 @@ IsFixed_from before now decimals' d whole' fraction k n h l s small e layout =
 not_below_zero : (n : ℕ) → int_lt (pos n) (pos 0) ≡ false
 not_below_zero n = grind (arith, nat_tests)
 
--- the text of a magnitude behind the sign that it has with a whole number
+-- the text of a magnitude after its sign, which is that of a whole number
 pub WithSign_from : (Is : ℕ → List ℕ → Type 0) (n : ℤ) (k : ℕ) (negative : Bool) (text rest : List ℕ) → negative ≡ (int_lt n (pos 0) && nat_lt 0 k) → text ≡ sign_text negative ++ rest → Is k rest → WithSign Is (with_sign_of n k) text
 unfolding with_sign_of
 WithSign_from Is (pos n) k negative text rest sign layout h =

@@ -1,4 +1,5 @@
--- That a text with a sign, and a quotient's text, are read in one way: a decimal begins with no `-` and has no `/`.
+-- A text with a sign, and a quotient's text, are read in one way: a decimal begins with no `-` and
+-- has no `/`.
 use Rattle.std.proofs.Common.{◌≡◌, ◌≢◌, ℕ, ◌+◌, ◌<◌, List, [], ◌∷◌, ◌++◌, length, codes, refl, sym, ap, ap₂, ◌∙◌, subst, arith, inl, inr, append_assoc, ℤ}
 use Rattle.gq_number.specs.Number.{Number, ◌/ℚ◌, neg_ℚ}
 use Rattle.gq_text.specs.Numeral.{AreDigits}
@@ -102,7 +103,7 @@ no_slash_means text x m =
       | inr minus ↦ subst HasNoSlash (sym minus.2) (no_slash_at 45 minus.0 (λ e. absurd (omega arith)) (no_slash_number minus.0 minus.1 minus.3))
     ]
 
--- a slash parts a text in one way, where none stands in front of it
+-- a slash splits a text in one way, if none occurs before it
 one_slash : (a b c d : List ℕ) → HasNoSlash a → HasNoSlash c → a ++ 47 ∷ b ≡ c ++ 47 ∷ d → (a ≡ c) × (b ≡ d)
 unfolding HasNoSlash
 one_slash [] b [] d h k e = (refl, cc)

@@ -13,7 +13,7 @@ append_nil : (xs : List ℕ) → xs ++ [] ≡ xs
 append_nil [] = refl
 append_nil (x ∷ xs) = ap (λ (l : List ℕ). x ∷ l) (append_nil xs)
 
--- ---- digits in front
+-- ---- digits at the start
 
 digit_range : (b : ℕ) → is_ascii_digit b ≡ true → (48 ≤ b) × (b ≤ 57)
 digit_range b h = grind (arith, nat_tests)
@@ -27,7 +27,7 @@ counted_step b n bs true e split =
     record { text_is = ap (λ (l : List ℕ). b ∷ l) split.text_is; are_digits = (range.0, range.1, split.are_digits); all = split.all }
 counted_step b n bs false e split = record { text_is = refl; are_digits = tt; all = no_digit b e }
 
--- what is counted are the digits in front
+-- the count is the number of digits at the start
 pub counted_digits : (text : List ℕ) → SplitsDigits text (take (prefix_len is_ascii_digit text) text) (drop (prefix_len is_ascii_digit text) text)
 counted_digits [] = record { text_is = refl; are_digits = tt; all = tt }
 counted_digits (b ∷ bs) =
@@ -135,7 +135,7 @@ unfolding HasDigitsAndValue
 with_digits digits ds negative sign e h n same =
     (subst (λ l. IsSomeDigits l) same.0 h, same.1 ∙ ap (λ b. exponent_of b digits) (sym n))
 
--- a signed number has its sign in front
+-- a signed number has its sign at the start
 pub signed_digits : (text digits : List ℕ) (negative : Bool) (e : ℤ) → IsSigned text e → SplitsSign text negative digits → IsSomeDigits digits × (e ≡ exponent_of negative digits)
 unfolding HasValue HasDigitsAndValue
 signed_digits text digits negative e s p =
@@ -183,12 +183,12 @@ pub one_exponent : (text : List ℕ) (e f : ℤ) → IsExponent text e → IsExp
 one_exponent [] e f h k = h ∙ sym k
 one_exponent (mark ∷ text) e f h k = one_signed text e f h.1 k.1
 
--- digits are all in front
+-- digits alone are all at the start
 pub all_in_front : (text digits rest : List ℕ) → SplitsDigits text digits rest → AreDigits text → (digits ≡ text) × (rest ≡ [])
 all_in_front text digits rest p h =
     let same = one_split digits text rest [] p.are_digits h p.all tt (sym p.text_is ∙ sym (append_nil text)) in (same.0, same.1)
 
--- without digits, or with more behind them, no exponent is there
+-- without digits, or with more after them, there is no exponent
 pub no_exponent : (text unsigned digits rest : List ℕ) (negative : Bool) (e : ℤ) → 0 < length text → SplitsSign (take (length text - 1) (drop 1 text)) negative unsigned → SplitsDigits unsigned digits rest → (0 < length digits → length rest ≢ 0) → ¬ IsExponent text e
 no_exponent [] unsigned digits rest negative e some p q wrong h = absurd (omega arith)
 no_exponent (mark ∷ signed) unsigned digits rest negative e there p q wrong h =
@@ -200,7 +200,7 @@ no_exponent (mark ∷ signed) unsigned digits rest negative e there p q wrong h 
 
 -- ---- decimals
 
--- what stands in an exponent's text begins with no digit and no point
+-- an exponent's text begins with no digit and no point
 BeginsNoDigit-exponent : (text : List ℕ) (e : ℤ) → IsExponent text e → BeginsNoDigit text
 BeginsNoDigit-exponent [] e h = tt
 BeginsNoDigit-exponent (mark ∷ text) e h = λ low. elim h.0 [ inl small ↦ omega arith | inr large ↦ omega arith ]

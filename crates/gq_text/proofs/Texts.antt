@@ -75,7 +75,7 @@ exact_reads_back x text h =
 
 -- ---- one text
 
--- behind its sign a whole number has one text, where magnitudes have one
+-- a whole number has one text after its sign, if magnitudes have one
 pub one_with_sign : (Is : ℕ → List ℕ → Type 0) (z : ℤ) (s t : List ℕ) → ((n : ℕ) (s t : List ℕ) → Is n s → Is n t → s ≡ t) → WithSign Is z s → WithSign Is z t → s ≡ t
 one_with_sign Is (pos n) s t one h k = one n s t h k
 one_with_sign Is (negsuc n) s t one h k = h.1 ∙ ap (λ (l : List ℕ). codes "-" ++ l) (one (suc n) h.0 k.0 h.2 k.2) ∙ sym k.1

@@ -1,4 +1,4 @@
--- Digits read one after another, and zeros at their end.
+-- Digits read in order, and zeros at their end.
 use Rattle.std.proofs.Common.{◌≡◌, ◌≢◌, ℕ, zero, suc, ◌+◌, ◌-◌, ◌*◌, ◌%◌, ◌^◌, ◌<◌, ◌≤◌, List, [], ◌∷◌, ◌++◌, length, get_or, take, drop, replicate, refl, sym, ap, ap₂, ◌∙◌, subst, arith, inl, inr}
 use Rattle.std.proofs.Math.Nat.{pow-succ', le-mul_of_pos_right}
 use Rattle.std.proofs.Math.Pow.{pow-add}
@@ -9,9 +9,9 @@ use Rattle.gq_text.specs.Shortest.{Shortens}
 use Rattle.gq_text.proofs.Numerals.{spelled-append, spelled_push, AreDigits_front}
 use Rattle.gq_text.proofs.Literals.{tens_above}
 
--- ---- digits one after another
+-- ---- digits in order
 
--- a front of the digits spells no more than all of them
+-- a prefix of the digits spells at most the number that all of them spell
 pub front-le : (front i : ℕ) (ds : List ℕ) → i ≤ length ds → front * 10 ^ i + spelled (take i ds) ≤ front * 10 ^ length ds + spelled ds
 front-le front i ds within =
     let rest = length ds - i in
@@ -63,7 +63,7 @@ HasNoZeroBehind-from (b ∷ bs) h last =
     let range = digit_at (b ∷ bs) (length bs) h (omega arith) in
     inr (λ e. at (omega (arith, last_digit b bs h)))
 
--- digits in front do not change the last one
+-- digits before it do not change the last digit
 HasNoZeroBehind-append : (xs ys : List ℕ) → AreDigits ys → 0 < length ys → get_or ys (length ys - 1) 0 ≢ 48 → HasNoZeroBehind (spelled (xs ++ ys))
 HasNoZeroBehind-append xs [] h some last = absurd (omega arith)
 HasNoZeroBehind-append xs (b ∷ bs) h some last =
@@ -81,7 +81,7 @@ append_nil : (xs : List ℕ) → xs ++ [] ≡ xs
 append_nil [] = refl
 append_nil (x ∷ xs) = ap (λ (l : List ℕ). x ∷ l) (append_nil xs)
 
--- where nothing is left behind the point, the zeros before it go too
+-- if nothing remains after the point, the zeros before it go too
 pub none_behind : (before behind whole fraction : List ℕ) → AreDigits before → length fraction ≡ 0 → behind ≡ fraction ++ replicate (length behind - length fraction) 48 → before ≡ whole ++ replicate (length before - length whole) 48 → length whole ≤ length before → get_or whole (length whole - 1) 0 ≢ 48 → Shortens before behind whole fraction
 none_behind before behind whole fraction h empty zeros zeros_before shorter last =
     let none : fraction ≡ [] = empty_list fraction empty in
@@ -102,7 +102,7 @@ none_behind before behind whole fraction h empty zeros zeros_before shorter last
       spells = spelled-append before behind ∙ ap₂ (λ a b. a * 10 ^ length behind + b) before_is behind_is ∙ ap (λ n. spelled whole * 10 ^ z * 10 ^ n + 0) places ∙ omega arith ∙ ap₂ (λ a u. a * u) (ap spelled (sym same)) (sym unit);
     }
 
--- else the zeros behind it alone
+-- else only the zeros after it
 pub some_behind : (before behind fraction : List ℕ) → AreDigits before → AreDigits behind → 0 < length fraction → behind ≡ fraction ++ replicate (length behind - length fraction) 48 → length fraction ≤ length behind → get_or fraction (length fraction - 1) 0 ≢ 48 → Shortens before behind before fraction
 some_behind before behind fraction h k some zeros shorter last =
     let q = length behind - length fraction in

@@ -3,7 +3,7 @@ use Rattle.std.specs.Prelude.{◌≡◌, ◌≢◌, ℕ, ◌⊎◌, Bool, true, 
 use Rattle.gq_text.specs.Numeral.{AreDigits, spelled, IsNumeral}
 use Rattle.gq_text.specs.Shown.{with_point}
 
--- so many digits, which spell n
+-- `places` digits, which spell n
 pub record AppendsDigits (old new : List ℕ) (n places : ℕ) : Type 0 where
   pub digits : List ℕ
   pub appended : new ≡ old ++ digits
@@ -22,7 +22,7 @@ abbrev pub sign_text : Bool → List ℕ
 sign_text true = codes "-"
 sign_text false = []
 
--- a point and so many decimals, which spell n; without decimals nothing
+-- a point and `places` decimals, which spell n; nothing without decimals
 pub record AppendsDecimals (old new : List ℕ) (n places : ℕ) : Type 0 where
   pub decimals : List ℕ
   pub appended : new ≡ old ++ with_point decimals
@@ -30,7 +30,7 @@ pub record AppendsDecimals (old new : List ℕ) (n places : ℕ) : Type 0 where
   pub places_are : length decimals ≡ places
   pub spells : spelled decimals ≡ n
 
--- `/` and the numeral of a denominator; nothing where it is 1
+-- `/` and the numeral of a denominator; nothing if it is 1
 abbrev pub AppendsDenominator : List ℕ → List ℕ → ℕ → Type 0
 AppendsDenominator old new d =
     ((d ≡ 1) × (new ≡ old)) ⊎ ((d ≢ 1) × ((numeral : List ℕ) × IsNumeral d numeral × (new ≡ old ++ (codes "/" ++ numeral))))

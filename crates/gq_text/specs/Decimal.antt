@@ -3,7 +3,7 @@ use Rattle.std.specs.Prelude.{◌≡◌, ℕ, ◌+◌, ◌^◌, ◌<◌, ◌⊎�
 use Rattle.gq_number.specs.Number.{Number, whole, ratio, ◌+ℚ◌, ◌*ℚ◌, ◌/ℚ◌, neg_ℚ}
 use Rattle.gq_text.specs.Numeral.{AreDigits, spelled}
 
--- a decimal: the digits before its point, the digits behind it, and its exponent
+-- a decimal: the digits before its point, the digits after it, and its exponent
 pub record Decimal : Type 0 where
   pub before : List ℕ
   pub behind : List ℕ
@@ -14,7 +14,8 @@ abbrev pub scaled : Number → ℤ → Number
 scaled x (pos k) = x *ℚ whole (pos (10 ^ k))
 scaled x (negsuc k) = x /ℚ whole (pos (10 ^ suc k))
 
--- the number that a decimal means: the digits before the point, those behind it over ten to the power of how many they are, and all times ten to its exponent
+-- the number that a decimal means: the digits before the point, plus those after it over ten to the
+-- power of their count, all times ten to its exponent
 abbrev pub number_of : Decimal → Number
 number_of d =
     scaled (whole (pos (spelled d.before)) +ℚ ratio (pos (spelled d.behind)) (10 ^ length d.behind)) d.exponent
@@ -23,7 +24,7 @@ number_of d =
 abbrev pub IsSomeDigits : List ℕ → Type 0
 IsSomeDigits text = AreDigits text × (0 < length text)
 
--- digits, behind a sign or none, and the whole number that they are
+-- digits, with a sign before them or none, and the whole number that they are
 abbrev pub IsSigned : List ℕ → ℤ → Type 0
 IsSigned text e =
     (digits : List ℕ) × IsSomeDigits digits × (((text ≡ digits) × (e ≡ pos (spelled digits))) ⊎ (((text ≡ codes "+" ++ digits) × (e ≡ pos (spelled digits))) ⊎ ((text ≡ codes "-" ++ digits) × (e ≡ neg_ℤ (pos (spelled digits))))))
@@ -33,7 +34,7 @@ abbrev pub IsExponent : List ℕ → ℤ → Type 0
 IsExponent [] e = e ≡ pos 0
 IsExponent (mark ∷ text) e = ((mark ≡ 101) ⊎ (mark ≡ 69)) × IsSigned text e
 
--- the text of digits before a point and behind it: with none behind it the point may be left out
+-- the text of digits before a point and after it: with none after it the point may be left out
 abbrev pub IsPointed : List ℕ → List ℕ → List ℕ → Type 0
 IsPointed text before behind = (text ≡ before ++ codes "." ++ behind) ⊎ ((behind ≡ []) × (text ≡ before))
 
@@ -52,6 +53,6 @@ pub record Spells (text : List ℕ) (d : Decimal) : Type 0 where
 abbrev pub MeansNumber : List ℕ → Number → Type 0
 MeansNumber text x = (d : Decimal) × Spells text d × (x ≡ number_of d)
 
--- the same with perhaps a `-` before the decimal, for the number of the other sign
+-- the text is that of a decimal which means x, or `-` and a decimal which means the negated x
 abbrev pub MeansSigned : List ℕ → Number → Type 0
 MeansSigned text x = MeansNumber text x ⊎ ((rest : List ℕ) × (y : Number) × (text ≡ codes "-" ++ rest) × MeansNumber rest y × (x ≡ neg_ℚ y))

@@ -1,4 +1,4 @@
--- Which numbers a literal can have under a limit, and what reading a text answers.
+-- Which numbers a literal can have under a limit, and the result of reading a text.
 use Rattle.std.specs.Prelude.{◌≡◌, ◌≢◌, ℕ, ◌*◌, ◌%◌, ◌^◌, ◌≤◌, ◌⊎◌, List, pos, Result, Ok, Err}
 use Rattle.gq_number.specs.Number.{Number, whole, ratio}
 use Rattle.gq_text.specs.declared.fault.NumberFault.{NumberFault}
@@ -9,8 +9,8 @@ use Rattle.gq_text.specs.Decimal.{MeansNumber}
 abbrev pub HasNoZeroBehind : ℕ → Type 0
 HasNoZeroBehind m = (m ≡ 0) ⊎ (m % 10 ≢ 0)
 
--- The literal rule. The number is m times ten to the power e, where m is 0 or does not end in 0, and the product is within the limit; or it is m over
--- ten to the power e, and m and that power are both within the limit.
+-- The literal rule. The number is m times 10^e, where m is 0 or does not end in 0, and the product
+-- is within the limit; or it is m over 10^e, and m and 10^e are both within the limit.
 pub record FitsLiteral (limit : ℕ) (x : Number) : Type 0 where
   pub m : ℕ
   pub e : ℕ
@@ -18,13 +18,14 @@ pub record FitsLiteral (limit : ℕ) (x : Number) : Type 0 where
   pub within : ((x ≡ whole (pos (m * 10 ^ e))) × (m * 10 ^ e ≤ limit))
       ⊎ ((x ≡ ratio (pos m) (10 ^ e)) × (m ≤ limit) × (10 ^ e ≤ limit))
 
--- what reading a number answers that the text means
+-- the result of reading a text that means this number
 abbrev pub AnswersLiteral : {F : Type 0} → ℕ → (F → Number) → Number → Result F NumberFault → Type 0
 AnswersLiteral limit value x (Ok v) = FitsLiteral limit x × (value v ≡ x)
 AnswersLiteral limit value x (Err Shape) = ⊥
 AnswersLiteral limit value x (Err Limit) = ¬ FitsLiteral limit x
 
--- what reading a text answers: the value of the number that it means, which fits; Limit where it means one that does not; Shape where it means none
+-- the result of reading a text: the value of the number that it means, which fits; Limit if it
+-- means one that does not; Shape if it means none
 abbrev pub Reads : {F : Type 0} → ℕ → (F → Number) → List ℕ → Result F NumberFault → Type 0
 Reads limit value text (Ok v) = MeansNumber text (value v) × FitsLiteral limit (value v)
 Reads limit value text (Err Limit) = (x : Number) × MeansNumber text x × ¬ FitsLiteral limit x

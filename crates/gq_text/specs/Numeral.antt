@@ -1,4 +1,5 @@
--- Decimal digits, and the whole numbers that they spell: Knuth, The Art of Computer Programming, volume 2, section 4.1.
+-- Decimal digits, and the whole numbers that they spell: Knuth, The Art of Computer Programming,
+-- volume 2, section 4.1.
 use Rattle.std.specs.Prelude.{◌≡◌, ◌≢◌, ℕ, ◌+◌, ◌-◌, ◌*◌, ◌^◌, ◌<◌, ◌≤◌, List, [], ◌∷◌, ◌++◌, length, slice_index, codes, ℤ, pos, negsuc, suc}
 
 -- each byte is a digit, from `0` to `9`
@@ -6,7 +7,8 @@ abbrev pub AreDigits : List ℕ → Type 0
 AreDigits [] = Unit {0}
 AreDigits (b ∷ bs) = (48 ≤ b) × (b ≤ 57) × AreDigits bs
 
--- the whole number that digits spell: each digit times ten to the power of how many stand behind it
+-- the whole number that digits spell: each digit times ten to the power of the number of digits
+-- after it
 abbrev pub spelled : List ℕ → ℕ
 spelled [] = 0
 spelled (b ∷ bs) = (b - 48) * 10 ^ length bs + spelled bs
@@ -18,7 +20,8 @@ pub record IsNumeral (n : ℕ) (text : List ℕ) : Type 0 where
   pub first : 1 < length text → slice_index text 0 ≢ 48
   pub spells : spelled text ≡ n
 
--- the text of a whole number by the texts of magnitudes: `-` before the magnitude of a number below 0, and nothing before any other
+-- the text of a whole number by the texts of magnitudes: `-` before the magnitude of a number below
+-- 0, and nothing before any other
 abbrev pub WithSign : (ℕ → List ℕ → Type 0) → ℤ → List ℕ → Type 0
 WithSign Is (pos n) text = Is n text
 WithSign Is (negsuc n) text = (rest : List ℕ) × (text ≡ codes "-" ++ rest) × Is (suc n) rest

@@ -3,7 +3,8 @@ use Rattle.std.specs.Prelude.{◌≡◌, ℕ, Bool, true, false, ◌+◌, ◌-�
 use Rattle.gq_text.specs.Numeral.{AreDigits, spelled}
 use Rattle.gq_text.specs.Literal.{HasNoZeroBehind}
 
--- the digits around a point without zeros at the end: they spell as much but for a power of ten, and end in no 0
+-- the digits around a point without zeros at the end: they spell the same number up to a power of
+-- ten, and end in no 0
 pub record Shortens (before behind whole fraction : List ℕ) : Type 0 where
   pub whole_digits : AreDigits whole
   pub fraction_digits : AreDigits fraction

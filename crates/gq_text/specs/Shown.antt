@@ -1,4 +1,4 @@
--- How a number is shown: rounded to so many decimals, or exactly.
+-- How a number is shown: rounded to some number of decimals, or exactly.
 use Rattle.std.specs.Prelude.{◌≡◌, ◌≢◌, ℕ, ◌/◌, ◌%◌, ◌^◌, ◌⊎◌, List, [], ◌∷◌, ◌++◌, length, codes, ℤ, pos}
 use Rattle.gq_number.specs.Number.{Number, whole, ◌*ℚ◌, ◌/ℚ◌, rounded}
 use Rattle.gq_text.specs.Numeral.{AreDigits, spelled, IsNumeral, WithSign}
@@ -8,12 +8,12 @@ use Rattle.gq_text.specs.Decimal.{MeansNumber, MeansSigned}
 abbrev pub most_decimals : ℕ
 most_decimals = 8
 
--- a point and the decimals behind it, or nothing where there are none
+-- a point and the decimals after it, or nothing without decimals
 abbrev pub with_point : List ℕ → List ℕ
 with_point [] = []
 with_point (b ∷ bs) = codes "." ++ (b ∷ bs)
 
--- the text of n units of the last of so many decimals: the numeral of the whole part, a point, and the decimals
+-- the text of n units of the last decimal: the numeral of the whole part, a point, and the decimals
 pub record IsFixed (decimals n : ℕ) (text : List ℕ) : Type 0 where
   pub before : List ℕ
   pub behind : List ℕ
@@ -23,15 +23,15 @@ pub record IsFixed (decimals n : ℕ) (text : List ℕ) : Type 0 where
   pub behind_spells : spelled behind ≡ n % 10 ^ decimals
   pub text_is : text ≡ before ++ with_point behind
 
--- the same with a sign, which stands only where n is not 0
+-- such a text with a sign, which occurs only if n is not 0
 abbrev pub IsFixedSigned : ℕ → ℤ → List ℕ → Type 0
 IsFixedSigned decimals n text = WithSign (IsFixed decimals) n text
 
--- the number rounded to so many decimals, half away from zero
+-- the number rounded to this many decimals, half away from zero
 abbrev pub IsRoundedText : ℕ → Number → List ℕ → Type 0
 IsRoundedText decimals x text = IsFixedSigned decimals (rounded (x *ℚ whole (pos (10 ^ decimals)))) text
 
--- the number exactly: `n`, or `n/d` where the denominator is not 1
+-- the number exactly: `n`, or `n/d` if the denominator is not 1
 abbrev pub IsExactText : Number → List ℕ → Type 0
 IsExactText x text =
     ((x.denominator ≡ 1) × WithSign IsNumeral x.numerator text) ⊎ ((x.denominator ≢ 1) × ((above below : List ℕ) × (text ≡ above ++ codes "/" ++ below) × WithSign IsNumeral x.numerator above × IsNumeral x.denominator below))

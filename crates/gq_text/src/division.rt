@@ -1,7 +1,8 @@
-//! Division into decimals, digit by digit, since a product with a power of ten may pass 128 bits.
+//! Division into decimals, digit by digit, since a product with a power of ten may exceed 128 bits.
 ghost use Rattle.std.specs.Prelude.{◌≡◌, ◌+◌, ◌*◌, ◌/◌, ◌^◌, ◌<◌, ◌≤◌};
 
-/// Ten times a rest below the divisor, divided, where the product passes 128 bits: the digit and what is left.
+/// Ten times a rest below the divisor, divided, if the product exceeds 128 bits: the digit and the
+/// remainder.
 fn divided_by_sums(rest: u128, divisor: u128) -> (u128, u128)
     requires rest { rest < divisor }
     requires divisor { divisor < 2 ^ 127 }
@@ -20,7 +21,7 @@ fn divided_by_sums(rest: u128, divisor: u128) -> (u128, u128)
     (digit, sum)
 }
 
-/// Ten times a rest below the divisor, divided: the digit and what is left.
+/// Ten times a rest below the divisor, divided: the digit and the remainder.
 fn next_digit(rest: u128, divisor: u128) -> (u128, u128)
     requires rest { rest < divisor }
     requires divisor { divisor < 2 ^ 127 }
@@ -33,7 +34,7 @@ fn next_digit(rest: u128, divisor: u128) -> (u128, u128)
     }
 }
 
-/// The decimals of a rest over the divisor as one number, and what is left.
+/// The decimals of a rest over the divisor as one number, and the remainder.
 fn decimals_of(rest: u128, divisor: u128, decimals: u8) -> (u128, u128)
     requires rest { rest < divisor }
     requires divisor { divisor < 2 ^ 127 }
@@ -52,8 +53,8 @@ fn decimals_of(rest: u128, divisor: u128, decimals: u8) -> (u128, u128)
     (fraction, left)
 }
 
-/// A fraction in units of the last of so many decimals, rounded, from the middle of two up: the whole part, and the decimals
-/// as one number.
+/// A fraction in units of the last of `decimals` decimals, rounded, from the middle of two up: the
+/// whole part, and the decimals as one number.
 pub(crate) fn rounded(above: u128, below: u128, decimals: u8) -> (u128, u128)
     requires above { above < 2 ^ 127 }
     requires below { below < 2 ^ 127 }

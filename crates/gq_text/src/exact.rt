@@ -10,8 +10,8 @@ use crate::parts::{split_digits, split_sign};
 use crate::show::{put_exact, put_whole};
 use gq_field::ExactField;
 
-/// The whole number whose decimal digits the text is, without a needless zero before them. `None` exactly where it is not
-/// that of a number below 2^128.
+/// The whole number whose decimal digits the text is, without a needless zero before them. `None`
+/// exactly if it is not that of a number below 2^128.
 pub fn read_whole(text: &[u8]) -> Option<u128>
     ensures value { IfSome result (λ n. text.now ≡ decimal n) }
     ensures found { (n : ℕ) → n < 2 ^ 128 → text.now ≡ decimal n → IsSomeAnd result (λ m. m ≡ n) }
@@ -26,8 +26,9 @@ pub fn read_whole(text: &[u8]) -> Option<u128>
     }
 }
 
-/// The number whose exact text this is: its numerator, and where the denominator is not 1 then `/` and the denominator, in
-/// lowest terms. `None` exactly where it is that of no number within the field's limit.
+/// The number whose exact text this is: its numerator, and if the denominator is not 1 then `/` and
+/// the denominator, in lowest terms. `None` exactly if it is that of no number within the field's
+/// limit.
 pub fn read_exact<F: ExactField>(text: &[u8]) -> Option<F>
     ensures value { IfSome result (λ x. text.now ≡ exact_text (F.value x)) }
     ensures found { (x : Number) → fits F.limit x ≡ true → text.now ≡ exact_text x → IsSomeAnd result (λ y. F.value y ≡ x) }
@@ -54,8 +55,8 @@ fn digits_in(text: &[u8]) -> Option<u128>
     }
 }
 
-/// The value of a text of digits behind a sign or none, over other digits or none. The exact text of a number within the
-/// limit is read.
+/// The value of a text of digits with an optional sign before them, over other digits or none. It
+/// reads the exact text of each number within the limit.
 fn quotient_in<F: ExactField>(text: &[u8]) -> Option<F>
     ensures { (x : Number) → fits F.limit x ≡ true → text.now ≡ exact_text x → IsSomeAnd result (λ y. F.value y ≡ x) }
 {
@@ -66,7 +67,7 @@ fn quotient_in<F: ExactField>(text: &[u8]) -> Option<F>
     fraction(negative, above, below)
 }
 
-/// The number that the digits behind a `/` spell; 1 where there is no text.
+/// The number that the digits after a `/` spell; 1 for an empty text.
 fn denominator_in(text: &[u8]) -> Option<u128>
     ensures one { text.now ≡ [] → IsSomeAnd result (λ d. d ≡ 1) }
     ensures other { (n : ℕ) → n < 2 ^ 128 → text.now ≡ 47 ∷ decimal n → IsSomeAnd result (λ d. d ≡ n) }
@@ -78,7 +79,7 @@ fn denominator_in(text: &[u8]) -> Option<u128>
     }
 }
 
-/// The value of a magnitude with a sign over a denominator, where these are parts of one within the limit.
+/// The value of a magnitude with a sign over a denominator, if this is a number within the limit.
 fn fraction<F: ExactField>(negative: bool, above: u128, below: u128) -> Option<F>
     ensures { (x : Number) → fits F.limit x ≡ true → x.numerator ≡ signed negative above → x.denominator ≡ below →
         IsSomeAnd result (λ y. F.value y ≡ x) }

@@ -1,4 +1,4 @@
-//! What the texts of numbers say, as laws.
+//! What the texts of numbers mean: laws.
 ghost use Rattle.std.specs.Prelude.{◌≡◌, ◌≢◌, ℕ, ◌*◌, ◌%◌, ◌^◌, List, ℤ, pos};
 ghost use Rattle.gq_number.specs.Number.{Number, whole, ratio, ◌-ℚ◌};
 ghost use Rattle.gq_number.specs.Order.{◌≤ℚ◌, ◌<ℚ◌, abs_ℚ};
@@ -8,8 +8,9 @@ ghost use Rattle.gq_text.specs.Shown.{most_decimals, IsFixedSigned, IsRoundedTex
 
 use crate::show::MOST_DECIMALS;
 
-/// A text means one number at most, with a sign and as a quotient too. A number is in at most one way m times ten to the power
-/// e, with a counting number m that does not end in 0, so the literal rule looks at the number and not at its text.
+/// A text means at most one number, with a sign and as a quotient too. A number is in at most one
+/// way m times 10^e, with a counting number m that does not end in 0. So the literal rule depends
+/// on the number and not on its text.
 pub fn reading_laws()
     ensures one_number { (text : List ℕ) (x y : Number) →
         MeansNumber text x → MeansNumber text y → x ≡ y }
@@ -21,9 +22,9 @@ pub fn reading_laws()
         scaled (whole (pos m)) e ≡ scaled (whole (pos n)) f → (m ≡ n) × (e ≡ f) }
 {}
 
-/// A number has at most one numeral, one exact text and one text of so many decimals. What is shown exactly reads back as the
-/// number. What is shown rounded reads back as a number within half a unit of the last place, and no other text of that
-/// form does, but for the middle between two.
+/// A number has at most one numeral, one exact text and one text for each number of decimals. A
+/// number shown exactly reads back as itself. A number shown rounded reads back as one within half
+/// a unit of the last place, and no other text of that form does, except in the middle between two.
 pub fn showing_laws()
     ensures one_numeral { (n : ℕ) (s t : List ℕ) → IsNumeral n s → IsNumeral n t → s ≡ t }
     ensures one_exact { (x : Number) (s t : List ℕ) → IsExactText x s → IsExactText x t → s ≡ t }
@@ -41,7 +42,8 @@ pub fn showing_laws()
         abs_ℚ (x -ℚ y) <ℚ ratio (pos 1) (2 * 10 ^ decimals) → IsRoundedText decimals x text }
 {}
 
-/// A number is rounded to at most 8 decimals, which callers name `MOST_DECIMALS` (GAMS User's Guide, "The Display Statement").
+/// A number is rounded to at most 8 decimals, which callers name `MOST_DECIMALS` (GAMS User's
+/// Guide, "The Display Statement").
 pub fn limit_laws()
     ensures { MOST_DECIMALS ≡ most_decimals }
 {}

@@ -1,4 +1,5 @@
-//! Floor 1, numbers. The texts of exact numbers: how decimals are read, how numbers are shown, and how what is shown exactly is read back.
+//! Layer 1, numbers. The texts of exact numbers: how decimals are read, how numbers are shown, and
+//! how a number shown exactly is read back.
 #![tactic(auto)]
 
 mod digits;

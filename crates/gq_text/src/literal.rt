@@ -1,4 +1,5 @@
-//! The value of a literal: its digits as one whole number and a power of ten, and whether they are within the limit.
+//! The value of a literal: its digits as one whole number and a power of ten, and whether they are
+//! within the limit.
 ghost use Rattle.std.specs.Prelude.{◌≡◌, ◌≢◌, ◌+◌, ◌-◌, ◌*◌, ◌^◌, ◌<◌, ◌≤◌, ◌++◌, length, slice_index, replicate, pos, SomeIff};
 ghost use Rattle.gq_number.specs.Number.{ratio};
 ghost use Rattle.gq_text.specs.Numeral.{AreDigits, spelled};
@@ -11,7 +12,7 @@ use crate::fault::NumberFault;
 use crate::parts::Exponent;
 use gq_field::ExactField;
 
-/// The number that is spelled by the digits of `front` and `digits` behind them, where it is below 2^128.
+/// The number that the digits of `front` followed by `digits` spell, if it is below 2^128.
 pub(crate) fn spelled(front: u128, digits: &[u8]) -> Option<u128>
     requires { AreDigits digits.now }
     ensures { SomeIff result (front * 10 ^ length digits.now + spelled digits.now < 2 ^ 128)
@@ -24,7 +25,7 @@ pub(crate) fn spelled(front: u128, digits: &[u8]) -> Option<u128>
     Some(value)
 }
 
-/// The number that is spelled by the digits before a point and behind it, where it is below 2^128.
+/// The number that the digits before a point and after it spell, if it is below 2^128.
 fn digits_together(whole: &[u8], fraction: &[u8]) -> Option<u128>
     requires whole_digits { AreDigits whole.now }
     requires fraction_digits { AreDigits fraction.now }
@@ -47,7 +48,7 @@ fn without_zeros(digits: &[u8]) -> &[u8]
     kept
 }
 
-/// The digits before a point and behind it without those zeros at the end that only move the point.
+/// The digits before a point and after it without those zeros at the end that only move the point.
 fn shortest<'a>(before: &'a [u8], behind: &'a [u8]) -> (&'a [u8], &'a [u8])
     requires before_digits { AreDigits before.now }
     requires behind_digits { AreDigits behind.now }
@@ -61,15 +62,15 @@ fn shortest<'a>(before: &'a [u8], behind: &'a [u8]) -> (&'a [u8], &'a [u8])
     }
 }
 
-/// Ten to a power, where it is below 2^128.
+/// Ten to a power, if it is below 2^128.
 fn power_of_ten(power: u128) -> Option<u128>
     ensures { SomeIff result (10 ^ power < 2 ^ 128) (10 ^ power) }
 {
     10u128.checked_pow(u32::try_from(power).ok()?)
 }
 
-/// How many tens a number is multiplied or divided by: a count and, if it adds, the number that digits spell, where that is
-/// below 2^128.
+/// How many tens a number is multiplied or divided by: a count and, if it adds, the number that
+/// digits spell, if that is below 2^128.
 fn tens(count: usize, adds: bool, digits: &[u8]) -> Option<u128>
     requires { AreDigits digits.now }
     ensures value { SomeIff result (count + added adds (spelled digits.now) < 2 ^ 128)
@@ -83,8 +84,8 @@ fn tens(count: usize, adds: bool, digits: &[u8]) -> Option<u128>
     }
 }
 
-/// The parts of digits times ten to the power `up` over ten to the power `down`: the product over 1, or the digits over
-/// the power. None where one is 2^128 or more.
+/// The numerator and denominator of digits times ten to the power `up` over ten to the power
+/// `down`: the product over 1, or the digits over the power. None if one is 2^128 or more.
 fn parts_of(digits: u128, up: u128, down: u128) -> Option<(u128, u128)>
     requires { 0 < digits }
     ensures whole { down ≤ up → SomeIff result (digits * 10 ^ (up - down) < 2 ^ 128) (digits * 10 ^ (up - down), 1) }
@@ -97,7 +98,7 @@ fn parts_of(digits: u128, up: u128, down: u128) -> Option<(u128, u128)>
     }
 }
 
-/// The same parts, where both are within the limit.
+/// The numerator and denominator, if both are within the limit.
 fn parts_within(limit: u128, digits: u128, up: u128, down: u128) -> Option<(u128, u128)>
     requires limit { 0 < limit }
     requires some { 0 < digits }
@@ -112,7 +113,8 @@ fn parts_within(limit: u128, digits: u128, up: u128, down: u128) -> Option<(u128
     }
 }
 
-/// The value of digits times ten to the power `up` over ten to the power `down`, by the literal rule.
+/// The value of digits times ten to the power `up` over ten to the power `down`, by the literal
+/// rule.
 fn scaled<F: ExactField>(digits: u128, up: u128, down: u128) -> Result<F, NumberFault>
     requires some { 0 < digits }
     requires shortest { HasNoZeroBehind digits }

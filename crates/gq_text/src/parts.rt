@@ -1,4 +1,4 @@
-//! The parts of a decimal's text, taken off its front one after another.
+//! The parts of a decimal's text, read in order.
 ghost use Rattle.std.specs.Prelude.{◌≡◌, ℤ, IfSome, IfNone};
 ghost use Rattle.std.specs.List.{prefix_len};
 ghost use Rattle.std.specs.Char.{is_ascii_digit};
@@ -6,7 +6,7 @@ ghost use Rattle.gq_text.specs.Numeral.{AreDigits};
 ghost use Rattle.gq_text.specs.Decimal.{IsExponent};
 ghost use Rattle.gq_text.specs.Parts.{SplitsDigits, SplitsSign, Divides, exponent_of};
 
-/// The digits before a decimal's point and behind it, and what stands behind these.
+/// The digits before a decimal's point and after it, and what follows these.
 #[derive(Clone, Copy)]
 pub(crate) struct Pointed<'a> {
     pub before: &'a [u8],
@@ -28,14 +28,14 @@ fn digit_count(text: &[u8]) -> usize
     text.iter().take_while(|byte| byte.is_ascii_digit()).count()
 }
 
-/// The digits that the text begins with, and what stands behind them.
+/// The digits that the text begins with, and what follows them.
 pub(crate) fn split_digits(text: &[u8]) -> (&[u8], &[u8])
     ensures { SplitsDigits text.now result.0.now result.1.now }
 {
     text.split_at(digit_count(text))
 }
 
-/// The digits around a point that the text begins with, and what stands behind them.
+/// The digits around a point that the text begins with, and what follows them.
 pub(crate) fn split_pointed(text: &[u8]) -> Pointed<'_>
     ensures { Divides text.now result.before.now result.behind.now result.rest.now }
 {
@@ -57,7 +57,7 @@ pub(crate) fn split_pointed(text: &[u8]) -> Pointed<'_>
     }
 }
 
-/// Whether the text begins with `-`, and what stands behind its sign.
+/// Whether the text begins with `-`, and what follows its sign.
 pub(crate) fn split_sign(text: &[u8]) -> (bool, &[u8])
     ensures { SplitsSign text.now result.0 result.1.now }
 {

@@ -6,13 +6,14 @@ use crate::literal::literal;
 use crate::parts::{read_exponent, split_pointed};
 use gq_field::ExactField;
 
-/// The value of a decimal's text: digits with or without a point, at least one digit, and perhaps an exponent, which is
-/// `e` or `E`, perhaps a sign, and digits (GAMS User's Guide, "Language Items").
+/// The value of a decimal's text: digits with or without a point, at least one digit, and perhaps
+/// an exponent, which is `e` or `E`, perhaps a sign, and digits (GAMS User's Guide, "Language
+/// Items").
 ///
-/// `Shape` comes exactly where the text is no such text. Any other means a number. Written as m times ten to the power
-/// e, where m is a whole number that does not end in 0, it has to be within the field's limit: for e from 0 on the
-/// product, for e below 0 both m and ten to the power -e. `Limit` comes exactly where it is not. The number 0 always fits,
-/// and how the number is written makes no difference.
+/// `Shape` exactly if the text is no such text. Any other means a number. Written as m times 10^e,
+/// where m is a whole number that does not end in 0, it has to be within the field's limit: for e
+/// from 0 on the product, for e below 0 both m and 10^-e. `Limit` exactly if it is not. The number
+/// 0 always fits, and how the number is written makes no difference.
 pub fn read_decimal<F: ExactField>(text: &[u8]) -> Result<F, NumberFault>
     ensures { Reads F.limit F.value text.now result }
 {

@@ -1,4 +1,5 @@
--- Where Bland's rule is refused after all others, each of them is refused; and an answer by Bland's rule is one of legal pivots.
+-- If Bland's rule, tried after all others, is refused, each of them is refused; and an answer by
+-- Bland's rule is one of legal pivots.
 use Rattle.std.proofs.Common.{◌≡◌, ℕ, Bool, true}
 use Rattle.std.specs.Prelude.{◌↔◌, Result, Ok, Err, IfOk, IsTrue}
 use Rattle.std.specs.declared.alloc.AllocError.{AllocError}

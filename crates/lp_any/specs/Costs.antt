@@ -3,7 +3,8 @@ use Rattle.std.specs.Prelude.{◌≡◌, ◌⊎◌, ℕ, ◌<◌, ◌≤◌, Opt
 use Rattle.lp_core.specs.Dictionary.{Dictionary, Improves}
 use Rattle.lp_any.specs.declared.costs.Candidate.{Candidate}
 
--- A variable improves, and of those that improve none costs less, and no lesser one costs as much.
+-- A variable is cheapest: it improves, no improving variable costs less, and none with the same
+-- cost has a smaller number.
 pub record IsCheapest (Costs : Dictionary → ℕ → ℕ → Type 0) (d : Dictionary) (q : ℕ) : Type 0 where
   pub improves : Improves d q
   pub cost : ℕ
@@ -13,12 +14,12 @@ pub record IsCheapest (Costs : Dictionary → ℕ → ℕ → Type 0) (d : Dicti
 pub cheapest_improves : (Costs : Dictionary → ℕ → ℕ → Type 0) (d : Dictionary) (q : ℕ) → IsCheapest Costs d q → Improves d q
 cheapest_improves Costs d q cheapest = cheapest.improves
 
--- the one that costs less, and of equal ones the first
+-- the better of two: the one that costs less, and of equal ones the first
 abbrev pub IsBetter : Option Candidate → Candidate → Candidate → Type 0
 IsBetter None other better = better ≡ other
 IsBetter (Some best) other better = ((best.cost ≤ other.cost) × (better ≡ best)) ⊎ ((other.cost < best.cost) × (better ≡ other))
 
--- a variable is tried: it does not improve and the best stays, or it improves and the better one is taken
+-- a variable is tried: if it does not improve the best stays, else the better of the two is taken
 abbrev pub IsTried : (Dictionary → ℕ → ℕ → Type 0) → Dictionary → ℕ → Option Candidate → Option Candidate → Type 0
 IsTried Costs d v best after =
     (¬ (Improves d v) × (after ≡ best))

@@ -3,7 +3,7 @@ use Rattle.std.specs.Prelude.{ℕ, zero, suc, ◌*◌, ◌/◌, ◌-◌, ◌^◌
 use Rattle.gq_number.specs.Gcd.{gcd}
 use Rattle.lp_core.specs.Dictionary.{Dictionary}
 
--- the least common multiple of two numbers, or the greatest number of 128 bits where that is greater
+-- the least common multiple of two numbers, capped at 2^128 - 1
 abbrev pub multiple_of : ℕ → ℕ → ℕ
 multiple_of first second = min (first / gcd first second * second) (2 ^ 128 - 1)
 
@@ -12,7 +12,7 @@ abbrev pub row_denominator : Dictionary → ℕ → ℕ → ℕ
 row_denominator d row zero = 1
 row_denominator d row (suc n) = multiple_of (row_denominator d row n) (d.numbers row n).denominator
 
--- that of a column's numbers in the first rows
+-- the common denominator of a column's numbers in the first rows
 abbrev pub column_denominator : Dictionary → ℕ → ℕ → ℕ
 column_denominator d column zero = 1
 column_denominator d column (suc n) = multiple_of (column_denominator d column n) (d.numbers n column).denominator

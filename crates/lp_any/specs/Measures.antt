@@ -1,4 +1,5 @@
--- What it costs that a variable enters, by the number on which it pivots (Chvatal, Linear Programming, chapters 2 and 3).
+-- The cost of a variable's entering, by its pivot number (Chvatal, Linear Programming, chapters 2
+-- and 3).
 use Rattle.std.specs.Prelude.{◌≡◌, ◌⊎◌, ℕ, ◌+◌, ◌*◌, ◌-◌, ◌/◌, nat_abs, length, slice_get, Some, None}
 use Rattle.std.specs.Int.{w128, leading_zeros}
 use Rattle.gq_number.specs.Number.{Number}
@@ -16,12 +17,12 @@ bits n = 128 - leading_zeros w128 n
 abbrev pub length_of : Number → ℕ
 length_of x = bits (nat_abs x.numerator) + bits x.denominator
 
--- The gain is the coefficient times the constant over the pivot number. These are the bits of the
--- three integers that multiply in it.
+-- The gain of a pivot is the coefficient times the constant over the pivot number. This is the sum
+-- of the bits of the three integers in its numerator.
 abbrev pub gain_above : Number → Number → Number → ℕ
 gain_above coefficient constant number = bits (nat_abs coefficient.numerator) + bits (nat_abs constant.numerator) + bits number.denominator
 
--- the bits of the three integers that divide in the gain
+-- the sum of the bits of the three integers in the gain's denominator
 abbrev pub gain_below : Number → Number → Number → ℕ
 gain_below coefficient constant number = bits coefficient.denominator + bits constant.denominator + bits (nat_abs number.numerator)
 
@@ -30,7 +31,7 @@ abbrev pub cost_of_gain : Number → Number → Number → ℕ
 cost_of_gain coefficient constant number =
     1000 + bits (nat_abs number.numerator) + gain_below coefficient constant number - gain_above coefficient constant number
 
--- the bits of a number over this denominator, which its own divides
+-- the bits of a number written over this multiple of its denominator
 abbrev pub bits_over : Number → ℕ → ℕ
 bits_over number denominator = bits (nat_abs number.numerator) + bits (denominator / number.denominator)
 
@@ -39,18 +40,19 @@ abbrev pub cost_in_row : Number → Number → Number → ℕ → ℕ
 cost_in_row coefficient constant number in_row =
     1000 + 2 * bits_over number in_row + gain_below coefficient constant number - gain_above coefficient constant number
 
--- the bits of a pivot number over its row's denominator and over its column's, less three times those of the gain, and 2000
+-- the bits of a pivot number over its row's denominator and over its column's, less three times
+-- those of the gain, and 2000
 abbrev pub cost_in_both : Number → Number → Number → ℕ → ℕ → ℕ
 cost_in_both coefficient constant number in_row in_column =
     2000 + bits_over number in_row + bits_over number in_column + 3 * gain_below coefficient constant number
     - 3 * gain_above coefficient constant number
 
--- the row of the variable that leaves where v enters
+-- the row of the leaving variable when v enters
 abbrev pub IsLeavingRow : Dictionary → ℕ → ℕ → Type 0
 IsLeavingRow d v k = (leave : ℕ) × IsLeaving d v (Some leave) × (slice_get d.basic k ≡ Some leave)
 
--- The cost of a variable that improves, by that of the row of the variable that leaves: 0 where no row limits it, so that the search ends
--- with it, and 10000 where a step of its ratio test does not fit.
+-- The cost of an improving variable, by that of the leaving variable's row: 0 if no row limits it,
+-- which makes the search end with it, and 10000 if a step of its ratio test does not fit.
 abbrev pub IsCostBy : ℕ → (Dictionary → ℕ → ℕ → ℕ → Type 0) → Dictionary → ℕ → ℕ → Type 0
 IsCostBy limit AtRow d v n =
     (IsLeaving d v None × (n ≡ 0))

@@ -1,4 +1,5 @@
--- Answers by each of the rules that are tried in turn (Chvatal, Linear Programming, chapters 2 and 3).
+-- Answers by each of the rules that are tried in turn (Chvatal, Linear Programming, chapters 2 and
+-- 3).
 use Rattle.std.specs.Prelude.{ℕ}
 use Rattle.gq_number.specs.Number.{Number}
 use Rattle.lp_core.specs.declared.answer.Answer.{Answer}
@@ -15,8 +16,8 @@ use Rattle.lp_any.specs.declared.members.Member.{Member}
 use Rattle.lp_any.specs.declared.members.Member.TheVariants as member
 
 module _ {F : Type 0} (value : F → Number) (limit : ℕ) where
-  -- An answer by one of the rules. Steepest edge may pick any variable that improves, until the turn to Bland's rule has come; the
-  -- others say which one.
+  -- An answer by one of the rules. Steepest edge may pick any improving variable before the turn to
+  -- Bland's rule; the others state which one.
   abbrev pub IsAnswerOf : Member → Lp F → ℕ → Answer F → Type 0
   IsAnswerOf member.Steepest lp iterlim answer = IsTurningAnswer value limit Improves lp iterlim answer
   IsAnswerOf member.Shortest lp iterlim answer = IsTurningAnswer value limit (IsCheapest (IsCostBy limit LengthAt)) lp iterlim answer

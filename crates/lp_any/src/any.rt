@@ -18,7 +18,8 @@ use lp_slot::{LpSolver, SolverRule};
 use std::alloc::{AllocError, Global};
 use std::marker::Model;
 
-/// The solver by several rules in turn: the first answer that is not Refused is the one that it gives, with its pivots.
+/// The solver by several rules in turn: it gives the first answer that is not Refused, with its
+/// pivots.
 #[derive(Drop)]
 pub struct Any {
     taken: Vec<Sequence<Pivot>>,
@@ -63,8 +64,9 @@ impl LpSolver for Any {
         self.taken.as_slice()
     }
 
-    /// The answer of a program by the first rule that is not refused; Refused only where each of them is, Bland's among them. The turn
-    /// bounds the pivots of the answer, and with a limit of at least the bound the end is not Interrupted.
+    /// The answer of a program by the first rule that is not refused. It is Refused only if each
+    /// rule is, Bland's included. The turn bounds the pivots of the answer, and with a limit of at
+    /// least the bound the end is not Interrupted.
     fn solve(
         &mut self,
         alloc: Global,

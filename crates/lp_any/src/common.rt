@@ -7,7 +7,7 @@ use gq_field::ExactField;
 use lp_dict::Dict;
 use lp_numbers::gcd;
 
-/// The least common multiple of two numbers, or the greatest number of two words where that is greater.
+/// The least common multiple of two numbers, capped at 2^128 - 1.
 fn multiple_of(first: u128, second: u128) -> u128
     requires { 0 < second }
     ensures { result ≡ common.multiple_of first second }
@@ -28,7 +28,8 @@ fn denominator_at<F: ExactField>(dict: &Dict<F>, row: usize, column: usize) -> u
     denominator
 }
 
-/// The least common denominator of the numbers of a row, or the greatest number of two words where that is greater.
+/// The least common denominator of the numbers of a row, or the greatest number of two words if
+/// that is less.
 fn denominator_in<F: ExactField>(dict: &Dict<F>, row: usize) -> u128
     requires { row ≤ length dict.now.basic }
     ensures { result ≡ common.row_denominator (dictionary F.value dict.now) row (dict.now.variables + 2) }
@@ -40,7 +41,7 @@ fn denominator_in<F: ExactField>(dict: &Dict<F>, row: usize) -> u128
     common
 }
 
-/// The same of the row of a basic variable; 1 where it is not basic.
+/// The least common denominator of the row of a basic variable; 1 if it is not basic.
 pub(crate) fn denominator_of_row<F: ExactField>(dict: &Dict<F>, basic: u32) -> u128
     ensures { (k : ℕ) → slice_get dict.now.basic k ≡ Some basic → result ≡ common.row_denominator (dictionary F.value dict.now) k (dict.now.variables + 2) }
 {
@@ -51,7 +52,7 @@ pub(crate) fn denominator_of_row<F: ExactField>(dict: &Dict<F>, basic: u32) -> u
     }
 }
 
-/// The same of a variable's numbers in the rows and in the objective.
+/// The least common denominator of a variable's numbers in the rows and in the objective.
 pub(crate) fn denominator_of_column<F: ExactField>(dict: &Dict<F>, variable: u32) -> u128
     requires { variable ≤ dict.now.variables }
     ensures { result ≡ common.column_denominator (dictionary F.value dict.now) (variable + 1) (length dict.now.basic + 1) }

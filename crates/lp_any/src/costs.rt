@@ -9,23 +9,23 @@ use lp_dict::Dict;
 
 /// A cost of each variable that improves, by which the one to enter is picked.
 pub(crate) trait Costing<F: ExactField>: Drop {
-    /// Of a dictionary, a variable and a number: that this is the variable's cost.
+    /// That a number is the cost of a variable at a dictionary.
     ghost costs: { Dictionary → ℕ → ℕ → Type 0 };
 
-    /// What it costs that this variable enters.
+    /// The cost of this variable's entering.
     fn cost(&self, dict: &Dict<F>, variable: u32) -> u32
         requires { Improves (dictionary F.value dict.now) variable }
         ensures { costs (dictionary F.value dict.now) variable result };
 }
 
-/// A variable, and what it costs that it enters.
+/// A variable, and the cost of its entering.
 #[derive(Clone, Copy)]
 pub(crate) struct Candidate {
     variable: u32,
     cost: u32,
 }
 
-/// The one that costs less, and of equal ones the first.
+/// The better of two: the one that costs less, and of equal ones the first.
 fn better(best: Option<Candidate>, other: Candidate) -> Candidate
     ensures { IsBetter best other result }
 {
@@ -35,7 +35,7 @@ fn better(best: Option<Candidate>, other: Candidate) -> Candidate
     if other.cost < best.cost { other } else { best }
 }
 
-/// The better of the best variable so far and another, where that improves.
+/// The better of the best variable so far and another, if that improves.
 fn tried<C: Costing<F>, F: ExactField>(
     rule: &C,
     dict: &Dict<F>,
@@ -51,7 +51,8 @@ fn tried<C: Costing<F>, F: ExactField>(
     Some(better(best, Candidate { variable, cost }))
 }
 
-/// The variable that improves and costs least, and of equal ones the least; none exactly where none improves.
+/// The improving variable that costs least, and of equal ones the least. None exactly if no
+/// variable improves.
 pub(crate) fn cheapest<C: Costing<F>, F: ExactField>(rule: &C, dict: &Dict<F>) -> Option<u32>
     ensures { MatchOption result ((v : ℕ) → ¬ (Improves (dictionary F.value dict.now) v)) (IsCheapest C.costs (dictionary F.value dict.now)) }
 {

@@ -1,4 +1,4 @@
-//! Floor 4, linear programs. Several rules in turn: the first answer that is not Refused.
+//! Layer 4, linear programs. Several rules in turn: the first answer that is not Refused.
 #![tactic(auto)]
 
 mod answer;

@@ -1,4 +1,4 @@
-//! Rules that look at the number on which a variable would pivot.
+//! Rules that depend on the number on which a variable would pivot.
 ghost use Rattle.std.specs.Prelude.{◌≡◌, ◌≤◌};
 ghost use Rattle.lp_any.specs.Costs.{IsCheapest, cheapest_improves};
 ghost use Rattle.lp_any.specs.Measures as measures;
@@ -9,26 +9,29 @@ use gq_field::ExactField;
 use lp_dict::Dict;
 use lp_turn::Picking;
 
-/// The cost of a variable of whose ratio test a step does not fit: above that of any other.
+/// The cost of a variable if a step of its ratio test does not fit: above that of any other.
 const STOPS: u32 = 10_000;
 
-/// The rule by which the variable enters whose pivot number has the fewest bits, numerator and denominator together: a short
-/// pivot number keeps the next dictionary's numbers short. It remembers nothing.
+/// The rule of the shortest pivot number: the variable enters whose pivot number has the fewest
+/// bits, numerator and denominator together, which keeps the next dictionary's numbers short. It
+/// remembers nothing.
 #[derive(Drop)]
 pub(crate) struct Shortest;
 
-/// The rule by which the variable enters with the most bits of gain, less those of its pivot number's numerator. It remembers
-/// nothing.
+/// The rule of gain: the variable enters with the most bits of gain, less those of its pivot
+/// number's numerator. It remembers nothing.
 #[derive(Drop)]
 pub(crate) struct GainForBits;
 
-/// The rule by which the variable enters whose pivot number has the fewest bits, counted twice, less those of the gain; the bits are
-/// those of a whole number, where the numbers of its row have one denominator. It remembers nothing.
+/// The variable enters whose pivot number has the fewest bits, counted twice, less those of the
+/// gain. The bits are those of the integer over the common denominator of its row. It remembers
+/// nothing.
 #[derive(Drop)]
 pub(crate) struct ShortInRow;
 
-/// The rule by which the variable enters whose pivot number has the fewest bits, less three times those of the gain; the bits are
-/// those of two whole numbers, where the numbers of its row, and where those of its column have one denominator. It remembers nothing.
+/// The variable enters whose pivot number has the fewest bits, less three times those of the gain.
+/// The bits are those of two integers: over the common denominator of its row, and over that of its
+/// column. It remembers nothing.
 #[derive(Drop)]
 pub(crate) struct ShortInBoth;
 
@@ -55,7 +58,8 @@ struct Gain {
     below: u32,
 }
 
-/// The bits of the gain by a coefficient, the constant of the row that leaves, and the pivot number in it.
+/// The bits of the gain, from a coefficient, the constant of the leaving variable's row, and the
+/// pivot number in it.
 fn gain_of<F: ExactField>(coefficient: F, constant: F, number: F) -> Gain
     ensures above { result.above ≡ measures.gain_above (F.value coefficient) (F.value constant) (F.value number) }
     ensures below { result.below ≡ measures.gain_below (F.value coefficient) (F.value constant) (F.value number) }
@@ -80,7 +84,7 @@ fn cost_of_gain<F: ExactField>(coefficient: F, constant: F, number: F) -> u32
     1_000 + bits(pivot.unsigned_abs()) + gain.below - gain.above
 }
 
-/// How many bits a number has over this denominator, which its own divides.
+/// How many bits a number has when written over this multiple of its denominator.
 fn bits_over<F: ExactField>(number: F, denominator: u128) -> u32
     ensures value { result ≡ measures.bits_over (F.value number) denominator }
     ensures most { result ≤ 256 }
@@ -99,7 +103,8 @@ fn cost_in_row<F: ExactField>(coefficient: F, constant: F, number: F, in_row: u1
     1_000 + 2 * short + gain.below - gain.above
 }
 
-/// The bits of the pivot number over its row's denominator and over its column's, less three times those of the gain, and 2000.
+/// The bits of the pivot number over its row's denominator and over its column's, less three times
+/// those of the gain, and 2000.
 fn cost_in_both<F: ExactField>(
     coefficient: F,
     constant: F,

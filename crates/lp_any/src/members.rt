@@ -23,7 +23,8 @@ pub enum Member {
     GainForBits,
     /// The shortest pivot number over the denominator of its row, less the bits of the gain.
     ShortInRow,
-    /// The shortest pivot number over the denominators of its row and its column, less the bits of the gain.
+    /// The shortest pivot number over the denominators of its row and its column, less the bits of
+    /// the gain.
     ShortInBoth,
     /// The largest coefficient.
     Largest,
@@ -31,9 +32,9 @@ pub enum Member {
     Bland,
 }
 
-/// The answer of a program by one of the rules, found by at most `iterlim` pivots: Chvatal, Linear Programming, chapters 2 and 3.
-/// The turn to Bland's rule bounds the pivots, and with a limit of at least the bound the end is not Interrupted. The error is out of
-/// memory.
+/// The answer of a program by one of the rules, found by at most `iterlim` pivots: Chvatal, Linear
+/// Programming, chapters 2 and 3. The turn to Bland's rule bounds the pivots, and with a limit of
+/// at least the bound the end is not Interrupted. The error is out of memory.
 pub fn answer_of<F: ExactField>(
     alloc: Global,
     lp: &Lp<F>,

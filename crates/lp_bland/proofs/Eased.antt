@@ -130,7 +130,7 @@ module _ (low high : ℕ) (less : low ≤ high) where
         eases_append (rows_steps value low (columns_of value lp) 1 lp.rows) (bounds_steps value low (1 + count_of_rows lp.rows) 0 lp.columns) (rows_steps value high (columns_of value lp) 1 lp.rows) (bounds_steps value high (1 + count_of_rows lp.rows) 0 lp.columns)
         (rows_eased (columns_of value lp) 1 lp.rows) (bounds_eased (1 + count_of_rows lp.rows) 0 lp.columns)
 
-    -- ---- the way back
+    -- ---- the recovery
 
     level_eased : (j : ℕ) (c : ℕ × Shift) (y : List Number) → (level_step low j c y).1 ≡ true → (level_step high j c y).1 ≡ true
     level_eased j (v, from_lower b) y = sum_fits_more low high b (number_of y v) less
@@ -205,7 +205,7 @@ module _ (low high : ℕ) (less : low ≤ high) where
         (eases_append (interrupted_steps value low lp last) (duals_steps value low lp last) (interrupted_steps value high lp last) (duals_steps value high lp last) (interrupted_eased lp last) (infeasible_eased lp last))
         (reduced_costs_eased lp last)
 
-    -- the steps of the way back of each kind of end
+    -- the steps of the recovery of each kind of end
     pub steps_back_eased : (how : EndKind) (lp : Lp F) (last : Last) → Eases (steps_back value low lp how last) (steps_back value high lp how last)
     steps_back_eased kind.Optimal lp last = optimal_eased lp last
     steps_back_eased kind.Infeasible lp last = infeasible_eased lp last

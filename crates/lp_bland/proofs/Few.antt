@@ -1,5 +1,5 @@
--- That what is found by Bland's choice is the answer under that rule, has few pivots, and with enough of them comes to an end; and
--- that this choice is one, and always finds a variable.
+-- Bland's choice always finds a variable, and its answer is the answer under Bland's rule: it has
+-- few pivots, and with enough of them it ends.
 use Rattle.std.proofs.Common.{ℕ, ◌≡◌, ◌≤◌, inl, inr, [], arith}
 use Rattle.std.specs.Prelude.{Result, Ok, Err, IfOk}
 use Rattle.gq_number.specs.Number.{Number}

@@ -1,4 +1,4 @@
--- What is read back from a last dictionary is told by the numbers that the values of its program mean.
+-- The numbers that a program's values mean determine what is read back from a final dictionary.
 use Rattle.std.proofs.Common.{◌≡◌, ℕ, ◌+◌, List, [], ◌∷◌, map, Option, Some, None, refl, ap, ap₂, ◌∙◌}
 use Rattle.std.specs.Prelude.{sum_by}
 use Rattle.gq_number.specs.Number.{Number, ◌*ℚ◌, neg_ℚ}
@@ -14,7 +14,7 @@ use Rattle.lp_core.specs.Numbers.{column_numbers, row_numbers, lp_numbers}
 use Rattle.lp_nocycle.proofs.SameForm.{itself, sum_by_map, count_bounds_same, columns_same, variables_same, form_same}
 
 module _ {F : Type 0} (value : F → Number) where
-  -- ---- the way back
+  -- ---- the recovery
 
   pub levels_same : (lp : Lp F) (last : Last) → levels_back itself (lp_numbers value lp) last ≡ levels_back value lp last
   levels_same lp last = ap (λ (s : Standard). point_of s last.values) (form_same value lp)

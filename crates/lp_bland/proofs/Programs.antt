@@ -1,4 +1,5 @@
--- Two programs of the same numbers, over two fields: one is well formed where the other is, and their bounds cross alike.
+-- Two programs of the same numbers, over two fields: one is well formed if the other is, and their
+-- bounds cross alike.
 use Rattle.std.proofs.Common.{◌≡◌, ◌≢◌, ℕ, ◌<◌, pos, List, [], ◌∷◌, length, map, Option, Some, None, refl, sym, ap, ◌∙◌, subst, arith}
 use Rattle.std.specs.Prelude.{slice_get, slice_index_or, option_map, replicate, sum_by}
 use Rattle.std.specs.List.{All, AllPairs}
@@ -138,7 +139,7 @@ module _ {F G : Type 0} (value : F → Number) (other : G → Number) (lp : Lp F
       ∙ ap (sum_by (λ (row : Row Number). rows_of_sense row.sense)) rows_are
       ∙ sum_by_map (λ (row : Row Number). rows_of_sense row.sense) (row_numbers other) wide.rows
 
--- what columns come to, counted by their bounds
+-- the sum of a count over columns, which depends on their bounds
 counted : {F : Type 0} (value : F → Number) (n : Option Number → Option Number → ℕ) (m : Option F → Option F → ℕ) (columns : List (Column F)) → ((lower upper : Option F) → n (bound_value value lower) (bound_value value upper) ≡ m lower upper) → sum_by (λ (c : Column Number). n c.lower c.upper) (map (column_numbers value) columns) ≡ sum_by (λ (c : Column F). m c.lower c.upper) columns
 counted value n m columns each =
     sum_by_map (λ (c : Column Number). n c.lower c.upper) (column_numbers value) columns

@@ -1,4 +1,4 @@
--- The named steps of a program are told by the numbers that its values mean.
+-- The numbers that a program's values mean determine its named steps.
 use Rattle.std.proofs.Common.{◌≡◌, ℕ, ◌+◌, ◌==◌, cond, List, [], ◌∷◌, ◌++◌, map, pos, refl, ap, ap₂, ◌∙◌}
 use Rattle.std.specs.Prelude.{flat_map, sum_by}
 use Rattle.std.specs.List.{enumerate_from}
@@ -45,7 +45,7 @@ module _ {F : Type 0} (value : F → Number) (limit : ℕ) where
       ap₂ (λ a b. a ++ b) (rows_steps_same (columns_of itself (lp_numbers value lp)) 1 lp.rows ∙ ap (λ columns. rows_steps value limit columns 1 lp.rows) (columns_same value lp))
       (ap (λ n. bounds_steps itself limit (1 + n) 0 (map (column_numbers value) lp.columns)) (count_rows_same lp.rows) ∙ bounds_steps_same (1 + count_of_rows lp.rows) 0 lp.columns)
 
-  -- ---- the way back
+  -- ---- the recovery
 
   levels_steps_same : (lp : Lp F) (last : Last) → levels_steps itself limit (lp_numbers value lp) last ≡ levels_steps value limit lp last
   levels_steps_same lp last = ap (λ columns. map (λ (p : ℕ × (ℕ × Shift)). level_step limit p.0 p.1 last.values) (enumerate_from 0 columns)) (columns_same value lp)
@@ -98,7 +98,7 @@ module _ {F : Type 0} (value : F → Number) (limit : ℕ) where
   pub unbounded_steps_same : (lp : Lp F) (last : Last) → unbounded_steps itself limit (lp_numbers value lp) last ≡ unbounded_steps value limit lp last
   unbounded_steps_same lp last = ap₂ (λ a b. a ++ b) (interrupted_steps_same lp last) (ray_steps_same lp last)
 
-  -- the steps of the way back of each kind of end
+  -- the steps of the recovery of each kind of end
   pub steps_back_same : (how : EndKind) (lp : Lp F) (last : Last) → steps_back itself limit (lp_numbers value lp) how last ≡ steps_back value limit lp how last
   steps_back_same kind.Optimal lp last = optimal_steps_same lp last
   steps_back_same kind.Infeasible lp last = infeasible_steps_same lp last

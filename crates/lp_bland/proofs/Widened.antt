@@ -58,7 +58,7 @@ module _ {F G : Type 0} (value : F → Number) (other : G → Number) (lp : Lp F
   rays_are : (last : Last) → ray_back value lp last ≡ ray_back other wide last
   rays_are last = sym (ray_same value lp last) ∙ ap (λ p. ray_back itself p last) same ∙ ray_same other wide last
 
-  -- what the way back tells is told by the numbers
+  -- the numbers determine what the recovery computes
   pub told_same : (how : EndKind) (last : Last) (end : End F) (made : End G) → end_numbers other made ≡ end_numbers value end → LeadsTo value lp how last end → LeadsTo other wide how last made
   told_same kind.Optimal last (Optimal x s y r) (Optimal xs sums ys ds) e h =
       let a : map other xs ≡ map value x = cc in

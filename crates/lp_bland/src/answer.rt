@@ -14,7 +14,7 @@ use lp_dict::Dict;
 use lp_walk::{Choosing, solve_by};
 use std::alloc::{AllocError, Global};
 
-/// Bland's way: the least variable that improves enters. It remembers nothing.
+/// Bland's choice: the least variable that improves enters. It remembers nothing.
 #[derive(Drop)]
 pub struct Least;
 
@@ -32,13 +32,14 @@ impl<F: ExactField> Choosing<F> for Least {
     ghost improving = { λ _ _ d q chosen. least_improves d q chosen };
 }
 
-/// The only answer of a program under Bland's rule, found by at most `iterlim` pivots: Bland, "New finite pivoting rules for the
-/// simplex method"; Chvatal, Linear Programming, chapter 3.
+/// The only answer of a program under Bland's rule, found by at most `iterlim` pivots: Bland, "New
+/// finite pivoting rules for the simplex method"; Chvatal, Linear Programming, chapter 3.
 ///
-/// Optimal, Infeasible and Unbounded come with what proves them. Interrupted comes after exactly `iterlim` pivots where a
-/// further one is due, and Refused with the first step that does not fit under the limit of the field. No basis comes back, so
-/// the pivots are fewer than twice the sets of the variables of its standard form, slacks and variable 0 included, and with a limit
-/// of at least that many the end is not Interrupted. The error is want of memory.
+/// Optimal, Infeasible and Unbounded come with their certificates. Interrupted is the end after
+/// exactly `iterlim` pivots when a further one is required. Refused has the first step that does
+/// not fit under the limit of the field. No basis repeats, so there are fewer pivots than twice the
+/// number of sets of the variables of the standard form, slacks and variable 0 included. With a
+/// limit of at least that many the end is not Interrupted. The only error is out of memory.
 pub fn solve_in<F: ExactField>(
     alloc: Global,
     lp: &Lp<F>,

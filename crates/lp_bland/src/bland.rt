@@ -61,8 +61,9 @@ impl LpSolver for Bland {
         self.taken.as_slice()
     }
 
-    /// The only answer of a program under Bland's rule. No basis comes back, so the pivots are fewer than twice the sets of
-    /// the variables of its standard form, slacks and variable 0 included, and with a limit of at least that many the end is not Interrupted.
+    /// The only answer of a program under Bland's rule. No basis repeats, so there are fewer pivots
+    /// than twice the number of sets of the variables of the standard form, slacks and variable 0
+    /// included. With a limit of at least that many the end is not Interrupted.
     fn solve(
         &mut self,
         alloc: Global,

@@ -1,4 +1,5 @@
-//! That Bland's rule leaves nothing open and has an answer always, that wider numbers change no answer, and that an answer over a field is one over the numbers: laws on functions with empty bodies.
+//! Bland's rule always has exactly one answer, wider numbers change no answer, and an answer over a
+//! field is an answer over the numbers: laws on functions with empty bodies.
 ghost use Rattle.std.specs.Prelude.{◌≡◌, ◌-◌, ◌^◌, ℕ};
 ghost use Rattle.gq_number.specs.Number.{Number};
 ghost use Rattle.gq_field.specs.declared.half.Half.{Half};
@@ -16,21 +17,22 @@ ghost use Rattle.lp_bland.specs.Ends.{IsRefused};
 
 use gq_field::ExactField;
 
-/// A program has one answer at most under Bland's rule and a limit of pivots, over one field: the pivots, the end and each of its
-/// numbers are told by the program and the limits.
+/// A program has at most one answer under Bland's rule and a limit of pivots, over one field: the
+/// program and the limits determine the pivots, the end and each of its numbers.
 pub fn one_answer<F: ExactField>()
     ensures { (lp : Lp F) (iterlim : ℕ) (a b : Answer F) → IsWellFormed F.value lp →
         IsAnswer F.value F.limit lp iterlim Bland a → IsAnswer F.value F.limit lp iterlim Bland b → a ≡ b }
 {}
 
-/// A program has an answer under Bland's rule and each limit of pivots. So there is exactly one: a call that is given the memory has
-/// something to answer.
+/// A program has an answer under Bland's rule and each limit of pivots. So there is exactly one,
+/// which a call with enough memory returns.
 pub fn an_answer<F: ExactField>()
     ensures { (lp : Lp F) (iterlim : ℕ) → IsWellFormed F.value lp →
         (answer : Answer F) × IsAnswer F.value F.limit lp iterlim Bland answer }
 {}
 
-/// Under Bland's rule an answer over numbers of 63 bits is the answer over those of 127, made wide, unless a step of it did not fit.
+/// Under Bland's rule an answer over numbers of 63 bits, widened, is the answer over those of 127
+/// bits, unless a step of it did not fit.
 pub fn wide_answers()
     ensures { (narrow : Lp Half) (wide : Lp Frac) (iterlim : ℕ) (a : Answer Half) (b : Answer Frac) → lp_numbers half_value narrow ≡ lp_numbers frac_value wide →
         IsWellFormed frac_value wide → answer_numbers frac_value b ≡ answer_numbers half_value a → ¬ (IsRefused a.end) →

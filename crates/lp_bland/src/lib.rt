@@ -1,4 +1,4 @@
-//! Floor 4, linear programs. Bland's rule: a linear program goes in, and an answer that proves itself comes out.
+//! Layer 4, linear programs. Bland's rule: from a linear program to an answer with its certificate.
 #![tactic(auto)]
 
 mod answer;

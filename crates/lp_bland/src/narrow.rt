@@ -15,12 +15,12 @@ use gq_frac::{Frac, narrow};
 use lp_core::{Column, Lp, Row, Sequence};
 use std::alloc::{AllocError, AllocFailed, Global};
 
-/// Why something is not made narrow.
+/// Why something is not narrowed.
 #[derive(Clone, Copy)]
 enum Wide {
-    /// A part of a number is too great.
+    /// A numerator or denominator is too great.
     Number,
-    /// A growth found no memory.
+    /// Out of memory.
     Memory,
 }
 
@@ -40,7 +40,7 @@ impl<T: Drop> From<AllocFailed<T>> for Wide {
     }
 }
 
-/// The number, made narrow.
+/// The narrowed number.
 fn narrow_number(number: Frac) -> Result<Half, Wide>
     ensures { Narrows (λ made. half_value made ≡ frac_value number) (fits (2 ^ 63 - 1) (frac_value number) ≡ true) result }
 {
@@ -50,7 +50,7 @@ fn narrow_number(number: Frac) -> Result<Half, Wide>
     }
 }
 
-/// The bound, made narrow.
+/// The narrowed bound.
 fn narrow_bound(bound: Option<Frac>) -> Result<Option<Half>, Wide>
     ensures { Narrows (λ made. bound_value half_value made ≡ bound_value frac_value bound)
         (IfSome (bound_value frac_value bound) (λ b. fits (2 ^ 63 - 1) b ≡ true)) result }
@@ -61,7 +61,7 @@ fn narrow_bound(bound: Option<Frac>) -> Result<Option<Half>, Wide>
     }
 }
 
-/// The column, made narrow.
+/// The narrowed column.
 fn narrow_column(alloc: Global, column: &Column<Frac>) -> Result<Column<Half>, Wide>
     ensures { Narrows (λ made. column_numbers half_value made ≡ column_numbers frac_value column.now)
         (ColumnIsWithin (2 ^ 63 - 1) (column_numbers frac_value column.now)) result }
@@ -73,7 +73,7 @@ fn narrow_column(alloc: Global, column: &Column<Frac>) -> Result<Column<Half>, W
     })
 }
 
-/// The columns, made narrow.
+/// The narrowed columns.
 fn narrow_columns(alloc: Global, columns: &[Column<Frac>]) -> Result<Vec<Column<Half>>, Wide>
     ensures { Narrows (λ made. map (column_numbers half_value) made.items ≡ map (column_numbers frac_value) columns.now)
         (All (ColumnIsWithin (2 ^ 63 - 1)) (map (column_numbers frac_value) columns.now)) result }
@@ -85,7 +85,7 @@ fn narrow_columns(alloc: Global, columns: &[Column<Frac>]) -> Result<Vec<Column<
     Ok(made)
 }
 
-/// The entries, made narrow.
+/// The narrowed entries.
 fn narrow_entries(alloc: Global, entries: &[(u32, Frac)]) -> Result<Vec<(u32, Half)>, Wide>
     ensures { Narrows (λ made. entries_numbers half_value made.items ≡ entries_numbers frac_value entries.now)
         (All (λ e. fits (2 ^ 63 - 1) e.1 ≡ true) (entries_numbers frac_value entries.now)) result }
@@ -97,7 +97,7 @@ fn narrow_entries(alloc: Global, entries: &[(u32, Frac)]) -> Result<Vec<(u32, Ha
     Ok(made)
 }
 
-/// The row, made narrow.
+/// The narrowed row.
 fn narrow_row(alloc: Global, row: &Row<Frac>) -> Result<Row<Half>, Wide>
     ensures { Narrows (λ made. row_numbers half_value made ≡ row_numbers frac_value row.now)
         (RowIsWithin (2 ^ 63 - 1) (row_numbers frac_value row.now)) result }
@@ -112,7 +112,7 @@ fn narrow_row(alloc: Global, row: &Row<Frac>) -> Result<Row<Half>, Wide>
     })
 }
 
-/// The rows, made narrow.
+/// The narrowed rows.
 fn narrow_rows(alloc: Global, rows: &[Row<Frac>]) -> Result<Vec<Row<Half>>, Wide>
     ensures { Narrows (λ made. map (row_numbers half_value) made.items ≡ map (row_numbers frac_value) rows.now)
         (All (RowIsWithin (2 ^ 63 - 1)) (map (row_numbers frac_value) rows.now)) result }
@@ -124,7 +124,7 @@ fn narrow_rows(alloc: Global, rows: &[Row<Frac>]) -> Result<Vec<Row<Half>>, Wide
     Ok(made)
 }
 
-/// The program, made narrow.
+/// The narrowed program.
 fn narrowed(alloc: Global, lp: &Lp<Frac>) -> Result<Lp<Half>, Wide>
     ensures { Narrows (λ made. lp_numbers half_value made ≡ lp_numbers frac_value lp.now)
         (IsWithin (2 ^ 63 - 1) (lp_numbers frac_value lp.now)) result }
@@ -139,8 +139,8 @@ fn narrowed(alloc: Global, lp: &Lp<Frac>) -> Result<Lp<Half>, Wide>
     })
 }
 
-/// The same program over numbers of 63 bits, well formed where the program is; `None` exactly where a part of one of its numbers
-/// is over 2^63 - 1 in magnitude. The error is out of memory.
+/// The same program over numbers of 63 bits, well formed if the program is. `None` exactly if a
+/// numerator or denominator exceeds 2^63 - 1 in magnitude. The error is out of memory.
 pub fn narrow_lp(alloc: Global, lp: &Lp<Frac>) -> Result<Option<Lp<Half>>, AllocError>
     ensures same { IfOk result (λ found. IfSome found (λ narrow. lp_numbers half_value narrow ≡ lp_numbers frac_value lp.now)) }
     ensures within { IfOk result (λ found. IsSome found ↔ IsWithin (2 ^ 63 - 1) (lp_numbers frac_value lp.now)) }

@@ -9,7 +9,7 @@ use gq_frac::{Frac, widen};
 use lp_core::{Answer, End, Sequence};
 use std::alloc::{AllocError, Global};
 
-/// The same numbers, made wide.
+/// The same numbers, widened.
 fn widen_all(alloc: Global, numbers: &Sequence<Half>) -> Result<Sequence<Frac>, AllocError>
     ensures { IfOk result (λ made. map frac_value made ≡ map half_value numbers.now) }
 {
@@ -20,7 +20,7 @@ fn widen_all(alloc: Global, numbers: &Sequence<Half>) -> Result<Sequence<Frac>, 
     Ok(Sequence::new(made))
 }
 
-/// The same end, its numbers made wide.
+/// The same end with widened numbers.
 fn widen_end(alloc: Global, end: &End<Half>) -> Result<End<Frac>, AllocError>
     ensures { IfOk result (λ made. end_numbers frac_value made ≡ end_numbers half_value end.now) }
 {
@@ -62,8 +62,8 @@ fn widen_end(alloc: Global, end: &End<Half>) -> Result<End<Frac>, AllocError>
     }
 }
 
-/// The same answer with its numbers over 127 bits: the pivots, the kind of its end, each number, and the step where one did not
-/// fit. The error is want of memory.
+/// The same answer with its numbers over 127 bits: the pivots, the kind of its end, each number,
+/// and the step that did not fit, if any. The only error is out of memory.
 pub fn widen_answer(alloc: Global, a: &Answer<Half>) -> Result<Answer<Frac>, AllocError>
     ensures { IfOk result (λ made. answer_numbers frac_value made ≡ answer_numbers half_value a.now) }
 {

@@ -33,7 +33,7 @@ ordered {F} value lp formed = All-weaker (λ (row : Row F). AreEntries value (le
 pub places : {F : Type 0} (value : F → Number) (lp : Lp F) → IsWellFormed value lp → All (λ (row : Row F). All (λ (e : ℕ × F). e.0 < length lp.columns) row.entries) lp.rows
 places {F} value lp formed = All-weaker (λ (row : Row F). AreEntries value (length lp.columns) row.entries) (λ (row : Row F). All (λ (e : ℕ × F). e.0 < length lp.columns) row.entries) (λ row entries. entries.there) lp.rows formed.entries
 
--- an objective that is asked for is a column
+-- a requested objective is a column
 pub objective_there : {F : Type 0} (value : F → Number) (lp : Lp F) (w : Bool) → IsWellFormed value lp → IfSome (then_some w lp.objective) (λ column. column < length lp.columns)
 objective_there value lp true formed = formed.objective
 objective_there value lp false formed = tt

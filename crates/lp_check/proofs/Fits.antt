@@ -1,4 +1,4 @@
--- Steps one after another: the first that does not fit, and how many they are.
+-- Steps in order: the first that does not fit, and how many they are.
 use Rattle.std.proofs.Common.{◌≡◌, ℕ, ◌+◌, ◌<◌, Bool, true, false, List, [], ◌∷◌, ◌++◌, length, Some, None, Option, Result, Ok, Err, refl, sym, ap, ◌∙◌, subst, arith}
 use Rattle.std.specs.Prelude.{option_map}
 use Rattle.std.proofs.lemmas.List.{length-append}
@@ -69,7 +69,8 @@ pub takes_behind : (before between : ℕ) (a b : List Bool) (result : Result ℕ
 takes_behind before between a b (Ok after) took h = took_both before between after a b took h
 takes_behind before between a b (Err step) took h = stops_behind before between a b step took h
 
--- Steps are under way: so many were taken before them all and before those that are left, and what the rest reaches the whole reaches.
+-- Steps under way: how many were made before them all and before the remaining ones; a result of
+-- the rest is a result of the whole.
 pub record Going {F : Type 0} (value : F → Number) (before now : ℕ) (whole rest : List Bool) (number last : Number) : Type 0 where
   pub room : now + length rest < 18446744073709551616
   pub so_far : (result : Result (Partial F) StepName) → Reaches value now rest last result → Reaches value before whole number result

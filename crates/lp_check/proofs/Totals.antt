@@ -1,4 +1,5 @@
--- What the parts of the bound come to, against the definition of the bound; and that rows that ask nothing have no part in it.
+-- The sum of the parts of the bound, against the definition of the bound; nonbinding rows have
+-- no part in it.
 use Rattle.std.proofs.Common.{◌≡◌, ℕ, ◌+◌, ◌<◌, Bool, true, false, pos, List, [], ◌∷◌, length, map, get_or, suc, Option, Some, None, refl, sym, ap, ap₂, ◌∙◌, subst, arith, inl, inr}
 use Rattle.std.specs.Prelude.{◌==◌, if◌then◌else◌, option_map, ⊤}
 use Rattle.std.specs.List.{All, AllPairs, zip, enumerate_from}
@@ -87,7 +88,7 @@ module _ {F : Type 0} (value : F → Number) where
       ∙ rows_total above (s +ℚ p.0) p.1 rows ys p.3
       ∙ regrouped s p.0 p.1 ∙ ap (λ n. s +ℚ n) p.4
 
-  -- each row that asks nothing has the dual 0
+  -- each nonbinding row has the dual 0
   abbrev pub AreQuiet : List (Row F) → List Number → Type 0
   AreQuiet [] ys = ⊤
   AreQuiet (row ∷ rows) [] = ⊤

@@ -38,7 +38,7 @@ module _ {F : Type 0} (value : F → Number) (limit : ℕ) where
         ap₂ (rows_sum value above s) (drop_item rows i row here row_is) (numbers_from duals i y there y_is)
         ∙ ap (λ u. rows_sum value above u (drop (i + 1) rows) (drop (i + 1) (map value duals))) (ap (plus_product s (value y)) (sym is) ∙ sym made)
 
-  -- ---- columns, of which the first that is left has place j
+  -- ---- columns; the first remaining one has place j
 
   module _ (columns : List (Column F)) (i : ℕ) (column : Column F) (here : i < length columns) (is : column ≡ get_or columns i column) where
     pub all_reduced_from : (costs : ℕ → Number) (rows : List (Row F)) (duals : List Number) → all_reduced_steps value limit costs rows duals i (drop i columns) ≡ reduced_steps value limit i (costs i) rows duals ++ all_reduced_steps value limit costs rows duals (i + 1) (drop (i + 1) columns)

@@ -1,6 +1,6 @@
--- The steps by which the dual bound is taken, in their order, each with whether it fits (Chvatal, "Linear Programming", chapters 5 and 9, for
--- the bound). In which order they come is this project's own rule: first each column's reduced cost, row by row; then each row's part of the
--- bound; then each column's part.
+-- The steps that compute the dual bound, in order, each with whether it fits (Chvatal, "Linear
+-- Programming", chapters 5 and 9, for the bound). The order is this project's rule: first each
+-- column's reduced cost, row by row; then each row's part of the bound; then each column's part.
 use Rattle.std.specs.Prelude.{◌≡◌, ℕ, ◌+◌, ◌==◌, pos, Bool, true, false, List, [], ◌∷◌, ◌++◌, map, Option, Some, None, Result, Ok, Err, if◌then◌else◌}
 use Rattle.std.specs.List.{enumerate_from}
 use Rattle.std.specs.declared.cmp.Ordering.{Ordering}
@@ -18,7 +18,7 @@ use Rattle.lp_core.specs.DualBound.{row_lower, row_upper, objective_costs, no_co
 use Rattle.lp_core.specs.DualBound as dual
 use Rattle.lp_core.specs.Steps.{Due, AllFit, FirstStop, product_fits, difference_fits, asks_nothing}
 
--- a product, and its sum with a number; no step where there is no bound to multiply by
+-- a product, and its sum with a number; no steps without a bound to multiply by
 abbrev pub plus_steps : ℕ → Number → Number → Option Number → List Bool
 plus_steps limit s factor None = []
 plus_steps limit s factor (Some bound) = product_fits limit factor bound ∷ sum_fits limit s (factor *ℚ bound) ∷ []
@@ -28,7 +28,7 @@ abbrev pub plus_product : Number → Number → Option Number → Number
 plus_product s factor None = s
 plus_product s factor (Some bound) = s +ℚ factor *ℚ bound
 
--- a product, and a number less it; no step where there is no entry to multiply by
+-- a product, and a number less it; no steps without an entry to multiply by
 abbrev pub less_steps : ℕ → Number → Number → Option Number → List Bool
 less_steps limit s factor None = []
 less_steps limit s factor (Some entry) = product_fits limit factor entry ∷ difference_fits limit s (factor *ℚ entry) ∷ []
@@ -38,7 +38,8 @@ abbrev pub less_product : Number → Number → Option Number → Number
 less_product s factor None = s
 less_product s factor (Some entry) = s -ℚ factor *ℚ entry
 
--- the bound that a factor uses, by how it compares with 0: the first where it is above, the second where it is below, and none at 0
+-- the bound that a factor uses, by how it compares with 0: the first if it is above, the second if
+-- below, and none at 0
 abbrev pub bound_by_sign : Ordering → Option Number → Option Number → Option Number
 bound_by_sign Greater first second = first
 bound_by_sign Equal first second = None
@@ -48,12 +49,12 @@ bound_by_sign Less first second = second
 abbrev pub bound_used : Number → Option Number → Option Number → Option Number
 bound_used factor first second = bound_by_sign (number_cmp factor (whole (pos 0))) first second
 
--- the entry of a column, where there is one
+-- the entry of a column, if any
 abbrev pub entry_of : {F : Type 0} → (F → Number) → List (ℕ × F) → ℕ → Option Number
 entry_of value [] j = None
 entry_of value (e ∷ entries) j = if e.0 == j then Some (value e.1) else entry_of value entries j
 
--- the entry of a column in a row that asks something
+-- the entry of a column in a binding row
 abbrev pub entry_in : {F : Type 0} → (F → Number) → ℕ → Row F → Option Number
 entry_in value j row = if asks_nothing row.sense then None else entry_of value row.entries j
 
@@ -80,20 +81,21 @@ columns_sum value above reduced s j (column ∷ columns) =
     columns_sum value above reduced (plus_product s (reduced j) (column_bound value above column (reduced j))) (j + 1) columns
 
 module _ {F : Type 0} (value : F → Number) (limit : ℕ) where
-  -- the steps of the reduced cost of a column over these rows, each with its dual, where it stands at s
+  -- the steps of a column's reduced cost over these rows, each with its dual, where s is the value
+  -- so far
   abbrev pub reduced_steps : ℕ → Number → List (Row F) → List Number → List Bool
   reduced_steps j s [] duals = []
   reduced_steps j s (row ∷ rows) [] = []
   reduced_steps j s (row ∷ rows) (y ∷ duals) =
       less_steps limit s y (entry_in value j row) ++ reduced_steps j (less_product s y (entry_in value j row)) rows duals
 
-  -- those of all columns, of which the first has place j
+  -- the steps of the reduced costs of all columns, of which the first has place j
   abbrev pub all_reduced_steps : (ℕ → Number) → List (Row F) → List Number → ℕ → List (Column F) → List Bool
   all_reduced_steps costs rows duals j [] = []
   all_reduced_steps costs rows duals j (column ∷ columns) =
       reduced_steps j (costs j) rows duals ++ all_reduced_steps costs rows duals (j + 1) columns
 
-  -- the steps of the rows' parts, where the sum stands at s
+  -- the steps of the rows' parts, where s is the sum so far
   abbrev pub rows_steps : Bool → Number → List (Row F) → List Number → List Bool
   rows_steps above s [] duals = []
   rows_steps above s (row ∷ rows) [] = []
@@ -119,12 +121,12 @@ module _ {F : Type 0} (value : F → Number) (limit : ℕ) where
   bound_steps true lp duals = map (λ (p : ℕ × Bool). (Check p.0, p.1)) (enumerate_from 0 (steps_of_bound lp.maximize (objective_costs lp) lp duals))
   bound_steps false lp duals = map (λ (p : ℕ × Bool). (Check p.0, p.1)) (enumerate_from 0 (steps_of_bound false no_costs lp duals))
 
--- the bound of the objective, or of 0, where each bound that is used is there
+-- the bound of the objective, or of 0, if each bound that it uses exists
 abbrev pub bound_of : {F : Type 0} → (F → Number) → Bool → Lp F → List Number → Option Number
 bound_of value true lp duals = dual.dual_bound value lp duals
 bound_of value false lp duals = dual.low value lp no_costs duals
 
--- where all these steps fit the answer is this number, and else it is the first step that does not
+-- the answer is this number if all these steps fit, and else the first step that does not
 abbrev pub Bounds : {F : Type 0} → (F → Number) → List Due → Option Number → Result F StepName → Type 0
 Bounds value steps number (Ok x) = AllFit steps × (number ≡ Some (value x))
 Bounds value steps number (Err step) = FirstStop steps step

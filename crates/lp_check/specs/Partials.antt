@@ -1,4 +1,4 @@
--- What the pieces of the code promise each other: a number on the way with how many steps were taken for it.
+-- What the functions promise each other: an intermediate number with how many steps it took.
 use Rattle.std.specs.Prelude.{◌≡◌, ℕ, ◌+◌, ◌==◌, if◌then◌else◌, Bool, true, false, List, [], ◌∷◌, ◌++◌, length, pos, Option, Some, None, option_map, Result, Ok, Err}
 use Rattle.gq_number.specs.Number.{Number, whole}
 use Rattle.lp_core.specs.declared.answer.StepName.{StepName}
@@ -15,7 +15,7 @@ first_unfit [] = None
 first_unfit (true ∷ fits) = option_map (λ n. n + 1) (first_unfit fits)
 first_unfit (false ∷ fits) = Some 0
 
--- the step is the first of these that does not fit, where so many were taken before them
+-- the step is the first of these that does not fit, after `taken` steps before them
 abbrev pub StopsAt : ℕ → List Bool → StepName → Type 0
 StopsAt taken fits (Check part) = (n : ℕ) × (first_unfit fits ≡ Some n) × (part ≡ taken + n)
 StopsAt taken fits (StandardStep row column part) = ⊥
@@ -23,16 +23,17 @@ StopsAt taken fits (Ratio pivot row) = ⊥
 StopsAt taken fits (Exchange pivot row column part) = ⊥
 StopsAt taken fits (Recover what index entry part) = ⊥
 
--- all these steps fit, and so many were taken with them
+-- all these steps fit, and `after` counts them and those before
 abbrev pub Took : ℕ → List Bool → ℕ → Type 0
 Took before fits after = (first_unfit fits ≡ None) × (after ≡ before + length fits)
 
--- from a number on the way these steps lead to another; or the first that does not fit is answered
+-- these steps lead from an intermediate number to another; or the answer is the first that does not
+-- fit
 abbrev pub Reaches : {F : Type 0} → (F → Number) → ℕ → List Bool → Number → Result (Partial F) StepName → Type 0
 Reaches value taken fits number (Ok p) = Took taken fits p.taken × (value p.sum ≡ number)
 Reaches value taken fits number (Err step) = StopsAt taken fits step
 
--- these steps are taken, or the first that does not fit is answered
+-- all these steps fit, or the answer is the first that does not
 abbrev pub Takes : ℕ → List Bool → Result ℕ StepName → Type 0
 Takes taken fits (Ok after) = Took taken fits after
 Takes taken fits (Err step) = StopsAt taken fits step
@@ -43,33 +44,33 @@ reduced_sum value j s [] duals = s
 reduced_sum value j s (row ∷ rows) [] = s
 reduced_sum value j s (row ∷ rows) (y ∷ duals) = reduced_sum value j (less_product s y (entry_in value j row)) rows duals
 
--- the reduced costs of columns by their places, so taken
+-- the reduced costs of columns, by place
 abbrev pub reduced_costs : {F : Type 0} → (F → Number) → (ℕ → Number) → List (Row F) → List Number → ℕ → Number
 reduced_costs value costs rows duals j = reduced_sum value j (costs j) rows duals
 
--- by the entries of their columns a factor times each was taken away from these numbers, and the steps of it fit
+-- each number has lost a factor times its column's entry, and these steps fit
 abbrev pub Lessened : ℕ → Number → (ℕ → Option Number) → (ℕ → Number) → (ℕ → Number) → Type 0
 Lessened limit factor entry before after =
     (j : ℕ) → (first_unfit (less_steps limit (before j) factor (entry j)) ≡ None) × (after j ≡ less_product (before j) factor (entry j))
 
--- 1 at the objective, where there is one, and 0 elsewhere
+-- 1 at the objective, if any, and 0 elsewhere
 abbrev pub costs_of : Option ℕ → ℕ → Number
 costs_of None j = whole (pos 0)
 costs_of (Some objective) j = if objective == j then whole (pos 1) else whole (pos 0)
 
--- whether the bound is one from above
+-- whether the bound is an upper bound
 abbrev pub is_above : {F : Type 0} → Bool → Lp F → Bool
 is_above true lp = lp.maximize
 is_above false lp = false
 
 module _ {F : Type 0} (value : F → Number) (above : Bool) (costs : ℕ → Number) (rows : List (Row F)) (columns : List (Column F)) (duals : List Number) where
-  -- all steps as they are taken
+  -- all steps, in order
   abbrev pub steps_over : ℕ → List Bool
   steps_over limit =
       all_reduced_steps value limit costs rows duals 0 columns
       ++ rows_steps value limit above (whole (pos 0)) rows duals
       ++ columns_steps value limit above (reduced_costs value costs rows duals) (rows_sum value above (whole (pos 0)) rows duals) 0 columns
 
-  -- what they come to
+  -- the sum that they compute
   abbrev pub sum_over : Number
   sum_over = columns_sum value above (reduced_costs value costs rows duals) (rows_sum value above (whole (pos 0)) rows duals) 0 columns

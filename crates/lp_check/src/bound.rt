@@ -17,16 +17,17 @@ use gq_field::ExactField;
 use lp_core::{Column, Lp, Row, StepName};
 use std::alloc::Global;
 
-/// Whether the bound is one from above.
+/// Whether the bound is an upper bound.
 fn is_above<F: ExactField>(lp: &Lp<F>, with_objective: bool) -> bool
     ensures { result ≡ is_above with_objective lp.now }
 {
     with_objective && lp.maximize
 }
 
-/// The bound over rows and columns, where each of its steps fits and there is memory for the reduced costs.
+/// The bound over rows and columns, if each of its steps fits and there is memory for the reduced
+/// costs.
 ///
-/// It takes each entry once, and does not say which step does not fit.
+/// It visits each entry once, and does not report which step does not fit.
 fn bound_at_once<F: ExactField>(
     alloc: Global,
     rows: &[Row<F>],
@@ -78,14 +79,17 @@ fn bound_over<F: ExactField>(
     columns_part(rows, columns, objective, duals, above, part)
 }
 
-/// The bound that dual values give, one for each row: of the objective, or of 0 where `with_objective` is false.
+/// The bound that dual values give, one for each row: of the objective, or of 0 if `with_objective`
+/// is false.
 ///
-/// Where the objective is to be least it is at most its value at each feasible point, and where it is to be greatest at least that; the
-/// bound of 0 is at most 0 where there is a feasible point. `Check` is the first step that does not fit under the limit: column by column
-/// its reduced cost over the rows that ask something and have an entry there, then row by row, then column by column the parts of the sum,
-/// each a product and a sum. Chvatal, Linear Programming, chapters 5 and 9.
+/// When minimizing, the bound is at most the objective's value at each feasible point; when
+/// maximizing, at least. The bound of 0 is at most 0 if there is a feasible point. `Check` is the
+/// first step that does not fit under the limit. The steps are, column by column, its reduced cost
+/// over the binding rows with an entry there; then row by row, and column by column, the parts
+/// of the sum, each a product and a sum. Chvatal, Linear Programming, chapters 5 and 9.
 ///
-/// Each entry is taken once where all steps fit and there is memory for the reduced costs; else each column is looked for in each row.
+/// Each entry is visited once if all steps fit and there is memory for the reduced costs; else each
+/// column is looked for in each row.
 pub fn dual_bound<F: ExactField>(
     alloc: Global,
     lp: &Lp<F>,

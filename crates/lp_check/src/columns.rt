@@ -11,7 +11,7 @@ use crate::rows::reduced_cost;
 use gq_field::ExactField;
 use lp_core::{Column, Row, StepName};
 
-/// The cost of a column: 1 at the objective, where there is one.
+/// The cost of a column: 1 at the objective, if any.
 fn cost_of<F: ExactField>(objective: Option<u32>, column: u32) -> F
     ensures { F.value result ≡ costs_of objective column }
 {
@@ -21,9 +21,9 @@ fn cost_of<F: ExactField>(objective: Option<u32>, column: u32) -> F
     }
 }
 
-/// Takes the steps of all reduced costs, and answers how many they are.
+/// Makes the steps of all reduced costs, and answers how many they are.
 ///
-/// The numbers are not kept, since that would take memory: each is computed again where it is used.
+/// The numbers are not stored, since that would use memory: each is computed again when it is used.
 pub(crate) fn reduced_costs_fit<F: ExactField>(
     rows: &[Row<F>],
     columns: &[Column<F>],
@@ -46,7 +46,8 @@ pub(crate) fn reduced_costs_fit<F: ExactField>(
     Ok(taken)
 }
 
-/// The bound of a column that its reduced cost uses, for a bound from above or from below.
+/// The bound of a column that its reduced cost uses, for an upper or a lower bound of the
+/// objective.
 fn column_bound<F: ExactField>(above: bool, column: &Column<F>, reduced: F) -> Option<F>
     ensures { bound_value F.value result ≡ column_bound F.value above column.now (F.value reduced) }
 {
@@ -57,9 +58,10 @@ fn column_bound<F: ExactField>(above: bool, column: &Column<F>, reduced: F) -> O
     }
 }
 
-/// The columns' part of the bound: each reduced cost times the bound of its column that it uses, added to what is there.
+/// The columns' part of the bound: each reduced cost times the bound of its column that it uses,
+/// added to the sum so far.
 ///
-/// The steps of the reduced costs, which are taken once more, all fit.
+/// The steps of the reduced costs, which are made once more, all fit.
 pub(crate) fn columns_part<F: ExactField>(
     rows: &[Row<F>],
     columns: &[Column<F>],
@@ -89,8 +91,8 @@ pub(crate) fn columns_part<F: ExactField>(
     Ok(partial)
 }
 
-/// The columns' part of the bound where their reduced costs are at hand: each times the bound of its column that it uses, added to what
-/// is there.
+/// The columns' part of the bound from their known reduced costs: each times the bound of its
+/// column that it uses, added to the sum so far.
 pub(crate) fn columns_part_by<F: ExactField>(
     columns: &[Column<F>],
     costs: &[F],

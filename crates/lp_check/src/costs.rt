@@ -1,4 +1,4 @@
-//! The reduced costs of all columns at once: each entry is taken as it comes, row by row.
+//! The reduced costs of all columns at once: each entry is visited in order, row by row.
 ghost use Rattle.std.specs.Prelude.{◌≡◌, ◌<◌, ℕ, length, map, pos, None, Some, IfOk, IfSome};
 ghost use Rattle.std.specs.List.{All, AllPairs};
 ghost use Rattle.gq_number.specs.Number.{whole};
@@ -12,7 +12,7 @@ use gq_field::ExactField;
 use lp_core::{Row, Sense};
 use std::alloc::{AllocError, Global};
 
-/// So many zeros.
+/// A list of `count` zeros.
 fn zeros<F: ExactField>(alloc: Global, count: usize) -> Result<Vec<F>, AllocError>
     ensures sized { IfOk result (λ list. length list.items ≡ count) }
     ensures zeros { IfOk result (λ list. (j : ℕ) → number_of (map F.value list.items) j ≡ whole (pos 0)) }
@@ -24,7 +24,7 @@ fn zeros<F: ExactField>(alloc: Global, count: usize) -> Result<Vec<F>, AllocErro
     Ok(list)
 }
 
-/// The costs of so many columns: 1 at the objective, where there is one, and else 0.
+/// The costs of `count` columns: 1 at the objective, if any, and else 0.
 fn all_costs<F: ExactField>(
     alloc: Global,
     count: usize,
@@ -42,14 +42,14 @@ fn all_costs<F: ExactField>(
     Ok(list)
 }
 
-/// Whether a row asks nothing.
+/// Whether a row is nonbinding (`=n=`).
 fn asks_nothing<F: ExactField>(row: &Row<F>) -> bool
     ensures { result ≡ asks_nothing row.now.sense }
 {
     matches!(row.sense, Sense::N)
 }
 
-/// Takes a factor times each entry away from the number of its column. None where a step does not fit.
+/// Subtracts a factor times each entry from the number of its column. None if a step does not fit.
 fn less_entries<F: ExactField>(costs: &mut [F], entries: &[(u32, F)], factor: F) -> Option<()>
     requires ordered { AllPairs (λ a b. a.0 < b.0) entries.now }
     requires there { All (λ e. e.0 < length costs.old) entries.now }
@@ -68,7 +68,8 @@ fn less_entries<F: ExactField>(costs: &mut [F], entries: &[(u32, F)], factor: F)
     Some(())
 }
 
-/// Takes a row's dual times its entries away from the costs, where the row asks something. None where a step does not fit.
+/// Subtracts a row's dual times its entries from the costs, if the row is binding. None if a step
+/// does not fit.
 fn less_row<F: ExactField>(costs: &mut [F], row: &Row<F>, dual: F) -> Option<()>
     requires ordered { AllPairs (λ a b. a.0 < b.0) row.now.entries }
     requires there { All (λ e. e.0 < length costs.old) row.now.entries }
@@ -81,7 +82,7 @@ fn less_row<F: ExactField>(costs: &mut [F], row: &Row<F>, dual: F) -> Option<()>
     less_entries(costs, row.entries.as_slice(), dual)
 }
 
-/// The reduced costs of so many columns, where each of their steps fits and there is memory for them.
+/// The reduced costs of `count` columns, if each of their steps fits and there is memory for them.
 pub(crate) fn all_reduced_costs<F: ExactField>(
     alloc: Global,
     count: usize,

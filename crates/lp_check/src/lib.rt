@@ -1,4 +1,4 @@
-//! Floor 4, linear programs. The bound of a linear program's objective that dual values give.
+//! Layer 4, linear programs. The bound of a linear program's objective that dual values give.
 #![tactic(auto)]
 
 mod bound;

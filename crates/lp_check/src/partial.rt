@@ -1,4 +1,4 @@
-//! A number on the way to the bound, and how many steps were taken for it.
+//! An intermediate number of the bound, and how many steps it took.
 ghost use Rattle.std.specs.Prelude.{◌≡◌, ◌+◌, ◌<◌, ◌^◌, length, pos};
 ghost use Rattle.gq_number.specs.Number.{whole};
 ghost use Rattle.lp_core.specs.Feasible.{bound_value};
@@ -9,7 +9,7 @@ use gq_field::ExactField;
 use lp_core::StepName;
 use std::cmp::Ordering;
 
-/// A number, and how many steps of the bound were taken up to it.
+/// A number, and how many steps of the bound led to it.
 #[derive(Clone, Copy)]
 pub(crate) struct Partial<F> {
     pub(crate) sum: F,
@@ -17,7 +17,7 @@ pub(crate) struct Partial<F> {
 }
 
 impl<F: ExactField> Partial<F> {
-    /// With the product of two numbers added, where there is a second one.
+    /// Adds the product of two numbers, if there is a second one.
     pub(crate) fn plus(self, factor: F, bound: Option<F>) -> Result<Partial<F>, StepName>
         requires { self.taken + length (plus_steps F.limit (F.value self.sum) (F.value factor) (bound_value F.value bound)) < 2 ^ 64 }
         ensures { Reaches F.value self.taken
@@ -41,7 +41,7 @@ impl<F: ExactField> Partial<F> {
         })
     }
 
-    /// With the product of two numbers taken away, where there is a second one.
+    /// Subtracts the product of two numbers, if there is a second one.
     pub(crate) fn less(self, factor: F, entry: Option<F>) -> Result<Partial<F>, StepName>
         requires { self.taken + length (less_steps F.limit (F.value self.sum) (F.value factor) (bound_value F.value entry)) < 2 ^ 64 }
         ensures { Reaches F.value self.taken
@@ -66,7 +66,7 @@ impl<F: ExactField> Partial<F> {
     }
 }
 
-/// The bound that a factor uses: the first where it is above 0, the second where it is below.
+/// The bound that a factor uses: the first if it is above 0, the second if below.
 pub(crate) fn bound_used<F: ExactField>(factor: F, first: Option<F>, second: Option<F>) -> Option<F>
     ensures { bound_value F.value result ≡ bound_used (F.value factor) (bound_value F.value first) (bound_value F.value second) }
 {

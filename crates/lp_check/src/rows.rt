@@ -10,7 +10,7 @@ use crate::partial::{Partial, bound_used};
 use gq_field::ExactField;
 use lp_core::{Row, Sense, StepName};
 
-/// The entry of a column, found by bisection, where there is one.
+/// The entry of a column, found by bisection, if any.
 fn entry_of<F: ExactField>(entries: &[(u32, F)], column: u32) -> Option<F>
     requires { AllPairs (λ a b. a.0 < b.0) entries.now }
     ensures { bound_value F.value result ≡ entry_of F.value entries.now column }
@@ -22,7 +22,7 @@ fn entry_of<F: ExactField>(entries: &[(u32, F)], column: u32) -> Option<F>
     }
 }
 
-/// The entry of a column in a row that asks something, where there is one.
+/// The entry of a column in a binding row, if any.
 fn entry_in<F: ExactField>(row: &Row<F>, column: u32) -> Option<F>
     requires { AllPairs (λ a b. a.0 < b.0) row.now.entries }
     ensures { bound_value F.value result ≡ entry_in F.value column row.now }
@@ -69,7 +69,7 @@ fn bounds_of<F: ExactField>(row: &Row<F>) -> (Option<F>, Option<F>)
     }
 }
 
-/// The bound of a row that its dual uses, for a bound from above or from below.
+/// The bound of a row that its dual uses, for an upper or a lower bound of the objective.
 fn row_bound<F: ExactField>(above: bool, row: &Row<F>, dual: F) -> Option<F>
     ensures { bound_value F.value result ≡ row_bound F.value above row.now (F.value dual) }
 {
@@ -81,7 +81,8 @@ fn row_bound<F: ExactField>(above: bool, row: &Row<F>, dual: F) -> Option<F>
     }
 }
 
-/// The rows' part of the bound: each dual times the bound of its row that it uses, added to what is there.
+/// The rows' part of the bound: each dual times the bound of its row that it uses, added to the sum
+/// so far.
 pub(crate) fn rows_part<F: ExactField>(
     rows: &[Row<F>],
     duals: &[F],

@@ -63,7 +63,7 @@ module _ {F : Type 0} (value : F → Number) (limit : ℕ) (x : List Number) (ro
   row_here : checked_rows value limit x n (drop i rows) ≡ checked_rows value limit x n (row ∷ drop (i + 1) rows)
   row_here = ap (checked_rows value limit x n) (drop_item rows i row here row_is)
 
-  -- the steps that are left, by the row there
+  -- the remaining steps, split at the row at this place
   pub steps_here : steps_of_rows (drop i rows) ≡ steps_of_rows (row ∷ drop (i + 1) rows)
   steps_here = ap steps_of_rows (drop_item rows i row here row_is)
 

@@ -1,4 +1,4 @@
--- Weak duality: what the bounds that duals use come to, against the costs at a feasible point.
+-- Weak duality: the bounds that the duals use, summed, against the costs at a feasible point.
 use Rattle.std.proofs.Common.{◌≡◌, ℕ, ◌<◌, true, false, cond, pos, List, [], ◌∷◌, length, map, Option, Some, None, option_map, refl, sym, ap, ◌∙◌, subst, arith}
 use Rattle.std.specs.declared.cmp.Ordering.{Ordering}
 use Rattle.std.specs.declared.cmp.Ordering.TheVariants.{Less, Equal, Greater}
@@ -125,7 +125,7 @@ module _ {F : Type 0} (value : F → Number) (lp : Lp F) (duals x : List Number)
   pub rows_at : Number
   rows_at = sum_by_ℚ (λ (p : Row F × Number). p.1 *ℚ row_sum value p.0.entries x) (zip lp.rows duals)
 
-  -- what costs come to at the point
+  -- the value of the costs at the point
   abbrev pub costs_at : (ℕ → Number) → Number
   costs_at costs = sum_by_ℚ (λ (q : ℕ × Column F). costs q.0 *ℚ number_of x q.0) (enumerate_from 0 lp.columns)
 
@@ -141,7 +141,7 @@ module _ {F : Type 0} (value : F → Number) (lp : Lp F) (duals x : List Number)
       (λ p inside. sum_by_same _ (λ (q : ℕ × Column F). p.1 *ℚ (coefficient value p.0.entries q.0 *ℚ number_of x q.0)) (enumerate_from 0 lp.columns) (λ q. *ℚ_assoc p.1 (coefficient value p.0.entries q.0) (number_of x q.0)) ∙ sum_by_ℚ-*ℚ p.1 (λ (q : ℕ × Column F). coefficient value p.0.entries q.0 *ℚ number_of x q.0) (enumerate_from 0 lp.columns) ∙ ap (λ u. p.1 *ℚ u) (row_by_columns value lp.columns x p.0.entries inside))
       (zip lp.rows duals) (All-zip (λ (row : Row F). All (λ (e : ℕ × F). e.0 < length lp.columns) row.entries) lp.rows duals there))
 
-  -- what the rows and the reduced costs come to at a point is what the costs come to
+  -- the rows' share and the reduced costs' share of a point's cost add up to the cost
   pub costs_split : (costs : ℕ → Number) → All (λ (row : Row F). All (λ (e : ℕ × F). e.0 < length lp.columns) row.entries) lp.rows → rows_at +ℚ sum_by_ℚ (λ (q : ℕ × Column F). reduced_cost value lp costs duals q.0 *ℚ number_of x q.0) (enumerate_from 0 lp.columns) ≡ costs_at costs
   costs_split costs there =
       let split = sum_by_same (λ (q : ℕ × Column F). reduced_cost value lp costs duals q.0 *ℚ number_of x q.0) (λ (q : ℕ × Column F). costs q.0 *ℚ number_of x q.0 -ℚ sum_by_ℚ (λ (p : Row F × Number). p.1 *ℚ coefficient value p.0.entries q.0) (zip lp.rows duals) *ℚ number_of x q.0) (enumerate_from 0 lp.columns)
@@ -157,7 +157,7 @@ module _ {F : Type 0} (value : F → Number) (lp : Lp F) (duals x : List Number)
   entries_there : IsWellFormed value lp → All (λ (row : Row F). All (λ (e : ℕ × F). e.0 < length lp.columns) row.entries) lp.rows
   entries_there formed = All-weaker (λ (row : Row F). AreEntries value (length lp.columns) row.entries) (λ (row : Row F). All (λ (e : ℕ × F). e.0 < length lp.columns) row.entries) (λ row entries. entries.there) lp.rows formed.entries
 
-  -- the bounds that are used come to no more than the costs at a feasible point
+  -- the sum of the used lower bounds is at most the cost of a feasible point
   pub low_at_most : (costs : ℕ → Number) (t : Number) → IsWellFormed value lp → Feasible value lp x → low value lp costs duals ≡ Some t → t ≤ℚ costs_at costs
   unfolding rows_at
   low_at_most costs t formed feasible e =
@@ -181,11 +181,11 @@ module _ {F : Type 0} (value : F → Number) (lp : Lp F) (duals x : List Number)
       (All-weaker (λ (q : ℕ × Column F). KeepsBounds value q.1 (number_of x q.0)) (λ (q : ℕ × Column F). (u : Number) → used (reduced_cost value lp costs duals q.0) (bound_value value q.1.upper) (bound_value value q.1.lower) ≡ Some u → reduced_cost value lp costs duals q.0 *ℚ number_of x q.0 ≤ℚ u) (λ q kept u is. used_at_least (reduced_cost value lp costs duals q.0) (number_of x q.0) u (bound_value value q.1.lower) (bound_value value q.1.upper) is kept.0 kept.1) (enumerate_from 0 lp.columns) feasible.bounds) in
       subst (λ u. costs_at costs ≤ℚ u) parts.4 (subst (λ u. u ≤ℚ parts.0 +ℚ parts.1) (costs_split costs (entries_there formed)) (Order.+ℚ-≤ℚ rows_at parts.0 _ parts.1 rows columns))
 
-  -- the costs that are 1 at the objective come to its value
+  -- the costs that are 1 at the objective's column and 0 elsewhere have its value
   objective_at : IsWellFormed value lp → costs_at (objective_costs lp) ≡ number_of x lp.objective
   objective_at formed = unit_sum lp.objective (whole (pos 1)) (number_of x) 0 lp.columns (omega arith) (omega (arith, formed.objective)) ∙ one-*ℚ (number_of x lp.objective)
 
-  -- no costs come to 0
+  -- the costs that are 0 everywhere have the value 0
   no_costs_at : costs_at no_costs ≡ whole (pos 0)
   no_costs_at = sum_by_same (λ (q : ℕ × Column F). whole (pos 0) *ℚ number_of x q.0) (λ (q : ℕ × Column F). whole (pos 0)) (enumerate_from 0 lp.columns) (λ q. zero-*ℚ (number_of x q.0)) ∙ sum_by_ℚ-zero (enumerate_from 0 lp.columns)
 
@@ -199,7 +199,7 @@ module _ {F : Type 0} (value : F → Number) (lp : Lp F) (duals x : List Number)
       let is : high value lp (objective_costs lp) duals ≡ Some t = subst (λ b. cond b (high value lp (objective_costs lp) duals) (low value lp (objective_costs lp) duals) ≡ Some t) greatest e in
       subst (λ u. u ≤ℚ t) (objective_at formed) (high_at_least (objective_costs lp) t formed feasible is)
 
-  -- a combination of rows that comes to more than 0 leaves no feasible point
+  -- if the lower bound of a combination of rows and bounds is above 0, no point is feasible
   pub none_feasible : (t : Number) → IsWellFormed value lp → low value lp no_costs duals ≡ Some t → whole (pos 0) <ℚ t → ¬ (Feasible value lp x)
   none_feasible t formed e above feasible =
       Order.<ℚ_irrefl (whole (pos 0)) (Order.<ℚ-≤ℚ_trans (whole (pos 0)) t (whole (pos 0)) above (subst (λ u. t ≤ℚ u) no_costs_at (low_at_most no_costs t formed feasible e)))

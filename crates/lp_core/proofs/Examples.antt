@@ -56,7 +56,8 @@ a_constant : take 2 (other_row_steps 127 1 (first_of (greatest (at_least 0 (whol
 unfolding gcd gcd_in_steps ratio whole ◌+ℚ◌ ◌-ℚ◌ ◌*ℚ◌ ◌/ℚ◌ inv_ℚ neg_ℚ number_cmp sum_by_ℚ
 a_constant = refl
 
--- x at least 100, z less half of x at most -50, half of x at most 100: after two pivots the level of x, 200, does not fit
+-- x is at least 100, z less half of x at most -50, half of x at most 100: after two pivots the
+-- level of x, 200, exceeds the limit
 abbrev last_level : Lp Number
 last_level =
     greatest (at_least 0 (whole (pos 0)) ∷ at_least 1 (whole (pos 100)) ∷ []) (most 2 (whole (negsuc 49)) ((0, whole (pos 1)) ∷ (1, ratio (negsuc 0) 2) ∷ []) ∷ most 3 (whole (pos 100)) ((1, ratio (pos 1) 2) ∷ []) ∷ [])

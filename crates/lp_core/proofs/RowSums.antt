@@ -26,7 +26,7 @@ unit_there : (k j : ℕ) (a : Number) → k ≢ j → unit_at k a j ≡ whole (p
 unit_there k j a other = grind (arith, nat_tests)
 
 module _ {X : Type 0} (k : ℕ) (a : Number) (f : ℕ → Number) where
-  -- places behind it
+  -- places after it
   unit_sum_past : (n : ℕ) (xs : List X) → k < n → sum_by_ℚ (λ (q : ℕ × X). unit_at k a q.0 *ℚ f q.0) (enumerate_from n xs) ≡ whole (pos 0)
   unit_sum_past n [] h = sum_by_ℚ-nil _
   unit_sum_past n (x ∷ xs) h =

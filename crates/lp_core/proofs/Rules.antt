@@ -1,4 +1,4 @@
--- What is allowed and chosen more widely: an answer by a choice is one under a rule, and the other way round.
+-- A wider rule: an answer by a choice is an answer under the rule, and conversely.
 use Rattle.std.proofs.Common.{◌≡◌, ℕ, ◌+◌, inl, inr, List, [], ◌∷◌, ◌++◌, length}
 use Rattle.gq_number.specs.Number.{Number}
 use Rattle.lp_core.specs.declared.answer.Pivot.{Pivot}

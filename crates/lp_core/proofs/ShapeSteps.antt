@@ -98,7 +98,7 @@ test_from_not_zero x some = by (is_zero_number x) refl
     by false e = refl
 
 module _ {F : Type 0} (value : F → Number) (n : ℕ) where
-  -- what the walk over entries tells
+  -- what the loop over the entries decides
   pub in_order-tells : (least : ℕ) (entries : List (ℕ × F)) → (are_in_order value n least entries ≡ true) ↔ (AreEntries value n entries × All (λ (e : ℕ × F). least ≤ e.0) entries)
   in_order-tells least [] =
       (λ _. (record { ascending = λ i j d less h. absurd (omega arith); there = All-nil (λ (e : ℕ × F). e.0 < n); not_zero = All-nil (λ (e : ℕ × F). value e.1 ≢ whole (pos 0)) }, All-nil (λ (e : ℕ × F). least ≤ e.0)), λ _. refl)

@@ -1,4 +1,5 @@
--- When an answer is one of a program under a limit of pivots and a rule (Chvatal, Linear Programming, chapters 2, 3 and 8).
+-- When an answer is an answer of a program, under a limit of pivots and a rule (Chvatal, Linear
+-- Programming, chapters 2, 3 and 8).
 use Rattle.std.specs.Prelude.{◌≡◌, ℕ, ◌≤◌, ◌⊎◌, List, [], length, map, Some, None}
 use Rattle.gq_number.specs.Number.{Number}
 use Rattle.lp_core.specs.declared.answer.Pivot.{Pivot}
@@ -19,16 +20,18 @@ use Rattle.lp_core.specs.Ends.{EndsSoBy}
 abbrev pub EndsCrossed : {F : Type 0} → (F → Number) → Lp F → End F → Type 0
 EndsCrossed {F} value lp end = (duals : List F) × (j : ℕ) × (end ≡ Infeasible duals (Some j)) × ProvesCrossed value lp j (map value duals)
 
--- none cross, and a step of the standard form does not fit: the end is Refused with the first such step
+-- no bounds cross, but a step of the standard form does not fit: the end is Refused with the first
+-- such step
 abbrev pub EndsUnformed : {F : Type 0} → (F → Number) → ℕ → Lp F → End F → Type 0
 EndsUnformed value limit lp end =
     FirstCrossed value lp.columns None × ((step : StepName) × (end ≡ Refused step) × FirstStop (standard_steps value limit lp) step)
 
 module _ {F : Type 0} (value : F → Number) (limit : ℕ) (lp : Lp F) (iterlim : ℕ) where
-  -- An answer of a program under a limit of pivots, by which pivots are allowed and which variables chosen, both told by the pivots
-  -- so far and the dictionary to which they lead: the bounds of a column cross; or a step of the standard form does not fit; or
-  -- none cross, all steps of the standard form fit, allowed pivots lead from the first dictionary to a last one, at most as many as
-  -- the limit, all their steps fit, and the search ends there.
+  -- An answer of a program under a limit of pivots. Which pivots are allowed and which variables
+  -- may be chosen depends on the pivots so far and the dictionary they lead to. There are three
+  -- cases: the bounds of a column cross; or none cross and a step of the standard form does not
+  -- fit; or none cross, the steps fit, at most `iterlim` allowed pivots lead from the first
+  -- dictionary to a final one with all their steps fitting, and the search ends there.
   abbrev pub IsAnswerBy : (List Pivot → Dictionary → Pivot → ℕ → Type 0) → (List Pivot → Dictionary → ℕ → Type 0) → Answer F → Type 0
   IsAnswerBy Allowed Chosen answer =
       let first : Dictionary = first_dictionary (standard_form value lp) in
@@ -38,12 +41,13 @@ module _ {F : Type 0} (value : F → Number) (limit : ℕ) (lp : Lp F) (iterlim 
       × ((last : Dictionary) × LeadsWithin Allowed limit 1 [] first answer.pivots last
       × EndsSoBy value limit lp iterlim (Allowed answer.pivots last) (Chosen answer.pivots last) (length answer.pivots) last answer.end))
 
-  -- an answer under a rule, which does not look at the pivots so far
+  -- an answer under a rule, which does not depend on the pivots so far
   abbrev pub IsAnswer : Rule → Answer F → Type 0
   IsAnswer rule answer = IsAnswerBy (ByRule rule) (λ done d. IsChosen rule d) answer
 
-  -- An answer by a choice of the variable that enters, which is told by the first dictionary, the pivots so far, the dictionary to
-  -- which they lead and the variable; of the tied variables the least leaves.
+  -- An answer by a choice of the entering variable. The choice depends on the first dictionary, the
+  -- pivots so far, the dictionary they lead to, and the variable. Of the tied variables the least
+  -- leaves.
   abbrev pub IsAnswerByChoice : (Dictionary → List Pivot → Dictionary → ℕ → Type 0) → Answer F → Type 0
   IsAnswerByChoice choice answer =
       let first : Dictionary = first_dictionary (standard_form value lp) in

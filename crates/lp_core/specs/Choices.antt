@@ -1,4 +1,5 @@
--- Where pivots lead, each by the row of the variable that leaves (Chvatal, Linear Programming, chapters 2 and 3).
+-- The dictionary to which pivots lead, each found by its leaving variable (Chvatal, Linear
+-- Programming, chapters 2 and 3).
 use Rattle.std.specs.Prelude.{ℕ, List, [], ◌∷◌, unwrap_or}
 use Rattle.lp_core.specs.declared.answer.Pivot.{Pivot}
 use Rattle.lp_core.specs.Dictionary.{Dictionary, exchanged}
@@ -17,7 +18,7 @@ abbrev pub reached : Dictionary → List Pivot → Dictionary
 reached d [] = d
 reached d (p ∷ pivots) = reached (after_pivot d p) pivots
 
--- at each dictionary along pivots this holds of the pivot that is taken there
+-- each pivot has the property, at the dictionary where it is made
 abbrev pub AllAlong : (Dictionary → Pivot → Type 0) → Dictionary → List Pivot → Type 0
 AllAlong At d [] = Unit {0}
 AllAlong At d (p ∷ pivots) = At d p × AllAlong At (after_pivot d p) pivots

@@ -9,9 +9,11 @@ use Rattle.lp_core.specs.declared.answer.Pivot.{Pivot}
 use Rattle.lp_core.specs.Sums.{number_of}
 use Rattle.lp_core.specs.StandardForm.{Standard, StandardRow, of_bound}
 
--- A dictionary: the equation of each basic variable and the objective. Column 0 of `numbers` is the constant, column v + 1
--- the variable v; a basic variable has its own 1 in its row, so that row k says: column 0 is the sum of each variable times its
--- number. The row after the last is the objective, with its constant negated in column 0. Variable 0 is the one of phase 1.
+-- A dictionary: an equation for each basic variable, and the objective. Column 0 of `numbers` is
+-- the constant, and column v + 1 belongs to variable v. A basic variable has coefficient 1 in its
+-- row. Row k states: column 0 equals the sum of each variable times its coefficient. The row after
+-- these is the objective, with its constant negated in column 0. Variable 0 is the artificial
+-- variable of phase 1.
 pub record Dictionary : Type 0 where
   -- the greatest number of a variable
   pub variables : ℕ
@@ -27,11 +29,11 @@ basic_at d k = slice_index_or d.basic k 0
 abbrev pub constant_at : Dictionary → ℕ → Number
 constant_at d k = d.numbers k 0
 
--- the number of a variable in a row
+-- the coefficient of a variable in a row
 abbrev pub entry_at : Dictionary → ℕ → ℕ → Number
 entry_at d k v = d.numbers k (v + 1)
 
--- what a row comes to at values of all variables: the sum less the constant
+-- the residual of a row at values of all variables: the sum of the terms less the constant
 abbrev pub row_at : Dictionary → ℕ → List Number → Number
 row_at d k x = sum_by_ℚ (λ v. entry_at d k v *ℚ number_of x v) (range_with_len 0 (d.variables + 1)) -ℚ constant_at d k
 
@@ -45,11 +47,12 @@ pub record Meets (d : Dictionary) (x : List Number) (objective : Number) : Type 
 abbrev pub some_below : Standard → Bool
 some_below s = list_any (λ row. is_lt (number_cmp row.right (whole (pos 0)))) s.rows
 
--- what the entries for a variable add up to
+-- the coefficient of a variable: the sum of its entries
 abbrev pub of_variable : List (ℕ × Number) → ℕ → Number
 of_variable entries v = sum_by_ℚ (λ e. if e.0 == v then e.1 else whole (pos 0)) entries
 
--- the number of variable v in a row of the first dictionary: variable 0 has a -1 where it is needed, the row's slack a 1
+-- the coefficient of variable v in a row of the first dictionary: -1 for variable 0 if phase 1 is
+-- needed, 1 for the row's slack
 abbrev pub first_entry : Bool → ℕ → StandardRow → ℕ → Number
 first_entry needed slack row zero = if needed then neg_ℚ (whole (pos 1)) else whole (pos 0)
 first_entry needed slack row (suc v) = if suc v == slack then whole (pos 1) else of_variable row.entries (suc v)
@@ -59,17 +62,18 @@ abbrev pub first_row : Bool → ℕ → StandardRow → ℕ → Number
 first_row needed slack row zero = row.right
 first_row needed slack row (suc v) = first_entry needed slack row v
 
--- the objective of the first dictionary, by column; the list has the coefficients of the variables from 1
+-- the objective row of the first dictionary, by column; the list has the coefficients of the
+-- variables from 1
 abbrev pub first_objective : Standard → ℕ → Number
 first_objective s zero = neg_ℚ s.constant
 first_objective s (suc zero) = whole (pos 0)
 first_objective s (suc (suc v)) = number_of s.objective v
 
--- a row that asks nothing
+-- the default for a place past the end: a row without entries
 abbrev pub no_row : StandardRow
 no_row = record { right = whole (pos 0); entries = []; origin = of_bound 0 }
 
--- the first dictionary of a standard form: the slacks are basic, their numbers following those of the other variables
+-- the first dictionary of a standard form: the slacks are basic, numbered after the other variables
 abbrev pub first_dictionary : Standard → Dictionary
 first_dictionary s =
     let count : ℕ = length s.objective in
@@ -81,26 +85,27 @@ first_dictionary s =
 
 -- ---- which pivots are legal
 
--- variable 0 stands in the rows
+-- variable 0 is basic
 abbrev pub InPhaseOne : Dictionary → Type 0
 InPhaseOne d = Contains d.basic 0
 
--- the opening pivot is due: some constant is below 0
+-- the opening pivot is required: some constant is below 0
 abbrev pub OpeningIsDue : Dictionary → Type 0
 OpeningIsDue d = (k : ℕ) × (k < length d.basic) × (constant_at d k <ℚ whole (pos 0))
 
--- the row by which pivots are chosen: that of variable 0 while it is basic, else the objective
+-- the priced row: that of variable 0 while it is basic, else the objective
 abbrev pub IsPriced : Dictionary → ℕ → Type 0
 IsPriced d k = (slice_get d.basic k ≡ Some 0) ⊎ (¬ (InPhaseOne d) × (k ≡ length d.basic))
 
--- A variable improves: it is not basic and not variable 0, and its number in the priced row is above 0.
+-- A variable improves: it is neither basic nor variable 0, and its coefficient in the priced row is
+-- above 0.
 pub record Improves (d : Dictionary) (v : ℕ) : Type 0 where
   pub other : v ≢ 0
   pub there : v ≤ d.variables
   pub not_basic : ¬ (Contains d.basic v)
   pub above : (k : ℕ) → IsPriced d k → whole (pos 0) <ℚ entry_at d k v
 
--- a row limits a variable: its number there is above 0
+-- a row limits a variable: its coefficient there is above 0
 abbrev pub Limits : Dictionary → ℕ → ℕ → Type 0
 Limits d q k = (k < length d.basic) × (whole (pos 0) <ℚ entry_at d k q)
 
@@ -108,7 +113,7 @@ Limits d q k = (k < length d.basic) × (whole (pos 0) <ℚ entry_at d k q)
 abbrev pub ratio_at : Dictionary → ℕ → ℕ → Number
 ratio_at d q k = constant_at d k /ℚ entry_at d k q
 
--- A row ties: it limits the variable, and no row does so earlier.
+-- A row ties: it limits the variable, and no row has a smaller ratio.
 pub record Ties (d : Dictionary) (q k : ℕ) : Type 0 where
   pub limits : Limits d q k
   pub least : (i : ℕ) → Limits d q i → ratio_at d q k ≤ℚ ratio_at d q i
@@ -124,7 +129,8 @@ pub record IsOpening (d : Dictionary) (p : Pivot) (k : ℕ) : Type 0 where
   pub leaves : slice_get d.basic k ≡ Some p.leave
   pub least : IsLeast d k
 
--- A pivot otherwise: an improving variable enters, the variable of a row that ties leaves, and variable 0 where it ties.
+-- Any pivot after the opening: an improving variable enters, and the variable of a tied row leaves,
+-- which is variable 0 if its row ties.
 pub record IsStep (d : Dictionary) (p : Pivot) (k : ℕ) : Type 0 where
   pub not_due : ¬ (OpeningIsDue d)
   pub improves : Improves d p.enter
@@ -138,7 +144,7 @@ IsLegal d p k = IsOpening d p k ⊎ IsStep d p k
 
 -- ---- the exchange
 
--- a number of the row of the variable that leaves, over that of the variable that enters
+-- a number of row k over the row's coefficient of the entering variable
 abbrev pub divided : Dictionary → ℕ → ℕ → ℕ → Number
 divided d q k c = d.numbers k c /ℚ entry_at d k q
 
@@ -146,7 +152,7 @@ divided d q k c = d.numbers k c /ℚ entry_at d k q
 abbrev pub exchanged_numbers : Dictionary → ℕ → ℕ → ℕ → ℕ → Number
 exchanged_numbers d q k i c = if i == k then divided d q k c else d.numbers i c -ℚ entry_at d i q *ℚ divided d q k c
 
--- the dictionary in which q has become basic in row k; variable 0 is dropped where it leaves
+-- the dictionary in which q has become basic in row k; variable 0 is dropped when it leaves
 abbrev pub exchanged : Dictionary → ℕ → ℕ → Dictionary
 exchanged d q k =
     record {

@@ -28,22 +28,23 @@ row_upper sense.L right = Some right
 row_upper sense.G right = None
 row_upper sense.N right = None
 
--- a factor times one of two bounds by how it compares with 0: the first where it is above, the second where it is below
+-- a factor times one of two bounds, chosen by the factor's sign: the first if it is positive, the
+-- second if negative
 abbrev pub by_sign : Ordering → Number → Option Number → Option Number → Option Number
 by_sign Greater factor first second = option_map (λ bound. factor *ℚ bound) first
 by_sign Equal factor first second = Some (whole (pos 0))
 by_sign Less factor first second = option_map (λ bound. factor *ℚ bound) second
 
--- a factor times the bound that it uses; none where that bound is none
+-- a factor times the bound that it uses; none if that bound does not exist
 abbrev pub used : Number → Option Number → Option Number → Option Number
 used factor first second = by_sign (number_cmp factor (whole (pos 0))) factor first second
 
--- the sum where each term is there
+-- the sum, if every term exists
 abbrev pub total : List (Option Number) → Option Number
 total [] = Some (whole (pos 0))
 total (term ∷ terms) = option_and_then (λ a. option_map (λ b. a +ℚ b) (total terms)) term
 
--- the sum of two numbers where both are there
+-- the sum of two numbers, if both exist
 abbrev pub both : Option Number → Option Number → Option Number
 both a b = option_and_then (λ x. option_map (λ y. x +ℚ y) b) a
 
@@ -51,17 +52,18 @@ both a b = option_and_then (λ x. option_map (λ y. x +ℚ y) b) a
 abbrev pub objective_costs : {F : Type 0} → Lp F → ℕ → Number
 objective_costs lp j = if lp.objective == j then whole (pos 1) else whole (pos 0)
 
--- no costs
+-- all costs 0
 abbrev pub no_costs : ℕ → Number
 no_costs j = whole (pos 0)
 
 module _ {F : Type 0} (value : F → Number) (lp : Lp F) where
-  -- the cost of a column less what the rows, each times its dual, have for it; costs are given by the column's place
+  -- the reduced cost of a column: its cost less the sum of each dual times the row's coefficient;
+  -- `costs` is by column
   abbrev pub reduced_cost : (ℕ → Number) → List Number → ℕ → Number
   reduced_cost costs duals j =
       costs j -ℚ sum_by_ℚ (λ (p : Row F × Number). p.1 *ℚ coefficient value p.0.entries j) (zip lp.rows duals)
 
-  -- the rows' part of the bound from below: each dual times the bound of its row that it uses
+  -- the rows' part of the lower bound: each dual times the bound of its row that it uses
   abbrev pub rows_low : List Number → Option Number
   rows_low duals =
       total (map (λ (p : Row F × Number). used p.1 (row_lower p.0.sense (value p.0.right)) (row_upper p.0.sense (value p.0.right))) (zip lp.rows duals))
@@ -71,11 +73,11 @@ module _ {F : Type 0} (value : F → Number) (lp : Lp F) where
   columns_low costs duals =
       total (map (λ (p : ℕ × Column F). used (reduced_cost costs duals p.0) (bound_value value p.1.lower) (bound_value value p.1.upper)) (enumerate_from 0 lp.columns))
 
-  -- what the costs come to at least, where each bound that is used is there
+  -- a lower bound of the costs, if each bound that it uses exists
   abbrev pub low : (ℕ → Number) → List Number → Option Number
   low costs duals = both (rows_low duals) (columns_low costs duals)
 
-  -- the same from above: lower and upper exchanged
+  -- the rows' part of the upper bound: lower and upper exchanged
   abbrev pub rows_high : List Number → Option Number
   rows_high duals =
       total (map (λ (p : Row F × Number). used p.1 (row_upper p.0.sense (value p.0.right)) (row_lower p.0.sense (value p.0.right))) (zip lp.rows duals))
@@ -84,10 +86,10 @@ module _ {F : Type 0} (value : F → Number) (lp : Lp F) where
   columns_high costs duals =
       total (map (λ (p : ℕ × Column F). used (reduced_cost costs duals p.0) (bound_value value p.1.upper) (bound_value value p.1.lower)) (enumerate_from 0 lp.columns))
 
-  -- what the costs come to at most
+  -- an upper bound of the costs, if each bound that it uses exists
   abbrev pub high : (ℕ → Number) → List Number → Option Number
   high costs duals = both (rows_high duals) (columns_high costs duals)
 
-  -- the bound of the objective: from above where it is to be greatest, else from below
+  -- the bound of the objective: an upper bound when maximizing, else a lower bound
   abbrev pub dual_bound : List Number → Option Number
   dual_bound duals = if lp.maximize then high (objective_costs lp) duals else low (objective_costs lp) duals

@@ -1,5 +1,6 @@
--- How a search ends at a dictionary: the condition of each kind of end, what the way back tells, and what may keep it from being told
--- (Chvatal, Linear Programming, chapters 2, 3 and 8). The steps of the way back stand in Steps, and what proves an end in Proofs.
+-- How a search ends at a dictionary: the condition of each kind of end, what the recovery gives,
+-- and which step may refuse it (Chvatal, Linear Programming, chapters 2, 3 and 8). Steps defines
+-- the steps of the recovery, and Proofs the certificates of ends.
 use Rattle.std.specs.Prelude.{◌≡◌, ℕ, ◌+◌, ◌<◌, ◌⊎◌, [], map, None}
 use Rattle.gq_number.specs.Number.{Number}
 use Rattle.lp_core.specs.declared.answer.Pivot.{Pivot}
@@ -16,11 +17,11 @@ use Rattle.lp_core.specs.Dictionary.{Dictionary, OpeningIsDue, InPhaseOne, Limit
 use Rattle.lp_core.specs.Steps.{AllFit, FirstStop, ratio_steps, exchange_steps, steps_back}
 use Rattle.lp_core.specs.Pivots.{IsChosen, NothingImproves, TestFits, last_of, last_along}
 
--- a variable is chosen that no row limits
+-- a chosen variable that no row limits
 abbrev pub IsUnlimitedBy : (ℕ → Type 0) → Dictionary → ℕ → Type 0
 IsUnlimitedBy Chosen d q = ¬ (OpeningIsDue d) × Chosen q × ((k : ℕ) → ¬ (Limits d q k))
 
--- a further pivot is due: the opening one, or a variable is chosen that some row limits
+-- a further pivot is required: the opening one, or a chosen variable enters that some row limits
 abbrev pub IsGoingOnBy : (ℕ → Type 0) → Dictionary → Type 0
 IsGoingOnBy Chosen d = OpeningIsDue d ⊎ (¬ (OpeningIsDue d) × ((q k : ℕ) × Chosen q × Limits d q k))
 
@@ -28,20 +29,23 @@ IsGoingOnBy Chosen d = OpeningIsDue d ⊎ (¬ (OpeningIsDue d) × ((q k : ℕ) �
 abbrev pub IsPhase : Dictionary → ℕ → Type 0
 IsPhase d phase = ((phase ≡ 1) × (OpeningIsDue d ⊎ InPhaseOne d)) ⊎ ((phase ≡ 2) × ¬ (OpeningIsDue d) × ¬ (InPhaseOne d))
 
--- a step of a further pivot, the n-th, that does not fit: one of the ratio test, or of the exchange where that test fits
+-- a step of the n-th pivot that does not fit: one of the ratio test, or of the exchange if the test
+-- fits
 abbrev pub PivotStopsBy : (Pivot → ℕ → Type 0) → (ℕ → Type 0) → ℕ → ℕ → Dictionary → StepName → Type 0
 PivotStopsBy Allowed Chosen limit n d step =
     (¬ (OpeningIsDue d) × ((q k : ℕ) × Chosen q × Limits d q k × FirstStop (ratio_steps limit n d q) step))
     ⊎ ((p : Pivot) × (k : ℕ) × Allowed p k × TestFits limit n d p × FirstStop (exchange_steps limit n d p.enter k) step)
 
--- a variable is chosen by the rule that no row limits
+-- a variable chosen by the rule that no row limits
 abbrev pub IsUnlimited : Rule → Dictionary → ℕ → Type 0
 IsUnlimited rule d q = IsUnlimitedBy (IsChosen rule d) d q
 
 -- ---- the kinds of ends
 
--- At a dictionary a search ends by this kind, and this is read from it: nothing improves, and variable 0 is not basic; or it is; a
--- variable is chosen that no row limits, and what is read is read along it; or the search is broken off in phase 2.
+-- At a dictionary a search ends with this kind and these final numbers. Optimal: nothing improves
+-- and variable 0 is not basic. Infeasible: nothing improves and it is basic. Unbounded: no row
+-- limits a chosen variable, and the numbers are read along it. Interrupted: the search is broken
+-- off in phase 2.
 abbrev pub EndsAt : (ℕ → Type 0) → Type 0 → Dictionary → EndKind → Last → Type 0
 EndsAt Chosen BrokenOff d kind.Optimal last = ¬ (InPhaseOne d) × NothingImproves d × (last ≡ last_of d)
 EndsAt Chosen BrokenOff d kind.Infeasible last = InPhaseOne d × NothingImproves d × (last ≡ last_of d)
@@ -49,7 +53,7 @@ EndsAt Chosen BrokenOff d kind.Unbounded last = ¬ (InPhaseOne d) × ((q : ℕ) 
 EndsAt Chosen BrokenOff d kind.Interrupted last = ¬ (InPhaseOne d) × ¬ (OpeningIsDue d) × BrokenOff × (last ≡ last_of d)
 
 module _ {F : Type 0} (value : F → Number) (lp : Lp F) where
-  -- the way back: what an end of this kind tells, by what was read from the last dictionary
+  -- the recovery: what an end of this kind has, computed from the numbers of the final dictionary
   abbrev pub LeadsTo : EndKind → Last → End F → Type 0
   LeadsTo kind.Optimal last (Optimal levels row_levels duals reduced) =
       (map value levels ≡ levels_back value lp last) × (map value row_levels ≡ row_sums value lp (levels_back value lp last))
@@ -63,16 +67,16 @@ module _ {F : Type 0} (value : F → Number) (lp : Lp F) where
   LeadsTo other last end = ⊥
 
 module _ {F : Type 0} (value : F → Number) (limit : ℕ) (lp : Lp F) where
-  -- an end of this kind: all steps of the way back fit, and the end is what that way tells, and is proved; or it is refused with the
-  -- first step of the way back that does not fit
+  -- an end of this kind: all steps of the recovery fit, and the end has what it computes and is
+  -- proved; or the end is refused with the first step of the recovery that does not fit
   abbrev pub EndsWith : EndKind → Last → End F → Type 0
   EndsWith how last end =
       (LeadsTo value lp how last end × AllFit (steps_back value limit lp how last) × IsProved value lp end)
       ⊎ ((step : StepName) × (end ≡ Refused step) × FirstStop (steps_back value limit lp how last) step)
 
 module _ {F : Type 0} (value : F → Number) (limit : ℕ) (lp : Lp F) (iterlim : ℕ) (Allowed : Pivot → ℕ → Type 0) (Chosen : ℕ → Type 0) where
-  -- The end of a search that stands at a dictionary after so many pivots. It ends by a kind, and so the end is one of that kind; or
-  -- the limit of pivots is met in phase 1, of which nothing is told; or it is refused with a step of a further pivot.
+  -- The end of a search at a dictionary after n pivots: it ends with a kind; or it meets the limit
+  -- of pivots in phase 1 and shows nothing; or it is refused with a step of a further pivot.
   abbrev pub EndsSoBy : ℕ → Dictionary → End F → Type 0
   EndsSoBy pivots d end =
       ((how : EndKind) × (last : Last) × EndsAt Chosen ((pivots ≡ iterlim) × IsGoingOnBy Chosen d) d how last × EndsWith value limit lp how last end)

@@ -40,7 +40,8 @@ KeepsSense sense.N sum right = Unit {0}
 abbrev pub KeepsRow : {F : Type 0} → (F → Number) → Row F → List Number → Type 0
 KeepsRow value row x = KeepsSense row.sense (row_sum value row.entries x) (value row.right)
 
--- A feasible point: one number for each column, which keeps the column's bounds, and each row is kept.
+-- A feasible point: one number for each column, within the column's bounds, that satisfies each
+-- row.
 pub record Feasible {F : Type 0} (value : F → Number) (lp : Lp F) (x : List Number) : Type 0 where
   pub sized : length x ≡ length lp.columns
   pub bounds : All (λ (p : ℕ × Column F). KeepsBounds value p.1 (number_of x p.0)) (enumerate_from 0 lp.columns)

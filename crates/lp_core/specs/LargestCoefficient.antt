@@ -1,5 +1,5 @@
--- The rule of the largest coefficient, with a turn to Bland's rule where pivots gain nothing (Chvatal, Linear Programming,
--- chapters 2 and 3).
+-- The rule of the largest coefficient, which turns to Bland's rule after pivots without gain
+-- (Chvatal, Linear Programming, chapters 2 and 3).
 use Rattle.std.specs.Prelude.{◌≡◌, ℕ, ◌+◌, ◌≤◌, ◌⊎◌, pos, List, ◌++◌, length}
 use Rattle.gq_number.specs.Number.{Number, whole}
 use Rattle.gq_number.specs.Order.{◌≤ℚ◌}
@@ -13,7 +13,7 @@ use Rattle.lp_core.specs.Ends.{IsPhase}
 use Rattle.lp_core.specs.Answers.{IsAnswerByChoice}
 use Rattle.lp_core.specs.Choices.{leaving_row, reached, AllAlong}
 
--- A variable improves with the greatest coefficient, and is the least of those that do so with the same.
+-- A variable improves with the greatest coefficient, and is the least of those that have it.
 pub record HasGreatest (d : Dictionary) (q : ℕ) : Type 0 where
   pub improves : Improves d q
   pub greatest : (v k : ℕ) → Improves d v → IsPriced d k → entry_at d k v ≤ℚ entry_at d k q
@@ -27,8 +27,8 @@ IsOfPhase phase d p = IsPhase d phase
 abbrev pub StandsStill : ℕ → Dictionary → Pivot → Type 0
 StandsStill phase d p = IsPhase d phase × (constant_at d (leaving_row d p) ≡ whole (pos 0))
 
--- The turn to Bland's rule has come in the phase of this dictionary, to which these pivots led: somewhere in it as many pivots
--- on end as there are variables, variable 0 included, gained nothing.
+-- The search has turned to Bland's rule in the phase of this dictionary: somewhere in the phase as
+-- many successive pivots gained nothing as there are variables, variable 0 included.
 pub record HasTurned (first : Dictionary) (pivots : List Pivot) (d : Dictionary) : Type 0 where
   pub phase : ℕ
   pub before : List Pivot
@@ -40,7 +40,8 @@ pub record HasTurned (first : Dictionary) (pivots : List Pivot) (d : Dictionary)
   pub same_phase : AllAlong (IsOfPhase phase) (reached first (before ++ still)) behind
   pub now : IsPhase d phase
 
--- the variable that enters next: the one with the greatest coefficient until the turn has come, and Bland's from then on
+-- the variable that enters next: the one with the greatest coefficient before the turn, Bland's
+-- after it
 abbrev pub IsNext : Dictionary → List Pivot → Dictionary → ℕ → Type 0
 IsNext first pivots d q = (¬ (HasTurned first pivots d) × HasGreatest d q) ⊎ (HasTurned first pivots d × IsChosen Bland d q)
 

@@ -1,4 +1,4 @@
--- Programs and answers with the numbers that their values mean, so that those over two fields can be compared.
+-- Programs and answers whose values are the numbers they mean, to compare those over two fields.
 use Rattle.std.specs.Prelude.{◌≡◌, ℕ, true, List, map, IfSome}
 use Rattle.std.specs.List.{All}
 use Rattle.gq_number.specs.Number.{Number}
@@ -46,14 +46,14 @@ module _ {F : Type 0} (value : F → Number) where
   abbrev pub answer_numbers : Answer F → Answer Number
   answer_numbers answer = record { pivots = answer.pivots; end = end_numbers answer.end }
 
--- the numbers of a column have no part over the limit
+-- no numerator or denominator of a column's numbers exceeds the limit
 abbrev pub ColumnIsWithin : ℕ → Column Number → Type 0
 ColumnIsWithin limit column = IfSome column.lower (λ b. fits limit b ≡ true) × IfSome column.upper (λ b. fits limit b ≡ true)
 
--- the numbers of a row have no part over the limit
+-- no numerator or denominator of a row's numbers exceeds the limit
 abbrev pub RowIsWithin : ℕ → Row Number → Type 0
 RowIsWithin limit row = (fits limit row.right ≡ true) × All (λ (e : ℕ × Number). fits limit e.1 ≡ true) row.entries
 
--- no number of a program has a part over the limit
+-- no numerator or denominator of a program's numbers exceeds the limit
 abbrev pub IsWithin : ℕ → Lp Number → Type 0
 IsWithin limit lp = All (ColumnIsWithin limit) lp.columns × All (RowIsWithin limit) lp.rows

@@ -1,4 +1,5 @@
--- What is read from a dictionary, and pivots that lead from one to another (Chvatal, Linear Programming, chapters 2 and 3).
+-- What is read from a dictionary, and the pivots that lead from one to another (Chvatal, Linear
+-- Programming, chapters 2 and 3).
 use Rattle.std.specs.Prelude.{◌≡◌, ℕ, ◌+◌, ◌≤◌, pos, List, [], ◌∷◌, ◌++◌, length, map, Option, Some, None, if◌then◌else◌, ◌==◌, position, unwrap_or}
 use Rattle.std.specs.List.{range_with_len}
 use Rattle.gq_number.specs.Number.{Number, whole, neg_ℚ}
@@ -47,33 +48,34 @@ last_of d =
       changes = [];
     }
 
--- the same with the ray along which q rises
+-- values and coefficients of all variables, with the ray along which q rises
 abbrev pub last_along : Dictionary → ℕ → Last
 last_along d q = record (last_of d) { changes = map (λ v. change_by_row d q v (row_of_basic d v)) (all_variables d) }
 
 -- ---- the rules
 
--- a variable that the rule allows to choose: it improves, and under Bland no lesser one does
+-- a variable that the rule may choose: it improves, and under Bland no lesser one does
 abbrev pub IsChosen : Rule → Dictionary → ℕ → Type 0
 IsChosen Bland d q = Improves d q × ((v : ℕ) → Improves d v → q ≤ v)
 IsChosen Legal d q = Improves d q
 
--- nothing is left to choose
+-- nothing remains to choose
 abbrev pub NothingImproves : Dictionary → Type 0
 NothingImproves d = ¬ (OpeningIsDue d) × ((v : ℕ) → ¬ (Improves d v))
 
--- the ratio steps of a pivot, of which the opening one has none
+-- the ratio steps of a pivot fit; the opening pivot has none
 abbrev pub TestFits : ℕ → ℕ → Dictionary → Pivot → Type 0
 TestFits limit n d p = ¬ (OpeningIsDue d) → AllFit (ratio_steps limit n d p.enter)
 
--- A pivot at a dictionary by what is chosen there: a chosen variable enters, and the least of the tied ones leaves, which is
--- variable 0 where it ties; at the opening the least variable among those with the least constant leaves.
+-- The pivot chosen at a dictionary: a chosen variable enters, and of the tied variables the least
+-- leaves, which is variable 0 if its row ties. At the opening the least variable leaves among those
+-- with the least constant.
 pub record IsTaken (Chosen : ℕ → Type 0) (d : Dictionary) (p : Pivot) : Type 0 where
   pub enters : ¬ (OpeningIsDue d) → Chosen p.enter
   pub leaves : (i : ℕ) → ¬ (OpeningIsDue d) → Ties d p.enter i → p.leave ≤ basic_at d i
   pub opens : (i : ℕ) → OpeningIsDue d → IsLeast d i → p.leave ≤ basic_at d i
 
--- a legal pivot by what is chosen; k is the row of the variable that leaves
+-- a legal pivot that the choice allows; k is the row of the variable that leaves
 abbrev pub IsAllowedBy : (ℕ → Type 0) → Dictionary → Pivot → ℕ → Type 0
 IsAllowedBy Chosen d p k = IsLegal d p k × IsTaken Chosen d p
 
@@ -84,24 +86,25 @@ IsAllowed Legal d p k = IsLegal d p k
 
 -- ---- ways from one dictionary to another, over numbers without limit; and whether their steps fit
 
--- Which pivots are allowed is told by the pivots so far, the dictionary to which they lead, the pivot, and the row of the
--- variable that leaves. A rule does not look at the pivots so far.
+-- The pivots that a rule allows. A rule depends on the dictionary, the pivot and the row of the
+-- leaving variable, but not on the pivots so far.
 abbrev pub ByRule : Rule → List Pivot → Dictionary → Pivot → ℕ → Type 0
 ByRule rule done d p k = IsAllowed rule d p k
 
--- the same by a choice of the variable that enters, which is told by the first dictionary, the pivots so far, the dictionary to
--- which they lead and the variable; of the tied variables the least leaves
+-- the pivots that a choice of the entering variable allows; the choice depends on the first
+-- dictionary, the pivots so far, the dictionary they lead to, and the variable; of the tied
+-- variables the least leaves
 abbrev pub ByChoice : (Dictionary → List Pivot → Dictionary → ℕ → Type 0) → Dictionary → List Pivot → Dictionary → Pivot → ℕ → Type 0
 ByChoice choice first done d p k = IsAllowedBy (choice first done d) d p k
 
 module _ (Allowed : List Pivot → Dictionary → Pivot → ℕ → Type 0) where
-  -- pivots lead from one dictionary, to which those of `done` have led, to another: each is allowed, at the dictionary to which
-  -- those before it lead
+  -- pivots lead from one dictionary, the result of the pivots `done`, to another: each is allowed
+  -- at the dictionary to which the pivots before it lead
   abbrev pub Leads : List Pivot → Dictionary → List Pivot → Dictionary → Type 0
   Leads done d [] last = last ≡ d
   Leads done d (p ∷ pivots) last = (k : ℕ) × Allowed done d p k × Leads (done ++ p ∷ []) (exchanged d p.enter k) pivots last
 
-  -- all steps on such a way fit under a limit; the first of its pivots is the n-th
+  -- all steps of these pivots fit under a limit; the first pivot is the n-th
   abbrev pub PivotsFit : ℕ → ℕ → (done : List Pivot) (d : Dictionary) (pivots : List Pivot) (last : Dictionary) → Leads done d pivots last → Type 0
   PivotsFit limit n done d [] last way = Unit {0}
   PivotsFit limit n done d (p ∷ pivots) last way =

@@ -1,4 +1,5 @@
--- What proves an answer, as inequalities of the program's own rows and bounds (Chvatal, Linear Programming, chapters 5 and 9).
+-- Certificates of answers, as inequalities of the program's rows and bounds (Chvatal, Linear
+-- Programming, chapters 5 and 9).
 use Rattle.std.specs.Prelude.{◌≡◌, ℕ, Bool, true, false, pos, List, length, map, replicate, slice_get, Option, Some, None}
 use Rattle.std.specs.List.{All, AllWithin, enumerate_from, range_with_len}
 use Rattle.gq_number.specs.Number.{Number, whole}
@@ -15,31 +16,31 @@ use Rattle.lp_core.specs.Sums.{number_of, row_sum}
 use Rattle.lp_core.specs.Feasible.{Feasible}
 use Rattle.lp_core.specs.DualBound.{reduced_cost, objective_costs, no_costs, dual_bound, low}
 
--- the lower bound passes the upper
+-- the lower bound exceeds the upper bound
 abbrev pub Crosses : {F : Type 0} → (F → Number) → Option F → Option F → Type 0
 Crosses value (Some lower) (Some upper) = value upper <ℚ value lower
 Crosses value lower upper = ⊥
 
--- the first of these columns whose bounds cross, if there is one: its bounds cross, and those of no column before it
+-- the first of these columns whose bounds cross, if any: the bounds of no column before it cross
 abbrev pub FirstCrossed : {F : Type 0} → (F → Number) → List (Column F) → Option ℕ → Type 0
 FirstCrossed {F} value columns (Some j) =
     ((column : Column F) × (slice_get columns j ≡ Some column) × Crosses value column.lower column.upper)
     × AllWithin (λ (column : Column F). ¬ (Crosses value column.lower column.upper)) columns 0 j
 FirstCrossed {F} value columns None = All (λ (column : Column F). ¬ (Crosses value column.lower column.upper)) columns
 
--- what a direction may do with a sum that compares so with a right side
+-- along a direction, the sum of a row still compares with its right side as its sense says
 abbrev pub KeepsSenseAlong : Sense → Number → Type 0
 KeepsSenseAlong sense.E change = change ≡ whole (pos 0)
 KeepsSenseAlong sense.L change = change ≤ℚ whole (pos 0)
 KeepsSenseAlong sense.G change = whole (pos 0) ≤ℚ change
 KeepsSenseAlong sense.N change = Unit {0}
 
--- what a direction may do with a column: not fall where there is a lower bound
+-- along a direction, a column with a lower bound does not fall
 abbrev pub KeepsLowerAlong : {F : Type 0} → Option F → Number → Type 0
 KeepsLowerAlong None change = Unit {0}
 KeepsLowerAlong (Some bound) change = whole (pos 0) ≤ℚ change
 
--- not rise where there is an upper bound
+-- along a direction, a column with an upper bound does not rise
 abbrev pub KeepsUpperAlong : {F : Type 0} → Option F → Number → Type 0
 KeepsUpperAlong None change = Unit {0}
 KeepsUpperAlong (Some bound) change = change ≤ℚ whole (pos 0)
@@ -62,17 +63,18 @@ module _ {F : Type 0} (value : F → Number) (lp : Lp F) where
     pub reduced_costs : reduced ≡ map (λ j. reduced_cost value lp (objective_costs lp) duals j) (range_with_len 0 (length lp.columns))
     pub bound : dual_bound value lp duals ≡ Some (number_of levels lp.objective)
 
-  -- Infeasible by a combination of rows: what it comes to at least is above 0, and is 0 at each point.
+  -- Infeasible by a Farkas combination of rows and bounds: it is 0 at each point, yet its lower
+  -- bound is above 0.
   pub record ProvesInfeasible (duals : List Number) : Type 0 where
     pub sized : length duals ≡ length lp.rows
     pub above : (bound : Number) × (low value lp no_costs duals ≡ Some bound) × (whole (pos 0) <ℚ bound)
 
-  -- Infeasible by a column: it is the first whose lower bound passes its upper one.
+  -- Infeasible by a column: it is the first whose lower bound exceeds its upper bound.
   pub record ProvesCrossed (j : ℕ) (duals : List Number) : Type 0 where
     pub first : FirstCrossed value lp.columns (Some j)
     pub duals_zero : duals ≡ replicate (length lp.rows) (whole (pos 0))
 
-  -- A ray: a direction along which bounds and rows stay kept and the objective becomes better.
+  -- A ray: a direction along which bounds and rows stay satisfied and the objective improves.
   pub record IsRay (ray : List Number) : Type 0 where
     pub sized : length ray ≡ length lp.columns
     pub lower : All (λ (p : ℕ × Column F). KeepsLowerAlong p.1.lower (number_of ray p.0)) (enumerate_from 0 lp.columns)
@@ -86,7 +88,8 @@ module _ {F : Type 0} (value : F → Number) (lp : Lp F) where
     pub rows : row_levels ≡ row_sums levels
     pub along : IsRay ray
 
-  -- An end is proved by the program's own rows and bounds; after an interruption it is proved that the point is feasible.
+  -- An end is proved from the program's rows and bounds. An interrupted end has only a feasible
+  -- point to prove.
   abbrev pub IsProved : End F → Type 0
   IsProved (Optimal levels row_levels duals reduced) = ProvesOptimal (map value levels) (map value row_levels) (map value duals) (map value reduced)
   IsProved (Infeasible duals None) = ProvesInfeasible (map value duals)
@@ -95,6 +98,6 @@ module _ {F : Type 0} (value : F → Number) (lp : Lp F) where
   IsProved (Interrupted phase levels row_levels) = Feasible value lp (map value levels)
   IsProved (Refused step) = ⊥
 
--- the point as far along the ray as t says
+-- the point plus t times the ray
 abbrev pub further : List Number → Number → List Number → List Number
 further levels t ray = added levels (scaled t ray)

@@ -1,5 +1,6 @@
--- The standard form of a program, and the way back (Chvatal, Linear Programming, chapter 1: variables at least 0, rows at most
--- their right sides, an objective to be greatest).
+-- The standard form of a program, and the recovery of its answer. A standard form has variables
+-- that are at least 0, rows that are at most their right sides, and an objective to maximize
+-- (Chvatal, Linear Programming, chapter 1).
 use Rattle.std.specs.Prelude.{ℕ, ◌+◌, ◌==◌, Bool, true, false, pos, List, [], ◌∷◌, ◌++◌, map, flat_map, slice_index_or, sum_by, Option, Some, None, if◌then◌else◌}
 use Rattle.std.specs.List.{enumerate_from, range_with_len}
 use Rattle.gq_number.specs.Number.{Number, whole, ◌+ℚ◌, ◌-ℚ◌, ◌*ℚ◌, neg_ℚ}
@@ -14,27 +15,29 @@ use Rattle.lp_core.specs.Feasible.{bound_value}
 -- passed on: how many rows of the standard form a row, a column and rows have
 pub use Rattle.lp_core.specs.WellFormed.{rows_of_sense, rows_of_bounds, count_of_rows}
 
--- How a column is told by variables that are at least 0: its lower bound plus one, its upper bound less one, or the
--- difference of two.
+-- How variables that are at least 0 express a column: its lower bound plus one, its upper bound
+-- less one, or the difference of two.
 pub data Shift : Type 0 where
   from_lower : Number → Shift
   from_upper : Number → Shift
   free : Shift
 
--- where a row of the standard form comes from: a row of the program, with its sign kept or changed, or a column with two bounds
+-- the origin of a row of the standard form: a row of the program, its sign kept or changed, or a
+-- column with two bounds
 pub data Origin : Type 0 where
   of_row : ℕ → Origin
   of_negated : ℕ → Origin
   of_bound : ℕ → Origin
 
--- A row of the standard form: coefficients by the numbers of variables, whose sum is at most the right side.
+-- A row of the standard form: the sum of the coefficients, each times its variable, is at most the
+-- right side.
 pub record StandardRow : Type 0 where
   pub right : Number
   pub entries : List (ℕ × Number)
   pub origin : Origin
 
--- A program in standard form: each column with the number of its first variable and its shift, the rows, and the objective
--- that is to be greatest: a constant and a coefficient for each variable from 1.
+-- A program in standard form: each column with the number of its first variable and its shift; the
+-- rows; and the objective to maximize, a constant and a coefficient for each variable from 1.
 pub record Standard : Type 0 where
   pub columns : List (ℕ × Shift)
   pub rows : List StandardRow
@@ -76,7 +79,7 @@ shifted_back (v, from_lower b) y = b +ℚ number_of y v
 shifted_back (v, from_upper b) y = b -ℚ number_of y v
 shifted_back (v, free) y = number_of y v -ℚ number_of y (v + 1)
 
--- the point that values of all variables stand for
+-- the point that values of all variables express
 abbrev pub point_of : Standard → List Number → List Number
 point_of s y = map (λ column. shifted_back column y) s.columns
 
@@ -101,7 +104,7 @@ abbrev pub directed : Bool → Number → Number
 directed true x = x
 directed false x = neg_ℚ x
 
--- a column that is not there has a shift without effect
+-- the shift at a place; a shift without effect past the last column
 abbrev pub column_at : List (ℕ × Shift) → ℕ → ℕ × Shift
 column_at columns j = slice_index_or columns j (0, free)
 
@@ -115,7 +118,8 @@ module _ {F : Type 0} (value : F → Number) (lp : Lp F) where
   abbrev pub columns_of : List (ℕ × Shift)
   columns_of = numbered 1 (map (λ (column : Column F). shift_of (bound_value value column.lower) (bound_value value column.upper)) lp.columns)
 
-  -- a row as one of the standard form, its sign kept: each column told by its variables, the bounds taken out of the right side
+  -- a program row as a row of the standard form, its sign kept: variables express the columns, and
+  -- the right side is less the bounds' share
   abbrev pub shifted_row : ℕ → Row F → StandardRow
   shifted_row i r =
       record {
@@ -124,7 +128,8 @@ module _ {F : Type 0} (value : F → Number) (lp : Lp F) where
         origin = of_row i;
       }
 
-  -- the rows of the standard form: those of the program's rows, then those of columns with two bounds
+  -- the rows of the standard form: first those of the program's rows, then those of columns with
+  -- two bounds
   abbrev pub rows_of : List StandardRow
   rows_of =
       flat_map (λ (p : ℕ × Row F). rows_by_sense p.1.sense p.0 (shifted_row p.0 p.1)) (enumerate_from 0 lp.rows)
@@ -145,21 +150,23 @@ module _ {F : Type 0} (value : F → Number) (lp : Lp F) where
         constant = directed lp.maximize (base z.1);
       }
 
--- ---- the way back
+-- ---- the recovery
 
--- What is read from a last dictionary, for all variables from number 0: their values, their coefficients in the objective or,
--- where the program is infeasible, in the row of variable 0; and their changes along a ray.
+-- What is read from a final dictionary, for all variables from number 0: their values; their
+-- coefficients in the objective or, if the program is infeasible, in the row of variable 0; and
+-- their changes along a ray.
 pub record Last : Type 0 where
   pub values : List Number
   pub costs : List Number
   pub changes : List Number
 
--- the multiplier of the r-th row of the standard form, from 0: the negated coefficient of its slack, which has the number
--- that many after the variables
+-- the multiplier of row r of the standard form, from 0: the negated coefficient of its slack, which
+-- is variable `variables` + 1 + r
 abbrev pub multiplier : ℕ → List Number → ℕ → Number
 multiplier variables costs r = neg_ℚ (number_of costs (variables + 1 + r))
 
--- what a row's multipliers make of its dual; r is the place of its first row in the standard form
+-- the dual of a row from the multipliers of its rows in the standard form, of which the first has
+-- place r
 abbrev pub dual_by_sense : Sense → (ℕ → Number) → ℕ → Number
 dual_by_sense sense.E p r = p r -ℚ p (r + 1)
 dual_by_sense sense.L p r = p r
@@ -171,14 +178,16 @@ abbrev pub duals_from : {F : Type 0} → (ℕ → Number) → ℕ → List (Row 
 duals_from p r [] = []
 duals_from p r (row ∷ rows) = dual_by_sense row.sense p r ∷ duals_from p (r + rows_of_sense row.sense) rows
 
--- the reduced cost of a column: v is its first variable, r the place of its row in the standard form, if it has one
+-- the reduced cost of a column; v is its first variable, and r the place of its row in the standard
+-- form, if any
 abbrev pub reduced_by_bounds : {B : Type 0} → List Number → (ℕ → Number) → ℕ → ℕ → Option B → Option B → Number
 reduced_by_bounds costs p v r (Some lower) (Some upper) = number_of costs v +ℚ p r
 reduced_by_bounds costs p v r (Some lower) None = number_of costs v
 reduced_by_bounds costs p v r None (Some upper) = neg_ℚ (number_of costs v)
 reduced_by_bounds costs p v r None None = whole (pos 0)
 
--- the reduced costs of columns, given with the numbers of their first variables; r is the place of the next column's row
+-- the reduced costs of columns, given the numbers of their first variables; r is the place of the
+-- next column's row
 abbrev pub reduced_from : {F : Type 0} → List Number → (ℕ → Number) → ℕ → List (ℕ × Shift) → List (Column F) → List Number
 reduced_from costs p r [] columns = []
 reduced_from costs p r (s ∷ shifts) [] = []
@@ -200,12 +209,13 @@ module _ {F : Type 0} (value : F → Number) (lp : Lp F) (last : Last) where
   abbrev pub duals_back : List Number
   duals_back = map (directed lp.maximize) (duals_from (multiplier (variables_of value lp) last.costs) 0 lp.rows)
 
-  -- the reduced cost of each column of an optimum; the columns' own rows come after those of the program's rows
+  -- the reduced cost of each column at an optimum; the rows for columns follow those of the
+  -- program's rows
   abbrev pub reduced_back : List Number
   reduced_back =
       map (directed lp.maximize) (reduced_from last.costs (multiplier (variables_of value lp) last.costs) (count_of_rows lp.rows) (columns_of value lp) lp.columns)
 
-  -- the factor of each row where no point is feasible
+  -- the Farkas factor of each row, if no point is feasible
   abbrev pub farkas_back : List Number
   farkas_back = map neg_ℚ (duals_from (multiplier (variables_of value lp) last.costs) 0 lp.rows)
 

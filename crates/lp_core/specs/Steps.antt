@@ -1,4 +1,4 @@
--- The named steps of a solver in their order, each with whether it fits, and the first that does not.
+-- The named steps of a solver in order, each with whether it fits, and the first that does not.
 use Rattle.std.specs.Prelude.{◌≡◌, ℕ, ◌+◌, ◌*◌, ◌==◌, ◌&&◌, Bool, true, false, not, pos, List, [], ◌∷◌, ◌++◌, length, map, filter, flat_map, Option, Some, None, Result, Ok, Err, if◌then◌else◌}
 use Rattle.std.specs.List.{All, enumerate_from, range_with_len}
 use Rattle.std.specs.Ordering.{is_gt}
@@ -21,8 +21,8 @@ pub use Rattle.lp_core.specs.WellFormed.{count_of_rows}
 use Rattle.lp_core.specs.StandardForm.{Shift, from_lower, from_upper, free, base, column_at, columns_of, variables_of, rows_of_sense, rows_of_bounds, multiplier, Last, levels_back}
 use Rattle.lp_core.specs.Dictionary.{Dictionary, constant_at, entry_at, divided}
 
--- A step that is due, and whether it fits. A step with a factor 0 and a sum with 0 always fit, so that a list may have them or
--- leave them out.
+-- An expected step, and whether it fits. A step with a factor 0 and a sum with 0 always fit, so a
+-- list may contain or omit them.
 abbrev pub Due : Type 0
 Due = StepName × Bool
 
@@ -41,17 +41,18 @@ pub record FirstStop (steps : List Due) (name : StepName) : Type 0 where
 abbrev pub product_fits : ℕ → Number → Number → Bool
 product_fits limit x y = fits limit (x *ℚ y)
 
--- whether their quotient fits
+-- whether the quotient of two numbers fits
 abbrev pub quotient_fits : ℕ → Number → Number → Bool
 quotient_fits limit x y = fits limit (x /ℚ y)
 
--- whether their difference fits, which is the sum with the second negated
+-- whether the difference of two numbers fits, which is the sum with the second negated
 abbrev pub difference_fits : ℕ → Number → Number → Bool
 difference_fits limit x y = sum_fits limit x (neg_ℚ y)
 
 -- ---- the standard form: each bound is taken out of a right side, entry by entry
 
--- the steps on one entry of a row, by the shift of its column: the product of coefficient and bound, and the difference
+-- the steps on one entry of a row, by its column's shift: the product of coefficient and bound, and
+-- the difference
 abbrev pub shifting : ℕ → ℕ → ℕ → Shift → Number → Number → List Due
 shifting limit r j free a right = []
 shifting limit r j (from_lower b) a right =
@@ -59,14 +60,16 @@ shifting limit r j (from_lower b) a right =
 shifting limit r j (from_upper b) a right =
     (StandardStep r (j + 1) 0, product_fits limit a b) ∷ (StandardStep r (j + 1) 1, difference_fits limit right (a *ℚ b)) ∷ []
 
--- the steps on the entries of a row whose right side stands at `right`; r is the number of its standard row, from 1
+-- the steps on the entries of a row whose right side is `right` so far; r is the number of its
+-- standard row, from 1
 abbrev pub row_steps : {F : Type 0} → (F → Number) → ℕ → List (ℕ × Shift) → ℕ → Number → List (ℕ × F) → List Due
 row_steps value limit columns r right [] = []
 row_steps value limit columns r right (e ∷ entries) =
     shifting limit r e.0 (column_at columns e.0).1 (value e.1) right
     ++ row_steps value limit columns r (right -ℚ value e.1 *ℚ base (column_at columns e.0).1) entries
 
--- the steps on rows of which the first has the standard row of this number; a row that asks nothing has none
+-- the steps on rows; r is the number of the first row's standard row, and a nonbinding row has
+-- no steps
 abbrev pub rows_steps : {F : Type 0} → (F → Number) → ℕ → List (ℕ × Shift) → ℕ → List (Row F) → List Due
 rows_steps value limit columns r [] = []
 rows_steps value limit columns r (row ∷ rows) =
@@ -109,13 +112,14 @@ other_row_steps limit pivot d q k i =
     flat_map (λ c. (Exchange pivot (i + 1) c 0, product_fits limit (entry_at d i q) (divided d q k c)) ∷ (Exchange pivot (i + 1) c 1, difference_fits limit (d.numbers i c) (entry_at d i q *ℚ divided d q k c)) ∷ [])
     (range_with_len 0 (d.variables + 2))
 
--- the steps of the exchange: first the row of the variable that leaves, then the others, the objective last
+-- the steps of an exchange: the row of the leaving variable, the other rows, and the objective at
+-- the end
 abbrev pub exchange_steps : ℕ → ℕ → Dictionary → ℕ → ℕ → List Due
 exchange_steps limit pivot d q k =
     pivot_row_steps limit pivot d q k
     ++ flat_map (other_row_steps limit pivot d q k) (filter (λ i. not (i == k)) (range_with_len 0 (length d.basic + 1)))
 
--- ---- the way back; places count from 0
+-- ---- the recovery; places count from 0
 
 -- the step on the level of a column, by its shift
 abbrev pub level_step : ℕ → ℕ → ℕ × Shift → List Number → Due
@@ -123,21 +127,23 @@ level_step limit j (v, from_lower b) y = (Recover 0 j 0 1, sum_fits limit b (num
 level_step limit j (v, from_upper b) y = (Recover 0 j 0 1, difference_fits limit b (number_of y v))
 level_step limit j (v, free) y = (Recover 0 j 0 1, difference_fits limit (number_of y v) (number_of y (v + 1)))
 
--- the steps on the entries of row i from place e on, whose sum stands at s: product, then sum
+-- the steps on the entries of row i from place e on, where s is the sum so far: product, then sum
 abbrev pub row_level_steps : {F : Type 0} → (F → Number) → ℕ → ℕ → ℕ → Number → List (ℕ × F) → List Number → List Due
 row_level_steps value limit i e s [] x = []
 row_level_steps value limit i e s (p ∷ entries) x =
     (Recover 1 i e 0, product_fits limit (value p.1) (number_of x p.0))
     ∷ (Recover 1 i e 1, sum_fits limit s (value p.1 *ℚ number_of x p.0)) ∷ row_level_steps value limit i (e + 1) (s +ℚ value p.1 *ℚ number_of x p.0) entries x
 
--- the steps on the duals of rows, of which the first is row i and has its first standard row at place r: an equation's difference
+-- the steps on the duals of rows from row i on, whose first standard row is at place r: the
+-- difference for an equation
 abbrev pub dual_steps : {F : Type 0} → ℕ → (ℕ → Number) → ℕ → ℕ → List (Row F) → List Due
 dual_steps limit p i r [] = []
 dual_steps limit p i r (row ∷ rows) =
     (if rows_of_sense row.sense == 2 then (Recover 2 i 0 1, difference_fits limit (p r) (p (r + 1))) ∷ [] else [])
     ++ dual_steps limit p (i + 1) (r + rows_of_sense row.sense) rows
 
--- the steps on the reduced costs of columns from place j on: the sum for a column with a row of its own, which is at place r
+-- the steps on the reduced costs of columns from place j on: the sum for a column that has a row,
+-- which is at place r
 abbrev pub reduced_steps : {F : Type 0} → ℕ → List Number → (ℕ → Number) → ℕ → ℕ → List (ℕ × Shift) → List (Column F) → List Due
 reduced_steps limit costs p j r [] columns = []
 reduced_steps limit costs p j r (s ∷ shifts) [] = []
@@ -169,7 +175,7 @@ module _ {F : Type 0} (value : F → Number) (limit : ℕ) (lp : Lp F) (last : L
   abbrev pub ray_steps : List Due
   ray_steps = flat_map (λ (p : ℕ × (ℕ × Shift)). ray_step limit p.0 p.1 last.changes) (enumerate_from 0 (columns_of value lp))
 
-  -- the steps of the way back, by the end that it leads to
+  -- the steps of the recovery, by the kind of end
   abbrev pub optimal_steps : List Due
   optimal_steps = levels_steps ++ row_levels_steps ++ duals_steps ++ reduced_costs_steps
 
@@ -182,16 +188,18 @@ module _ {F : Type 0} (value : F → Number) (limit : ℕ) (lp : Lp F) (last : L
   abbrev pub interrupted_steps : List Due
   interrupted_steps = levels_steps ++ row_levels_steps
 
--- the steps of the way back of each kind of end, in their order
+-- the steps of the recovery of each kind of end, in order
 abbrev pub steps_back : {F : Type 0} → (F → Number) → ℕ → Lp F → EndKind → Last → List Due
 steps_back value limit lp kind.Optimal last = optimal_steps value limit lp last
 steps_back value limit lp kind.Infeasible last = infeasible_steps value limit lp last
 steps_back value limit lp kind.Unbounded last = unbounded_steps value limit lp last
 steps_back value limit lp kind.Interrupted last = interrupted_steps value limit lp last
 
--- ---- a check of a point: first its bounds, without a step; then row by row the sum, entry by entry; steps count from 0
+-- ---- the check of a point: its bounds, without a step; then the sum of each row, entry by entry;
+-- steps count from 0
 
--- the sum of the entries of a row on top of s, the next step having number n; or the first step that does not fit
+-- the sum s plus the entries of a row, where the next step has number n; or the first step that
+-- does not fit
 abbrev pub checked_sum : {F : Type 0} → (F → Number) → ℕ → List Number → ℕ → Number → List (ℕ × F) → Result Number StepName
 checked_sum value limit x n s [] = Ok s
 checked_sum value limit x n s (e ∷ entries) =
@@ -205,12 +213,12 @@ checked_sum value limit x n s (e ∷ entries) =
 abbrev pub at_most : Number → Number → Bool
 at_most x y = not (is_gt (number_cmp x y))
 
--- whether a number keeps a lower bound, where there is one
+-- whether a number keeps a lower bound, if there is one
 abbrev pub keeps_lower : Option Number → Number → Bool
 keeps_lower None x = true
 keeps_lower (Some bound) x = at_most bound x
 
--- whether a number keeps an upper bound, where there is one
+-- whether a number keeps an upper bound, if there is one
 abbrev pub keeps_upper : Option Number → Number → Bool
 keeps_upper None x = true
 keeps_upper (Some bound) x = at_most x bound
@@ -229,12 +237,13 @@ keeps_sense sense.L sum right = at_most sum right
 keeps_sense sense.G sum right = at_most right sum
 keeps_sense sense.N sum right = true
 
--- a row that asks nothing is passed over
+-- a nonbinding row is skipped
 abbrev pub asks_nothing : Sense → Bool
 asks_nothing sense.N = true
 asks_nothing s = false
 
--- where the sum of a row is there, it is compared: where it does not hold the point is not feasible, else the rest is checked
+-- a row's sum, if it fits, is compared: if the comparison fails the point is infeasible, else the
+-- rest is checked
 abbrev pub compared : Result Number StepName → Sense → Number → Result Bool StepName → Result Bool StepName
 compared (Ok sum) s right rest = if keeps_sense s sum right then rest else Ok false
 compared (Err step) s right rest = Err step

@@ -3,14 +3,14 @@ use Rattle.std.specs.Prelude.{ℕ, ◌==◌, pos, List, slice_index_or, if◌the
 use Rattle.gq_number.specs.Number.{Number, whole, ◌*ℚ◌}
 use Rattle.gq_number.specs.Sums.{sum_by_ℚ}
 
--- Entries are pairs of a column's place and a coefficient; a point is the list of the columns' values. `value` is the
--- number that a value of the field means.
+-- An entry is a pair of a column's place and a coefficient; a point is the list of the columns'
+-- values. `value` gives the number that a field's value means.
 
 -- the value of a column at a point; 0 past the point's end
 abbrev pub number_of : List Number → ℕ → Number
 number_of x j = slice_index_or x j (whole (pos 0))
 
--- the coefficient of a column: what the entries for it add up to, of which a row in order has one at most
+-- the coefficient of a column: the sum of its entries, of which a row in order has at most one
 abbrev pub coefficient : {F : Type 0} → (F → Number) → List (ℕ × F) → ℕ → Number
 coefficient value entries j = sum_by_ℚ (λ e. if e.0 == j then value e.1 else whole (pos 0)) entries
 

@@ -8,7 +8,7 @@ use Rattle.lp_core.specs.declared.program.Column.{Column}
 use Rattle.lp_core.specs.declared.program.Row.{Row}
 use Rattle.lp_core.specs.declared.program.Lp.{Lp}
 
--- how many rows of the standard form a row has: an equation has two, a row that asks nothing none
+-- how many rows of the standard form a row has: an equation has two, a nonbinding row none
 abbrev pub rows_of_sense : Sense → ℕ
 rows_of_sense sense.E = 2
 rows_of_sense sense.L = 1
@@ -37,14 +37,14 @@ standard_rows {F} lp = count_of_rows lp.rows + sum_by (λ (column : Column F). r
 abbrev pub standard_columns : {F : Type 0} → Lp F → ℕ
 standard_columns {F} lp = sum_by (λ (column : Column F). variables_of_bounds column.lower column.upper) lp.columns
 
--- the entries of a row ascend by column, name columns that are there, and are not 0
+-- the entries of a row ascend by column, name columns of the program, and are not 0
 pub record AreEntries {F : Type 0} (value : F → Number) (columns : ℕ) (entries : List (ℕ × F)) : Type 0 where
   pub ascending : AllPairs (λ (a b : ℕ × F). a.0 < b.0) entries
   pub there : All (λ (e : ℕ × F). e.0 < columns) entries
   pub not_zero : All (λ (e : ℕ × F). value e.1 ≢ whole (pos 0)) entries
 
--- A well-formed program: its objective is one of its columns, keys are distinct, each row's entries are in order, and the
--- standard form has at most 1,500 rows and 3,000 variables.
+-- A well-formed program: its objective is one of its columns, keys are distinct, each row's entries
+-- are in order, and the standard form has at most 1,500 rows and 3,000 variables.
 pub record IsWellFormed {F : Type 0} (value : F → Number) (lp : Lp F) : Type 0 where
   pub objective : lp.objective < length lp.columns
   pub columns_differ : AllPairs (λ (a b : Column F). a.key ≢ b.key) lp.columns

@@ -2,7 +2,8 @@
 use crate::sequence::Sequence;
 use thiserror::Error;
 
-/// One pivot of the simplex method: the variables that enter and leave the basis, by their numbers in the standard form.
+/// One pivot of the simplex method: the variables that enter and leave the basis, by their numbers
+/// in the standard form.
 #[derive(Clone, Copy)]
 pub struct Pivot {
     /// The variable that enters.
@@ -11,12 +12,13 @@ pub struct Pivot {
     pub leave: u32,
 }
 
-/// Which pivots a solver takes.
+/// Which pivots a solver makes.
 #[derive(Clone, Copy)]
 pub enum Rule {
     /// Of the improving variables the least enters, and of the tied ones the least leaves.
     Bland,
-    /// Any improving variable enters, and any tied one leaves, variable 0 where it ties; at the opening any with the least constant leaves.
+    /// Any improving variable enters, and any tied one leaves, or variable 0 if it ties. At the
+    /// opening any variable with the least constant leaves.
     Legal,
 }
 
@@ -25,7 +27,8 @@ pub enum Rule {
 /// Part 0 of a step is a product or a quotient, part 1 a sum or a difference.
 #[derive(Clone, Copy, Debug, Error)]
 pub enum StepName {
-    /// In the standard form: a bound is taken out of a row, or from a column's other bound. Rows are standard rows and columns the program's, from 1.
+    /// In the standard form: taking a bound out of a row, or from a column's other bound. `row` is
+    /// a standard row and `column` a column of the program, both from 1.
     #[error("beyond the field's limit in the standard form: row {row}, column {column}, part {part}")]
     Standard {
         /// The standard row.
@@ -43,7 +46,8 @@ pub enum StepName {
         /// The row.
         row: u32,
     },
-    /// In the exchange of a pivot: an entry of a row. Column 0 is the constant, and variable v is column v + 1.
+    /// In the exchange of a pivot: an entry of a row. Column 0 is the constant, and variable v has
+    /// column v + 1.
     #[error("beyond the field's limit in an exchange: pivot {pivot}, row {row}, column {column}, part {part}")]
     Exchange {
         /// The pivot.
@@ -55,14 +59,15 @@ pub enum StepName {
         /// The part.
         part: u8,
     },
-    /// On the way back from a dictionary: 0 levels, 1 row levels, 2 duals, 3 reduced costs, 4 the ray.
+    /// In the recovery from a dictionary: 0 levels, 1 row levels, 2 duals, 3 reduced costs, 4 the
+    /// ray.
     #[error("beyond the field's limit in the recovery: list {what}, index {index}, entry {entry}, part {part}")]
     Recover {
         /// Which list.
         what: u8,
         /// The place in the list, from 0.
         index: u64,
-        /// The place of the row's entry, from 0; 0 where there is none.
+        /// The place of the row's entry, from 0; 0 without an entry.
         entry: u32,
         /// The part.
         part: u8,
@@ -75,7 +80,8 @@ pub enum StepName {
     },
 }
 
-/// How a search ends at a last dictionary. Each kind has its condition, the steps of its way back, what that way tells and what proves it.
+/// How a search ends at a final dictionary. Each kind has its condition, the steps of its recovery,
+/// the result of the recovery, and the certificate.
 #[derive(Clone, Copy)]
 pub enum EndKind {
     /// No variable improves the objective, and variable 0 is not basic.
@@ -103,12 +109,13 @@ pub enum End<F> {
     },
     /// No point is feasible.
     Infeasible {
-        /// A factor for each row: so combined, the rows ask what no point gives; 0 for each where the bounds of a column cross.
+        /// A factor for each row: the rows so combined demand what no point satisfies. Each is 0 if
+        /// the bounds of a column cross.
         duals: Sequence<F>,
-        /// The first column whose lower bound passes its upper one, where there is one.
+        /// The first column whose lower bound exceeds its upper bound, if any.
         crossed: Option<u32>,
     },
-    /// There are better feasible points without end.
+    /// There are better feasible points without limit.
     Unbounded {
         /// The value of each column.
         levels: Sequence<F>,
@@ -162,7 +169,7 @@ impl<F: Drop> Drop for End<F> {
     }
 }
 
-/// The answer of a linear program: the pivots that were taken, in order, and how they ended.
+/// The answer of a linear program: its pivots, in order, and how the search ended.
 pub struct Answer<F> {
     /// The pivots.
     pub pivots: Sequence<Pivot>,

@@ -59,7 +59,8 @@ fn keep_bounds<F: ExactField>(columns: &[Column<F>], x: &[F]) -> bool
     true
 }
 
-/// The sum of a row at a point, or the first step that does not fit; the first step has this number.
+/// The sum of a row at a point, or the first step that does not fit. `first` is the number of the
+/// first step.
 fn sum_of<F: ExactField>(entries: &[(u32, F)], x: &[F], first: u64) -> Result<F, StepName>
     requires there { All (λ e. e.0 < length x.now) entries.now }
     requires room { first + 2 * length entries.now < 2 ^ 64 }
@@ -94,7 +95,7 @@ fn keeps_sense_of<F: ExactField>(sense: Sense, sum: F, right: F) -> bool
     }
 }
 
-/// Whether a row of this sense asks nothing.
+/// Whether a row of this sense is nonbinding.
 fn asks_nothing_of(sense: Sense) -> bool
     ensures { result ≡ asks_nothing sense }
 {
@@ -104,7 +105,8 @@ fn asks_nothing_of(sense: Sense) -> bool
     }
 }
 
-/// Whether the sum of each row and its right side compare as its sense says, or the first step that does not fit.
+/// Whether the sum of each row compares with its right side as its sense says, or the first step
+/// that does not fit.
 fn keep_rows<F: ExactField>(rows: &[Row<F>], x: &[F]) -> Result<bool, StepName>
     requires there { All (λ row. All (λ e. e.0 < length x.now) row.entries) rows.now }
     requires room { steps_of_rows rows.now < 2 ^ 64 }
@@ -124,12 +126,12 @@ fn keep_rows<F: ExactField>(rows: &[Row<F>], x: &[F]) -> Result<bool, StepName>
     Ok(true)
 }
 
-/// Whether a point is feasible: each value keeps its column's bounds, and the sum of each row compares with its right side
-/// as its sense says.
+/// Whether a point is feasible: each value is within its column's bounds, and the sum of each row
+/// compares with its right side as its sense says.
 ///
-/// The bounds are compared first. Then each row that asks something is summed, entry by entry a product and a sum, which
-/// are the steps `Check`, numbered from 0 over all rows. The first bound or row that does not hold answers false, and the
-/// first step that does not fit under the limit is the error.
+/// The bounds are compared first. Then each binding row is summed, a product and a sum for
+/// each entry; these are the steps `Check`, numbered from 0 over all rows. The first bound or row
+/// that fails answers false. The first step that does not fit under the limit is the error.
 pub fn feasible_at<F: ExactField>(lp: &Lp<F>, x: &[F]) -> Result<bool, StepName>
     requires well_formed { IsWellFormed F.value lp.now }
     requires sized { length x.now ≡ length lp.now.columns }

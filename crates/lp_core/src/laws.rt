@@ -1,4 +1,5 @@
-//! What the proofs of answers mean, for every program, and what is an answer as well: laws on functions with empty bodies.
+//! What certificates mean, for every program, and when one answer is also another: laws on
+//! functions with empty bodies.
 ghost use Rattle.std.specs.Prelude.{◌≡◌, ◌≤◌, ℕ, true, false, pos, length, List, Some};
 ghost use Rattle.gq_number.specs.Number.{Number, whole, ◌+ℚ◌, ◌*ℚ◌};
 ghost use Rattle.gq_number.specs.Order.{◌≤ℚ◌, ◌<ℚ◌};
@@ -16,8 +17,8 @@ ghost use Rattle.lp_core.specs.Proofs.{ProvesOptimal, ProvesInfeasible, ProvesCr
 
 use gq_field::ExactField;
 
-/// No feasible point is better than the bound that duals give, and so none is better than an optimum that has its proof:
-/// weak duality, as in Chvatal, Linear Programming, chapter 5.
+/// Weak duality: no feasible point is better than the bound that duals give, so none is better than
+/// a certified optimum (Chvatal, Linear Programming, chapter 5).
 pub fn weak_duality<F: ExactField>()
     ensures least { (lp : Lp F) (duals x : List Number) (bound : Number) →
         IsWellFormed F.value lp → Feasible F.value lp x → lp.maximize ≡ false →
@@ -35,20 +36,21 @@ pub fn weak_duality<F: ExactField>()
         number_of x lp.objective ≤ℚ number_of levels lp.objective }
 {}
 
-/// A combination of rows that comes to more than 0 leaves no feasible point, since at each point it is 0: Farkas, as in
-/// Chvatal, Linear Programming, chapter 9.
+/// Farkas: a combination of rows and bounds is 0 at every point; if its lower bound is above 0, no
+/// point is feasible (Chvatal, Linear Programming, chapter 9).
 pub fn farkas<F: ExactField>()
     ensures { (lp : Lp F) (duals x : List Number) → IsWellFormed F.value lp →
         ProvesInfeasible F.value lp duals → ¬ (Feasible F.value lp x) }
 {}
 
-/// A column whose lower bound passes its upper one leaves no feasible point.
+/// A column whose lower bound exceeds its upper bound leaves no feasible point.
 pub fn crossed_bounds<F: ExactField>()
     ensures { (lp : Lp F) (j : ℕ) (duals x : List Number) →
         ProvesCrossed F.value lp j duals → ¬ (Feasible F.value lp x) }
 {}
 
-/// From the point, each multiple of the ray by a number of at least 0 is feasible; and the objective passes every number on the way.
+/// The point plus each nonnegative multiple of the ray is feasible, and the objective passes every
+/// number along it.
 pub fn unbounded_ray<F: ExactField>()
     ensures feasible { (lp : Lp F) (levels row_levels ray : List Number) (t : Number) →
         IsWellFormed F.value lp → ProvesUnbounded F.value lp levels row_levels ray →
@@ -61,8 +63,9 @@ pub fn unbounded_ray<F: ExactField>()
         (t : Number) × (whole (pos 0) ≤ℚ t) × (goal ≤ℚ number_of (further levels t ray) lp.objective) }
 {}
 
-/// What is an answer as well. One under Bland's rule is one under the rule Legal, by which every improving variable may enter. An optimum is
-/// one under each limit of pivots that it keeps to.
+/// Answers under other conditions. An answer under Bland's rule is one under the rule Legal, which
+/// lets every improving variable enter. An optimum is an answer under each limit of pivots that it
+/// keeps.
 pub fn answers_too<F: ExactField>()
     ensures legal { (lp : Lp F) (iterlim : ℕ) (answer : Answer F) →
         IsAnswer F.value F.limit lp iterlim Bland answer → IsAnswer F.value F.limit lp iterlim Legal answer }

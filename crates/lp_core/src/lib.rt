@@ -1,5 +1,5 @@
-//! Floor 4, linear programs. Linear programs and their answers: what is feasible, what bounds the objective, what proves an answer, and what an
-//! answer of the dictionary simplex method is.
+//! Layer 4, linear programs. Linear programs and their answers: which points are feasible, what
+//! bounds the objective, what certifies an answer, and what the dictionary simplex method answers.
 #![tactic(auto)]
 
 mod answer;

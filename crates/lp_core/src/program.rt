@@ -1,4 +1,5 @@
-//! A linear program: columns with bounds, rows with right sides, and one column to be least or greatest.
+//! A linear program: columns with bounds, rows with right sides, and one column to minimize or
+//! maximize.
 use crate::sequence::Sequence;
 use lp_form::Key;
 
@@ -11,7 +12,7 @@ pub enum Sense {
     L,
     /// `=g=`: the sum is at least the right side.
     G,
-    /// `=n=`: the row asks nothing.
+    /// `=n=`: the row is nonbinding.
     N,
 }
 
@@ -62,7 +63,7 @@ impl<F: Drop> Drop for Row<F> {
     }
 }
 
-/// A linear program: the objective is the value of one of the columns, to be greatest or least.
+/// A linear program: the objective is the value of one of the columns, to maximize or minimize.
 pub struct Lp<F> {
     /// The columns.
     pub columns: Sequence<Column<F>>,
@@ -70,7 +71,7 @@ pub struct Lp<F> {
     pub rows: Sequence<Row<F>>,
     /// The place of the objective among the columns.
     pub objective: u32,
-    /// Whether the objective is to be greatest; otherwise least.
+    /// Whether to maximize the objective, or else to minimize it.
     pub maximize: bool,
 }
 

@@ -10,10 +10,10 @@ use gq_field::ExactField;
 use lp_form::Key;
 use std::cmp::Ordering;
 
-/// The most rows of a standard form.
+/// The greatest number of rows of a standard form.
 pub const MOST_ROWS: usize = 1500;
 
-/// The most variables of a standard form, slacks not counted.
+/// The greatest number of variables of a standard form, slacks not counted.
 pub const MOST_COLUMNS: usize = 3000;
 
 /// Whether two keys are the same.
@@ -74,7 +74,7 @@ fn rows_differ<F>(rows: &[Row<F>]) -> bool
     true
 }
 
-/// Whether entries ascend by column, name one of so many columns, and are not 0.
+/// Whether entries ascend by column, name columns below `columns`, and are not 0.
 fn are_entries<F: ExactField>(entries: &[(u32, F)], columns: usize) -> bool
     ensures { IsTrue result ↔ AreEntries F.value columns entries.now }
 {
@@ -107,7 +107,8 @@ fn have_entries<F: ExactField>(rows: &[Row<F>], columns: usize) -> bool
     true
 }
 
-/// How many rows of the standard form a row has: an equation two, an inequality one, a row without a sense none.
+/// How many rows of the standard form a row has: two for an equation, one for an inequality, none
+/// for a nonbinding row (`=n=`).
 pub fn rows_by_sense(sense: Sense) -> usize
     ensures { result ≡ rows_of_sense sense }
 {
@@ -150,7 +151,8 @@ fn variables_by_bounds<F>(column: &Column<F>) -> usize
     }
 }
 
-/// How many rows of the standard form the bounds of columns have, one for each column with two bounds; the greatest `usize` where there are more.
+/// How many rows of the standard form the bounds of columns have: one for each column with two
+/// bounds. The greatest `usize` if there are more.
 pub fn count_bounds<F>(columns: &[Column<F>]) -> usize
     ensures { result ≡ counted (sum_by (λ column. rows_of_bounds column.lower column.upper) columns.now) }
 {
@@ -161,8 +163,8 @@ pub fn count_bounds<F>(columns: &[Column<F>]) -> usize
     count
 }
 
-/// How many variables of the standard form columns have, two for each column without bounds and one for each other; the greatest `usize` where
-/// there are more.
+/// How many variables of the standard form columns have: two for each column without bounds, one
+/// for each other. The greatest `usize` if there are more.
 pub fn count_variables<F>(columns: &[Column<F>]) -> usize
     ensures { result ≡ counted (sum_by (λ column. variables_of_bounds column.lower column.upper) columns.now) }
 {
@@ -173,8 +175,9 @@ pub fn count_variables<F>(columns: &[Column<F>]) -> usize
     count
 }
 
-/// Whether a program is well formed: its objective is one of its columns, keys are distinct, the entries of each row are
-/// in order, and its standard form has at most 1,500 rows and 3,000 variables.
+/// Whether a program is well formed: its objective is one of its columns, keys are distinct, the
+/// entries of each row are in order, and its standard form has at most 1,500 rows and 3,000
+/// variables.
 pub fn well_formed<F: ExactField>(lp: &Lp<F>) -> bool
     ensures { IsTrue result ↔ IsWellFormed F.value lp.now }
 {

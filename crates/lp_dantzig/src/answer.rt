@@ -13,14 +13,15 @@ use lp_core::{Answer, Lp};
 use lp_turn::solve_with;
 use std::alloc::{AllocError, Global};
 
-/// The only answer of a program by the rule of the largest coefficient, found by at most `iterlim` pivots: Chvatal, Linear
-/// Programming, chapters 2 and 3.
+/// The only answer of a program by the rule of the largest coefficient, found by at most `iterlim`
+/// pivots: Chvatal, Linear Programming, chapters 2 and 3.
 ///
-/// The variable that improves with the greatest coefficient enters, and of the tied ones the least leaves; once as many pivots
-/// on end as there are variables gained nothing, Bland's rule takes over to the end of the phase. Optimal, Infeasible and
-/// Unbounded come with what proves them. Interrupted comes after exactly `iterlim` pivots where a further one is due, and Refused
-/// with the first step that does not fit under the limit of the field. The turn bounds the pivots, and with a limit of at least the
-/// bound the end is not Interrupted. The error is out of memory.
+/// The variable that improves with the greatest coefficient enters, and of the tied ones the least
+/// leaves. After as many successive pivots without gain as there are variables, Bland's rule takes
+/// over to the end of the phase. Optimal, Infeasible and Unbounded come with their certificates.
+/// Interrupted is the end after exactly `iterlim` pivots when a further one is required. Refused
+/// has the first step that does not fit under the limit of the field. The turn bounds the pivots,
+/// and with a limit of at least the bound the end is not Interrupted. The error is out of memory.
 pub fn solve_in<F: ExactField>(
     alloc: Global,
     lp: &Lp<F>,

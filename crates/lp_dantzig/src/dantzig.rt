@@ -17,8 +17,9 @@ use lp_slot::{LpSolver, SolverRule};
 use std::alloc::{AllocError, Global};
 use std::marker::Model;
 
-/// Dantzig's solver: the variable that improves with the greatest coefficient enters, and of the tied ones the least leaves; where
-/// pivots gain nothing for long it turns to Bland's rule, which does not cycle.
+/// Dantzig's solver: the variable that improves with the greatest coefficient enters, and of the
+/// tied ones the least leaves. After long without gain it turns to Bland's rule, which does not
+/// cycle.
 #[derive(Drop)]
 pub struct Dantzig {
     taken: Vec<Sequence<Pivot>>,
@@ -63,9 +64,9 @@ impl LpSolver for Dantzig {
         self.taken.as_slice()
     }
 
-    /// The only answer of a program by the rule of the largest coefficient with the turn to Bland's rule: its pivots are legal, and
-    /// pivots, end and refused step are those of that rule. The turn bounds the pivots, and with a limit of at least the bound the end is
-    /// not Interrupted.
+    /// The only answer of a program by the rule of the largest coefficient with the turn to Bland's
+    /// rule: its pivots are legal, and pivots, end and refused step are those of that rule. The
+    /// turn bounds the pivots, and with a limit of at least the bound the end is not Interrupted.
     fn solve(
         &mut self,
         alloc: Global,

@@ -6,8 +6,9 @@ use gq_field::ExactField;
 use lp_dict::Dict;
 use lp_turn::Picking;
 
-/// The rule by which the variable that improves with the greatest coefficient enters, and of equal ones the least: Chvatal,
-/// Linear Programming, chapter 2. It remembers nothing.
+/// The rule of the largest coefficient: the variable that improves with the greatest coefficient
+/// enters, and of equal ones the least: Chvatal, Linear Programming, chapter 2. It remembers
+/// nothing.
 #[derive(Drop)]
 pub(crate) struct Largest;
 

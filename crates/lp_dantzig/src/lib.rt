@@ -1,4 +1,5 @@
-//! Floor 4, linear programs. The rule of the largest coefficient, with a turn to Bland's rule where pivots gain nothing.
+//! Layer 4, linear programs. The rule of the largest coefficient, with a turn to Bland's rule after
+//! pivots without gain.
 #![tactic(auto)]
 
 mod answer;

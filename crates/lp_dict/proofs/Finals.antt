@@ -108,7 +108,7 @@ module _ (d : Dictionary) (proper : IsProper d) where
     other_costs : (i v : ℕ) → ¬ (Contains d.basic v) → cost i v ≡ entry_at d i v
     other_costs i v none = ap (cost_by_row d i v) (no_row v none)
 
-    -- the numbers of the row by which pivots are chosen, at variables that do not stand in it
+    -- the numbers of the priced row, at variables that are not basic in it
     numbers_of_costs : (list : List F) → AreOfRow value d (priced_row d) (d.variables + 1) list → (v : ℕ) → v < d.variables + 1 → ((k : ℕ) → slice_get d.basic k ≡ Some v → priced_row d ≢ k) → number_of (map value list) v ≡ cost (priced_row d) v
     numbers_of_costs list h v less apart =
         h.each v less ∙ elim (found_or_not d.basic v) [

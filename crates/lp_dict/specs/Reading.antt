@@ -1,4 +1,5 @@
--- Lists with a number for each variable, as they are read off a dictionary; what the pieces of the code promise.
+-- Lists with a number for each variable, as they are read from a dictionary, and what the functions
+-- that read them promise.
 use Rattle.std.specs.Prelude.{◌≡◌, ◌≢◌, ℕ, ◌<◌, pos, List, map, length, slice_get, Some}
 use Rattle.gq_number.specs.Number.{Number, whole}
 use Rattle.lp_core.specs.Sums.{number_of}

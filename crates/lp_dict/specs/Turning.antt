@@ -1,4 +1,5 @@
--- From fractions to whole numbers and back, and what a pivot makes of either; what the pieces of the code promise.
+-- From fractions to integers and back, and what a pivot makes of either; what the functions
+-- promise.
 use Rattle.std.specs.Prelude.{◌≡◌, ℕ, ◌+◌, ◌<◌, List, [], ◌∷◌, ◌++◌, length, slice_get, slice_index_or, Some}
 use Rattle.gq_number.specs.Number.{Number}
 use Rattle.lp_core.specs.Counts.{counted}
@@ -21,17 +22,17 @@ use Rattle.lp_dict.specs.Tableau.{kept, upcoming_of, IsBounded}
 abbrev pub part_of : {F : Type 0} → (F → Number) → Entry F → Part
 part_of value e = record { column = e.column; numerator = (value e.number).numerator; denominator = (value e.number).denominator }
 
--- the rows, and behind them the objective
+-- the rows, and the objective after them
 abbrev pub all_rows : {F : Type 0} → exact.Tableau F → List (List (Entry F))
 all_rows t = t.rows ++ t.objective ∷ []
 
--- A line of so many columns stands for the numbers of a row.
+-- An integer row with `width` columns means the numbers of a row.
 pub record IsLineOf {F : Type 0} (value : F → Number) (width : ℕ) (row : List (Entry F)) (l : Line) : Type 0 where
   pub is_line : IsLine l
   pub sized : length (wholes l) ≡ width
   pub numbers : (c : ℕ) → line_number l c ≡ number_in value row c
 
--- Lines stand for rows, one for each in turn.
+-- Integer rows mean the rows, one for each in order.
 pub record AreLinesOf {F : Type 0} (value : F → Number) (width : ℕ) (rows : List (List (Entry F))) (lines : List Line) : Type 0 where
   pub sized : length lines ≡ length rows
   pub each : (i : ℕ) (l : Line) → slice_get lines i ≡ Some l → IsLineOf value width (slice_index_or rows i []) l
@@ -41,15 +42,15 @@ pub record AreFilled {F : Type 0} (value : F → Number) (d : Dictionary) (made 
   pub sized : length made ≡ n
   pub each : (k : ℕ) → k < n → IsFilled value (d.numbers k) (d.variables + 2) (slice_index_or made k [])
 
--- A body comes after a dictionary by a pivot, the one of this number: it keeps the exchanged dictionary, and each step of the
--- exchange fits.
+-- A body follows a dictionary by the pivot of this number: it stores the exchanged dictionary, and
+-- each step of the exchange fits.
 pub record Follows {F : Type 0} (value : F → Number) (limit : ℕ) (before : Dictionary) (upcoming : ℕ) (p : Pivot) (after : Body F) : Type 0 where
   pub is_exchanged : (k : ℕ) → slice_get before.basic k ≡ Some p.leave → kept value after ≡ exchanged before p.enter k
   pub fits : (k : ℕ) → slice_get before.basic k ≡ Some p.leave → AllFit (exchange_steps limit upcoming before p.enter k)
   pub bounded : IsBounded limit after
   pub next : upcoming_of after ≡ counted (upcoming + 1)
 
--- the first step of a pivot that does not fit, or want of memory
+-- the first step of a pivot that does not fit, or out of memory
 abbrev pub StopsBy : ℕ → Dictionary → ℕ → Pivot → Stop → Type 0
 StopsBy limit before upcoming p stop =
     (k : ℕ) → slice_get before.basic k ≡ Some p.leave → StopsAt (exchange_steps limit upcoming before p.enter k) stop

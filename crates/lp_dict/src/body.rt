@@ -1,12 +1,13 @@
-//! The two ways in which a dictionary is kept.
+//! The two ways in which a dictionary is stored.
 use gq_field::ExactField;
 use lp_exact::ExactDict;
 use lp_whole::Whole;
 
-/// How a dictionary is kept.
+/// How a dictionary is stored.
 #[derive(Drop)]
 pub(crate) enum Body<F: ExactField> {
-    /// By whole numbers over one denominator a row, all at most a bound; and the number of the next pivot.
+    /// By integers over a common denominator for each row, all at most a bound; and the number of
+    /// the next pivot.
     Whole(Whole, u64),
     /// By reduced fractions.
     Exact(ExactDict<F>),

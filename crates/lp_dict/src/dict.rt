@@ -30,10 +30,12 @@ use lp_std::{Final, Standard, Stop};
 use std::alloc::{AllocError, Global};
 use std::marker::Model;
 
-/// A dictionary: an equation for each basic variable, and the objective (Chvatal, Linear Programming, chapters 2 and 3).
+/// A dictionary: an equation for each basic variable, and the objective (Chvatal, Linear
+/// Programming, chapters 2 and 3).
 ///
-/// Its rows are whole numbers over one denominator each while they are small, and reduced fractions from the first pivot on at
-/// which they are not; no answer tells which. Variable 0 is the one of phase 1.
+/// Its rows are integers over a common denominator each while they are small, and reduced fractions
+/// from the first pivot at which they are not; no result depends on which. Variable 0 is the
+/// artificial variable of phase 1.
 #[derive(Drop)]
 pub struct Dict<F: ExactField> {
     body: Body<F>,
@@ -50,8 +52,9 @@ impl<F: ExactField> Model for Dict<F> {
 }
 
 impl<F: ExactField> Dict<F> {
-    /// The first dictionary of a standard form of a well-formed program: its slacks are basic. Variable 0 stands in each row
-    /// where some right side is below 0, and then the opening pivot is due. The error is want of memory.
+    /// The first dictionary of the standard form of a well-formed program: its slacks are basic. If
+    /// some right side is below 0, variable 0 occurs in each row, and the opening pivot is
+    /// required. The only error is out of memory.
     pub fn of(alloc: Global, s: &Standard<F>) -> Result<Dict<F>, AllocError>
         requires { (lp : Lp F) × IsWellFormed F.value lp × (standard_value F.value s.now ≡ standard_form F.value lp) }
         ensures first { IfOk result (λ d. dictionary F.value d ≡ first_dictionary (standard_value F.value s.now)) }
@@ -63,7 +66,7 @@ impl<F: ExactField> Dict<F> {
         Ok(Dict { body })
     }
 
-    /// The greatest number of a variable: there are as many and variable 0.
+    /// The greatest number of a variable: the variables are 0 and those up to it.
     pub fn variables(&self) -> u32
         ensures { result ≡ self.now.variables }
     {
@@ -83,7 +86,8 @@ impl<F: ExactField> Dict<F> {
         }
     }
 
-    /// What each dictionary keeps, a law: it is one of a program, has no more rows than variables, and few variables.
+    /// The invariant of each dictionary, a law: it is one of a program, has no more rows than
+    /// variables, and few variables.
     pub fn keeps(&self)
         ensures proper { IsProper (dictionary F.value self.now) }
         ensures few { length self.now.basic ≤ self.now.variables }
@@ -105,7 +109,7 @@ impl<F: ExactField> Dict<F> {
         }
     }
 
-    /// The row in which a variable is basic, from 0; none where it is not basic.
+    /// The row in which a variable is basic, from 0; none if it is not basic.
     pub fn row_of(&self, v: u32) -> Option<usize>
         ensures { IsPlace self.now.basic v result }
     {
@@ -115,8 +119,9 @@ impl<F: ExactField> Dict<F> {
         }
     }
 
-    /// The number of a row, or behind the rows of the objective, at a column: column 0 is the constant, and variable v is column
-    /// v + 1. It walks neither the rows nor the columns: a row of fractions is bisected.
+    /// The number at a column of a row, or of the objective, which follows the rows. Column 0 is
+    /// the constant, and variable v has column v + 1. It takes no pass over rows or columns: a row
+    /// of fractions is bisected.
     pub fn number(&self, row: usize, column: usize) -> F
         requires row { row ≤ length self.now.basic }
         requires column { column ≤ self.now.variables + 1 }
@@ -128,7 +133,8 @@ impl<F: ExactField> Dict<F> {
         }
     }
 
-    /// The same as a numerator over a denominator above 0, which may have a factor in common: it costs no division.
+    /// The number at a column as a numerator over a denominator above 0, which may have a common
+    /// factor: it costs no division.
     #[inline(always)]
     pub fn fraction(&self, row: usize, column: usize) -> (i128, u128)
         requires row { row ≤ length self.now.basic }
@@ -148,8 +154,8 @@ impl<F: ExactField> Dict<F> {
         }
     }
 
-    /// 1 until variable 0 has left, that is while it is basic or the opening pivot is due; then 2. It is 2 from the start
-    /// where no right side is below 0.
+    /// 1 until variable 0 has left, which is while it is basic or the opening pivot is required;
+    /// then 2. It is 2 from the start if no right side is below 0.
     pub fn phase(&self) -> u8
         ensures { IsPhase (dictionary F.value self.now) result }
     {
@@ -171,8 +177,8 @@ impl<F: ExactField> Dict<F> {
         }
     }
 
-    /// The number of a variable in the row of a basic one; 0 where the first is not basic, and where the second is basic
-    /// or no variable.
+    /// The number of a variable in the row of a basic one; 0 if the first is not basic, and if the
+    /// second is basic or no variable.
     pub fn entry(&self, basic: u32, other: u32) -> F
         ensures row { (k : ℕ) → slice_get self.now.basic k ≡ Some basic → ¬ (Contains self.now.basic other) → F.value result ≡ entry_at (dictionary F.value self.now) k other }
         ensures not_basic { ¬ (Contains self.now.basic basic) → F.value result ≡ whole (pos 0) }
@@ -185,8 +191,8 @@ impl<F: ExactField> Dict<F> {
         }
     }
 
-    /// The number of a variable in the row by which pivots are chosen: that of variable 0 in phase 1, then the objective.
-    /// It is 0 for a basic variable, and for a number that is no variable.
+    /// The number of a variable in the priced row: that of variable 0 in phase 1, then the
+    /// objective. It is 0 for a basic variable, and for a number that is no variable.
     pub fn coefficient(&self, v: u32) -> F
         ensures priced { (k : ℕ) → IsPriced (dictionary F.value self.now) k → ¬ (Contains self.now.basic v) → F.value result ≡ entry_at (dictionary F.value self.now) k v }
         ensures basic { Contains self.now.basic v → F.value result ≡ whole (pos 0) }
@@ -198,8 +204,8 @@ impl<F: ExactField> Dict<F> {
         }
     }
 
-    /// Whether a variable improves: it is not basic and not variable 0, and its number in the row by which pivots are
-    /// chosen is above 0. A number that is no variable does not.
+    /// Whether a variable improves: it is not basic and not variable 0, and its number in the
+    /// priced row is above 0. A number that is no variable does not.
     pub fn improves(&self, v: u32) -> bool
         ensures { IsTrue result ↔ Improves (dictionary F.value self.now) v }
     {
@@ -215,8 +221,8 @@ impl<F: ExactField> Dict<F> {
         is_above_zero(self.coefficient(v))
     }
 
-    /// The opening pivot of Bland's choice, where one is due: variable 0 enters, and of the variables with the least
-    /// constant, which is below 0, the least leaves.
+    /// The opening pivot of Bland's choice, if one is required: variable 0 enters, and of the
+    /// variables with the least constant, which is below 0, the least leaves.
     pub fn opening(&self) -> Option<Pivot>
         ensures { MatchOption result (¬ (OpeningIsDue (dictionary F.value self.now)))
             (λ p. ((k : ℕ) × IsOpening (dictionary F.value self.now) p k) × ((i : ℕ) → IsLeast (dictionary F.value self.now) i → p.leave ≤ basic_at (dictionary F.value self.now) i)) }
@@ -239,8 +245,8 @@ impl<F: ExactField> Dict<F> {
         }
     }
 
-    /// The variable that improves with the greatest coefficient in the row by which pivots are chosen, and of several such the
-    /// least; none exactly where nothing improves. It walks that row once.
+    /// The variable that improves with the greatest coefficient in the priced row, and of several
+    /// such the least. None exactly if nothing improves. It passes over that row once.
     pub fn greatest(&self) -> Option<u32>
         requires { ¬ (OpeningIsDue (dictionary F.value self.now)) }
         ensures { MatchOption result ((v : ℕ) → ¬ (Improves (dictionary F.value self.now) v)) (HasGreatest (dictionary F.value self.now)) }
@@ -251,9 +257,10 @@ impl<F: ExactField> Dict<F> {
         }
     }
 
-    /// The least of the variables that tie for leaving where `enter` enters; none exactly where no row limits that.
+    /// The least of the variables that tie for leaving when `enter` enters. None exactly if no row
+    /// limits it.
     ///
-    /// `Limit` comes with the first ratio that does not fit, and no other stop comes.
+    /// `Limit` has the first ratio that does not fit. No other stop occurs.
     pub fn leaving(&self, enter: u32) -> Result<Option<u32>, Stop>
         requires { Improves (dictionary F.value self.now) enter }
         ensures fits { IfOk result (λ _. AllFit (ratio_steps F.limit self.now.upcoming (dictionary F.value self.now) enter)) }
@@ -266,12 +273,12 @@ impl<F: ExactField> Dict<F> {
         }
     }
 
-    /// The dictionary after a legal pivot, in which `p.enter` stands in the row of `p.leave`; variable 0 is dropped where it
-    /// leaves. Rows without the variable that enters stay as they are.
+    /// The dictionary after a legal pivot, in which `p.enter` is basic in the row of `p.leave`.
+    /// Variable 0 is dropped when it leaves. Rows without the entering variable are unchanged.
     ///
-    /// `Limit` comes with the first step that does not fit: first those of the row of the variable that leaves, then those of
-    /// the other rows in order, those of the objective last. `Memory` comes where a growth finds no memory. After either the
-    /// dictionary is gone. `Crossed` does not come.
+    /// `Limit` has the first step that does not fit: first those of the leaving variable's row,
+    /// then those of the other rows in order, and those of the objective at the end. `Memory` means
+    /// out of memory. After either the dictionary is lost. `Crossed` does not occur.
     pub fn pivot(self, alloc: Global, p: Pivot) -> Result<Dict<F>, Stop>
         requires { (k : ℕ) × IsLegal (dictionary F.value self) p k }
         ensures exchanged { IfOk result (λ after. (k : ℕ) → slice_get self.basic k ≡ Some p.leave →
@@ -293,7 +300,7 @@ impl<F: ExactField> Dict<F> {
         Ok(Dict { body })
     }
 
-    /// The value of each variable where those that are not basic are 0.
+    /// The value of each variable when the nonbasic ones are 0.
     fn values(&self, alloc: Global) -> Result<Vec<F>, AllocError>
         ensures { IfOk result (λ list. map F.value list.items ≡ (last_of (dictionary F.value self.now)).values) }
     {
@@ -303,7 +310,7 @@ impl<F: ExactField> Dict<F> {
         }
     }
 
-    /// The coefficient of each variable in the row by which pivots are chosen; 0 for a basic one.
+    /// The coefficient of each variable in the priced row; 0 for a basic one.
     fn costs(&self, alloc: Global) -> Result<Vec<F>, AllocError>
         ensures { IfOk result (λ list. map F.value list.items ≡ (last_of (dictionary F.value self.now)).costs) }
     {
@@ -313,7 +320,7 @@ impl<F: ExactField> Dict<F> {
         }
     }
 
-    /// The change of each variable where this one rises by 1; empty where there is none.
+    /// The change of each variable when this one rises by 1; empty without one.
     fn ray(&self, alloc: Global, enter: Option<u32>) -> Result<Vec<F>, AllocError>
         requires { IsDone (dictionary F.value self.now) enter }
         ensures { IfOk result (λ list. map F.value list.items ≡ (last_with (dictionary F.value self.now) enter).changes) }
@@ -327,7 +334,7 @@ impl<F: ExactField> Dict<F> {
         }
     }
 
-    /// How the walk over dictionaries ends here.
+    /// How the search ends at this dictionary.
     fn kind(&self, enter: Option<u32>) -> EndKind
         requires { IsDone (dictionary F.value self.now) enter }
         ensures { IsReadAt (dictionary F.value self.now) result (last_with (dictionary F.value self.now) enter) }
@@ -344,11 +351,13 @@ impl<F: ExactField> Dict<F> {
         }
     }
 
-    /// What is read off a last dictionary: how the walk ends, the values and the coefficients of all variables, and the ray.
+    /// What is read from a final dictionary: how the search ends, the values and coefficients of
+    /// all variables, and the ray.
     ///
-    /// Where `enter` is a variable that improves and that no row limits, in phase 2, the kind is `Unbounded` and the ray is
-    /// that of this variable. Without one the kind is `Optimal`, or `Infeasible` in phase 1, where nothing improves; else it
-    /// is `Interrupted`, in phase 2. The error is want of memory.
+    /// If `enter` is a variable that improves and that no row limits, in phase 2, the kind is
+    /// `Unbounded` and the ray is that of this variable. Without one, if nothing improves, the kind
+    /// is `Optimal`, or `Infeasible` in phase 1; else it is `Interrupted`, in phase 2. The only
+    /// error is out of memory.
     pub fn done(&self, alloc: Global, enter: Option<u32>) -> Result<Final<F>, AllocError>
         requires { IsDone (dictionary F.value self.now) enter }
         ensures kind { IfOk result (λ final. IsReadAt (dictionary F.value self.now) final.kind (last_with (dictionary F.value self.now) enter)) }

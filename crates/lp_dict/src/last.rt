@@ -1,4 +1,4 @@
-//! What is read off a last dictionary whose rows are whole numbers.
+//! What is read from a final dictionary with integer rows.
 ghost use Rattle.std.specs.Prelude.{◌≡◌, ◌+◌, ◌≤◌, ◌<◌, map, length, Some, Contains, IfOk};
 ghost use Rattle.lp_core.specs.Pivots.{last_of, last_along};
 ghost use Rattle.lp_whole.specs.Whole.{dictionary as dictionary_of};
@@ -11,7 +11,7 @@ use lp_exact::{changes, zeros};
 use lp_whole::Whole;
 use std::alloc::{AllocError, Global};
 
-/// For each variable the number that its row has at a column; 0 where it is not basic.
+/// For each variable the number of its row at a column; 0 if it is not basic.
 fn by_variable<F: ExactField>(
     alloc: Global,
     rows: &Whole,
@@ -43,7 +43,7 @@ fn row_of<F: ExactField>(alloc: Global, rows: &Whole, row: usize) -> Result<Vec<
     Ok(list)
 }
 
-/// The value of each variable where those that are not basic are 0.
+/// The value of each variable when the nonbasic ones are 0.
 pub(crate) fn values<F: ExactField>(alloc: Global, rows: &Whole) -> Result<Vec<F>, AllocError>
     requires { rows.now.bound ≤ F.limit }
     ensures { IfOk result (λ list. map F.value list.items ≡ (last_of (dictionary_of rows.now)).values) }
@@ -52,7 +52,7 @@ pub(crate) fn values<F: ExactField>(alloc: Global, rows: &Whole) -> Result<Vec<F
     by_variable(alloc, rows, 0)
 }
 
-/// The coefficient of each variable in the row by which pivots are chosen; 0 for a basic one.
+/// The coefficient of each variable in the priced row; 0 for a basic one.
 pub(crate) fn costs<F: ExactField>(alloc: Global, rows: &Whole) -> Result<Vec<F>, AllocError>
     requires { rows.now.bound ≤ F.limit }
     ensures { IfOk result (λ list. map F.value list.items ≡ (last_of (dictionary_of rows.now)).costs) }
@@ -66,7 +66,7 @@ pub(crate) fn costs<F: ExactField>(alloc: Global, rows: &Whole) -> Result<Vec<F>
     Ok(costs)
 }
 
-/// The change of each variable where this one, which is not basic, rises by 1.
+/// The change of each variable when this nonbasic one rises by 1.
 pub(crate) fn ray<F: ExactField>(
     alloc: Global,
     rows: &Whole,

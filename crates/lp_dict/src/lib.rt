@@ -1,5 +1,5 @@
-//! Floor 4, linear programs. The dictionary of the simplex method, over any field: whole numbers while they are small, else
-//! fractions.
+//! Layer 4, linear programs. The dictionary of the simplex method, over any field: integers while
+//! they are small, else fractions.
 #![tactic(auto)]
 
 mod body;

@@ -1,11 +1,11 @@
-//! Numbers of a field from whole numbers.
+//! Numbers of a field from integers.
 ghost use Rattle.std.specs.Prelude.{◌≡◌, ◌+◌, ◌≤◌, length};
 ghost use Rattle.lp_whole.specs.Whole.{dictionary as dictionary_of};
 
 use gq_field::ExactField;
 use lp_whole::Whole;
 
-/// The number of a row, or behind the rows of the objective, at a column.
+/// The number at a column of a row, or of the objective, which follows the rows.
 pub(crate) fn number_at<F: ExactField>(whole: &Whole, row: usize, column: usize) -> F
     requires bounded { whole.now.bound ≤ F.limit }
     requires row { row ≤ length (dictionary_of whole.now).basic }

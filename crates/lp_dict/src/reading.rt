@@ -1,4 +1,4 @@
-//! What is read from rows of whole numbers, and from those of fractions.
+//! What is read from integer rows, and from rows of fractions.
 ghost use Rattle.std.specs.Prelude.{◌≡◌, ◌≢◌, ◌+◌, ◌≤◌, ◌<◌, ◌↔◌, ℕ, pos, length, slice_get, Some, Contains, IsTrue, MatchOption};
 ghost use Rattle.gq_number.specs.Number.{whole};
 ghost use Rattle.lp_core.specs.Dictionary.{constant_at, entry_at, basic_at, IsPriced, OpeningIsDue, IsOpening, IsLeast};
@@ -15,7 +15,8 @@ use lp_exact::{Entry, ExactDict};
 use lp_whole::Whole;
 use std::cmp::Ordering;
 
-/// The opening pivot of rows of whole numbers. It can be due at the first dictionary alone, before the pivot with the number 1.
+/// The opening pivot of integer rows. It can be required only at the first dictionary, before the
+/// pivot with the number 1.
 pub(crate) fn opening_of(rows: &Whole, upcoming: u64) -> Option<Pivot>
     requires { upcoming ≢ 1 → ¬ (OpeningIsDue (dictionary_of rows.now)) }
     ensures { MatchOption result (¬ (OpeningIsDue (dictionary_of rows.now)))
@@ -39,7 +40,7 @@ pub(crate) fn place_among(basic: &[u32], variable: u32) -> Option<usize>
     None
 }
 
-/// The number of a row of fractions at a column, found by bisection; 0 where no entry has that column.
+/// The number of a row of fractions at a column, found by bisection; 0 if no entry has that column.
 fn number_in_row<F: ExactField>(row: &[Entry<F>], column: usize) -> F
     requires { (high : ℕ) × IsRow F.value 0 high row.now }
     ensures { F.value result ≡ number_in F.value row.now column }
@@ -59,7 +60,7 @@ fn number_in_row<F: ExactField>(row: &[Entry<F>], column: usize) -> F
     }
 }
 
-/// The number of a row of fractions, or behind the rows of the objective, at a column.
+/// The number at a column of a row of fractions, or of the objective, which follows the rows.
 pub(crate) fn number_of<F: ExactField>(dict: &ExactDict<F>, row: usize, column: usize) -> F
     ensures { F.value result ≡ (exact.dictionary F.value dict.now).numbers row column }
 {
@@ -78,7 +79,8 @@ pub(crate) fn is_basic(rows: &Whole, v: u32) -> bool
     rows.place_of(v).is_some()
 }
 
-/// The row by which pivots are chosen: that of variable 0 while it is basic, else the objective's behind the rows.
+/// The priced row: that of variable 0 while it is basic, else the objective's, which follows the
+/// rows.
 pub(crate) fn priced(rows: &Whole) -> usize
     ensures { result ≡ priced_row (dictionary_of rows.now) }
 {
@@ -102,7 +104,7 @@ pub(crate) fn amount<F: ExactField>(rows: &Whole, v: u32) -> F
     }
 }
 
-/// The number of a variable in a row; 0 where it is basic or no variable.
+/// The number of a variable in a row; 0 if it is basic or no variable.
 fn free_entry<F: ExactField>(rows: &Whole, row: usize, v: u32) -> F
     requires bounded { rows.now.bound ≤ F.limit }
     requires row { row ≤ length (dictionary_of rows.now).basic }
@@ -117,8 +119,8 @@ fn free_entry<F: ExactField>(rows: &Whole, row: usize, v: u32) -> F
     number_at(rows, row, v as usize + 1)
 }
 
-/// The number of a variable in the row of a basic one; 0 where the first is not basic, and where the second is basic or no
-/// variable.
+/// The number of a variable in the row of a basic one; 0 if the first is not basic, and if the
+/// second is basic or no variable.
 pub(crate) fn entry<F: ExactField>(rows: &Whole, basic: u32, other: u32) -> F
     requires { rows.now.bound ≤ F.limit }
     ensures row { (k : ℕ) → slice_get (dictionary_of rows.now).basic k ≡ Some basic → ¬ (Contains (dictionary_of rows.now).basic other) → F.value result ≡ entry_at (dictionary_of rows.now) k other }
@@ -133,7 +135,8 @@ pub(crate) fn entry<F: ExactField>(rows: &Whole, basic: u32, other: u32) -> F
     }
 }
 
-/// The number of a variable in the row by which pivots are chosen; 0 for a basic variable, and for a number that is no variable.
+/// The number of a variable in the priced row; 0 for a basic variable, and for a number that is no
+/// variable.
 pub(crate) fn coefficient<F: ExactField>(rows: &Whole, v: u32) -> F
     requires { rows.now.bound ≤ F.limit }
     ensures priced { (k : ℕ) → IsPriced (dictionary_of rows.now) k → ¬ (Contains (dictionary_of rows.now).basic v) → F.value result ≡ entry_at (dictionary_of rows.now) k v }

@@ -1,4 +1,4 @@
-//! From fractions to whole numbers, from whole numbers to fractions, and a pivot of either.
+//! From fractions to integers, from integers to fractions, and a pivot of either.
 ghost use Rattle.std.specs.Prelude.{◌≡◌, ◌+◌, ◌≤◌, ℕ, map, length, IfOk, IfErr, IfSome};
 ghost use Rattle.lp_core.specs.Dictionary.{InPhaseOne, IsLegal};
 ghost use Rattle.lp_exact.specs.First.{IsFilled};
@@ -34,7 +34,7 @@ fn parts_of<F: ExactField>(alloc: Global, row: &[Entry<F>]) -> Result<Vec<Part>,
     Ok(parts)
 }
 
-/// A row by whole numbers over one denominator; none where some part of it has more than 127 bits.
+/// A row by integers over one denominator. None if one of them has more than 127 bits.
 fn line_of<F: ExactField>(
     alloc: Global,
     width: usize,
@@ -47,7 +47,8 @@ fn line_of<F: ExactField>(
     line_of_parts(alloc, width, parts.as_slice())
 }
 
-/// The lines of the rows, and behind them that of the objective; none where some part of them has more than 127 bits.
+/// The integer rows, followed by that of the objective. None if some integer or denominator has
+/// more than 127 bits.
 fn lines_of<F: ExactField>(
     alloc: Global,
     dict: &ExactDict<F>,
@@ -71,7 +72,7 @@ fn lines_of<F: ExactField>(
     Ok(Some(lines))
 }
 
-/// The same dictionary by whole numbers; none where they might pass the bound.
+/// The same dictionary by integers. None if they might exceed the bound.
 fn whole_of<F: ExactField>(alloc: Global, dict: &ExactDict<F>) -> Result<Option<Whole>, AllocError>
     requires { ¬ (InPhaseOne (exact.dictionary F.value dict.now)) }
     ensures same { IfOk result (λ found. IfSome found (λ rows. dictionary_of rows ≡ exact.dictionary F.value dict.now)) }
@@ -85,7 +86,7 @@ fn whole_of<F: ExactField>(alloc: Global, dict: &ExactDict<F>) -> Result<Option<
     Ok(Whole::of_lines(dict.variables(), basic, lines, F::limit()))
 }
 
-/// The body of a first dictionary: whole numbers where they are small, else the fractions.
+/// The body of a first dictionary: integers if they are small, else the fractions.
 pub(crate) fn begun<F: ExactField>(alloc: Global, dict: ExactDict<F>) -> Result<Body<F>, AllocError>
     requires phase { ¬ (InPhaseOne (exact.dictionary F.value dict)) }
     requires first { dict.upcoming ≡ 1 }
@@ -100,7 +101,7 @@ pub(crate) fn begun<F: ExactField>(alloc: Global, dict: ExactDict<F>) -> Result<
     }
 }
 
-/// A row, or behind the rows the objective, by fractions.
+/// A row by fractions, or the objective, which follows the rows.
 fn exact_row<F: ExactField>(
     alloc: Global,
     rows: &Whole,
@@ -160,7 +161,8 @@ fn exact_pivot<F: ExactField>(alloc: Global, dict: ExactDict<F>, p: Pivot) -> Re
     Ok(Body::Exact(after))
 }
 
-/// The dictionary after a legal pivot, by whole numbers, or by fractions where those of a step might pass the limit.
+/// The dictionary after a legal pivot, by integers, or by fractions if those of a step might exceed
+/// the limit.
 fn whole_pivot<F: ExactField>(
     alloc: Global,
     rows: Whole,

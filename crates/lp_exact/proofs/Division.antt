@@ -1,4 +1,5 @@
--- A row divided entry by entry: what is made is right at the columns before, and what is left is the rest.
+-- A row divided entry by entry: the made entries are right at the columns before, and the remaining
+-- entries are the rest.
 use Rattle.std.proofs.Common.{◌≡◌, ◌≢◌, ℕ, ◌+◌, ◌<◌, ◌≤◌, inl, inr, true, false, pos, List, [], ◌∷◌, ◌++◌, length, Some, refl, sym, ap, ◌∙◌, subst, arith}
 use Rattle.std.proofs.lemmas.Bool.{cases_lt}
 use Rattle.gq_number.specs.Number.{Number, whole, ◌/ℚ◌, inv_ℚ}

@@ -1,4 +1,5 @@
--- The exchange keeps what the equations say: each row after it is a row before it, less a multiple of the row of the pivot.
+-- The exchange preserves what the equations state: each row after it is a row before it, less a
+-- multiple of the pivot row.
 use Rattle.std.proofs.Common.{◌≡◌, ◌≢◌, ℕ, zero, suc, ◌+◌, ◌<◌, ◌==◌, ◌&&◌, inl, inr, Bool, true, false, pos, cond, List, [], ◌∷◌, length, length-set, refl, sym, ap, ap₂, ◌∙◌, subst, arith}
 use Rattle.std.specs.List.{range_with_len}
 use Rattle.std.specs.Prelude.{slice_set}
@@ -40,7 +41,7 @@ eq_other a b h = grind (arith, nat_tests)
 pub eq_same : (a : ℕ) → (a == a) ≡ true
 eq_same a = grind (arith, nat_tests)
 
--- rows with the same numbers come to the same
+-- rows with the same numbers have the same value
 row_of_same : (f g : ℕ → Number) (variables : ℕ) (x : List Number) → f 0 ≡ g 0 → ((v : ℕ) → f (v + 1) *ℚ number_of x v ≡ g (v + 1) *ℚ number_of x v) → row_of f variables x ≡ row_of g variables x
 row_of_same f g variables x constant numbers =
     ap₂ (λ s c. s -ℚ c) (sum_same (λ v. f (v + 1) *ℚ number_of x v) (λ v. g (v + 1) *ℚ number_of x v) numbers (range_with_len 0 (variables + 1))) constant
@@ -90,7 +91,8 @@ less_nothing x f a y none = rw (none, zero-/ℚ a) (simp ring_ℚ)
 pub no_quotient : (y a : Number) → a ≢ whole (pos 0) → y /ℚ a ≡ whole (pos 0) → y ≡ whole (pos 0)
 no_quotient y a some none = sym (/ℚ-*ℚ_self y a some) ∙ ap (λ z. z *ℚ a) none ∙ zero-*ℚ a
 
--- Values meet the equations after an exchange, the objective included, exactly where they meet those before it.
+-- Values satisfy the equations after an exchange, the objective included, exactly if they satisfy
+-- those before it.
 module _ (d : Dictionary) (q k : ℕ) (x : List Number) (objective : Number) (within : k < length d.basic) (some : entry_at d k q ≢ whole (pos 0)) (gone : basic_at d k ≡ 0 → number_of x 0 ≡ whole (pos 0)) where
   other_same : row_at d k x ≡ whole (pos 0) → (i : ℕ) → i ≢ k → row_at (exchanged d q k) i x ≡ row_at d i x
   other_same none i other = row_of_other d q k x gone i other ∙ less_nothing (row_at d i x) (entry_at d i q) (entry_at d k q) (row_at d k x) none

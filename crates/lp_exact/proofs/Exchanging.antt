@@ -1,4 +1,4 @@
--- The walk over the rows of an exchange, and the exchange put together.
+-- The loop over the rows of an exchange, and the exchange put together.
 use Rattle.std.proofs.Common.{◌≡◌, ◌≢◌, ℕ, zero, suc, ◌+◌, ◌<◌, ◌≤◌, inl, inr, true, pos, cond, List, [], ◌∷◌, length, map, refl, sym, ap, ap₂, ◌∙◌, subst, subst₂, arith}
 use Rattle.std.specs.Prelude.{slice_set, slice_index_or, Vec}
 use Rattle.std.specs.declared.alloc.Global.{Global}

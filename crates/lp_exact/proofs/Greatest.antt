@@ -64,7 +64,7 @@ module _ {F : Type 0} (value : F → Number) (row : List (Entry F)) where
     other : (c : ℕ) → e.column ≢ c → number_in value (take (n + 1) row) c ≡ number_in value (take n row) c
     other c apart = number_other value row n e low high ordered less e_is c apart
 
-    -- an entry found before stands at a lesser column
+    -- an entry found earlier is at a lesser column
     earlier : (b : Entry F) → Zero <ℚ value b.number → number_in value (take n row) b.column ≡ value b.number → b.column < e.column
     earlier b above there =
         elim (cases_lt b.column e.column) [

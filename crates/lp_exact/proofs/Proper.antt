@@ -206,7 +206,7 @@ module _ (d : Dictionary) (p : Pivot) (k : ℕ) (proper : IsProper d) (legal : I
   pub same_size : length (exchanged d p.enter k).basic ≡ length d.basic
   same_size = length-set d.basic k p.enter
 
-  -- no opening pivot is due after a legal one
+  -- no opening pivot is required after a legal one
   pub none_due : ¬ (OpeningIsDue (exchanged d p.enter k))
   none_due due =
       let less : due.0 < length d.basic = subst (λ n. due.0 < n) same_size due.1 in

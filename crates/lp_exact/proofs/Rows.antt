@@ -60,7 +60,7 @@ module _ {F : Type 0} (value : F → Number) where
   row_back [] e after low high h = h.3
   row_back (f ∷ front) e after low high h = row_back front e after (f.column + 1) high h.3
 
-  -- the number of a row in two parts stands in one of them
+  -- the number of a row in two parts is in one of them
   pub number_behind : (front back : List (Entry F)) (low high c : ℕ) → IsRow value low high front → high ≤ c → number_in value (front ++ back) c ≡ number_in value back c
   number_behind [] back low high c h after = refl
   number_behind (e ∷ front) back low high c h after =
@@ -71,7 +71,7 @@ module _ {F : Type 0} (value : F → Number) where
   number_before [] back c none = none
   number_before (e ∷ front) back c none = ap (λ x. cond (e.column == c) (value e.number) x) (number_before front back c none)
 
-  -- an entry behind a row
+  -- an entry after a row
   pub row_pushed : (row : List (Entry F)) (e : Entry F) (low high : ℕ) → IsRow value low high row → low ≤ high → high ≤ e.column → value e.number ≢ whole (pos 0) → IsRow value low (e.column + 1) (row ++ e ∷ [])
   row_pushed [] e low high h wide after some = (omega arith, omega arith, some, tt)
   row_pushed (f ∷ row) e low high h wide after some =
@@ -130,7 +130,7 @@ equal_by_cmp x y r is same = subst (λ o. MatchOrdering o (x < y) (x ≡ y) (y <
 pub greater_by_cmp : (x y : ℕ) (r : Ordering) → r ≡ nat_cmp x y → r ≡ Greater → y < x
 greater_by_cmp x y r is greater = subst (λ o. MatchOrdering o (x < y) (x ≡ y) (y < x)) greater (ranked x y r is)
 
--- where nothing is left the number is 0
+-- if nothing remains the number is 0
 pub search_ends : {F : Type 0} (value : F → Number) (row rest : List (Entry F)) (c : ℕ) → Searched value row rest c → length rest ≡ 0 → number_in value row c ≡ whole (pos 0)
 search_ends value row [] c s none = s.same
 search_ends value row (e ∷ rest) c s none = absurd (omega arith)

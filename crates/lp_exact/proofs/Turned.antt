@@ -1,4 +1,5 @@
--- Rows that are exchanged are those of the dictionary after the exchange, and the steps on them are its steps.
+-- Rows that are exchanged are those of the dictionary after the exchange, and the steps on them are
+-- its steps.
 use Rattle.std.proofs.Common.{◌≡◌, ◌≢◌, ℕ, zero, suc, ◌+◌, ◌<◌, ◌≤◌, ◌==◌, ◌&&◌, ◌⊎◌, inl, inr, true, pos, cond, List, [], ◌∷◌, length, map, Some, refl, sym, ap, ap₂, ◌∙◌, subst, subst₂, arith}
 use Rattle.std.specs.Prelude.{slice_get, slice_set, slice_index_or, not, ◌↔◌, ◌^◌}
 use Rattle.std.proofs.lemmas.Bool.{cases_eq, cases_lt}
@@ -145,7 +146,8 @@ line_map f (x ∷ xs) o (suc i) = line_map f xs o i
 
 -- ---- the dictionary after a pivot
 
--- What the code makes of a dictionary by a pivot: the lines are turned, and what is left of them is kept.
+-- What the code makes of a dictionary by a pivot: the rows are exchanged, and all but a dropped
+-- variable 0 is kept.
 pub record Pivoted {F : Type 0} (value : F → Number) (limit : ℕ) (t : Tableau F) (p : Pivot) (k : ℕ) (after : Tableau F) : Type 0 where
   pub rows : List (List (Entry F))
   pub objective : List (Entry F)

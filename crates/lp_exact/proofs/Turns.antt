@@ -1,4 +1,5 @@
--- A walk through two rows, column by column: what is made is right at the columns before, and what is left is the rest of each.
+-- The loop through two rows, column by column: the made entries are right at the columns before,
+-- and the rest of each row remains.
 use Rattle.std.proofs.Common.{◌≡◌, ◌≢◌, ℕ, ◌+◌, ◌<◌, ◌≤◌, inl, inr, true, pos, List, [], ◌∷◌, length, Option, Some, None, Ok, refl, sym, ap, ap₂, ◌∙◌, subst, subst₂, arith}
 use Rattle.std.specs.Prelude.{unwrap_or}
 use Rattle.std.proofs.lemmas.Bool.{cases_lt}
@@ -36,7 +37,8 @@ pub record Left {F : Type 0} (value : F → Number) (high : ℕ) (row rest : Lis
   pub is_row : IsRow value k high rest
   pub numbers : (c : ℕ) → k ≤ c → number_in value row c ≡ number_in value rest c
 
--- the numbers of a row that is walked through up to a column m: none before it, this one there, and the rest behind it
+-- the numbers of a row passed up to a column m: none before it, this one at it, and the rest after
+-- it
 pub record Passed {F : Type 0} (value : F → Number) (high : ℕ) (row rest : List (Entry F)) (k m : ℕ) (x : Number) : Type 0 where
   pub before : (c : ℕ) → k ≤ c → c < m → number_in value row c ≡ whole (pos 0)
   pub here : number_in value row m ≡ x
@@ -99,7 +101,7 @@ pushed_row value made now k m z h more pushed =
       | inr p ↦ subst (IsRow value 0 (m + 1)) (sym p.1) (row_to value made 0 k (m + 1) h (omega arith))
     ]
 
--- Two rows, walked through up to a column: what is left of each, and what is made of what came before.
+-- Two rows passed up to a column: what remains of each, and what the earlier entries resulted in.
 pub record Walking {F : Type 0} (value : F → Number) (limit high : ℕ) (row : List (Entry F)) (factor : Number) (other left_rest right_rest made : List (Entry F)) : Type 0 where
   pub column : ℕ
   pub within : column ≤ high
@@ -210,7 +212,7 @@ module _ {F : Type 0} (value : F → Number) (limit high : ℕ) (row : List (Ent
         ];
       }
 
--- what is left is less by an entry
+-- one entry fewer remains
 splits_length : {F : Type 0} (rest after : List (Entry F)) (m : ℕ) (x : Option F) → SplitsAt rest m x after → length after ≤ length rest
 splits_length rest after m (Some x) split = let same = ap length split in omega arith
 splits_length rest after m None split = let same = ap length split.0 in omega arith

@@ -1,4 +1,4 @@
--- The first dictionary, row by row; what the pieces of the code promise.
+-- The first dictionary, row by row; what the functions promise.
 use Rattle.std.specs.Prelude.{◌≡◌, Bool, ℕ, ◌+◌, ◌<◌, ◌≤◌, List, [], ◌∷◌, length, slice_index_or}
 use Rattle.std.specs.List.{All}
 use Rattle.gq_number.specs.Number.{Number}

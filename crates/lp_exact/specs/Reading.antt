@@ -1,4 +1,4 @@
--- Lists with a number for each variable, as they are read off rows; what the pieces of the code promise.
+-- Lists with a number for each variable, as they are read from rows; what the functions promise.
 use Rattle.std.specs.Prelude.{◌≡◌, ◌≢◌, ◌⊎◌, ℕ, ◌+◌, ◌<◌, pos, List, [], map, length, take, slice_get, slice_index_or, Option, Some, None}
 use Rattle.gq_number.specs.Number.{Number, whole, neg_ℚ}
 use Rattle.lp_core.specs.declared.answer.Rule.TheVariants.{Legal}
@@ -10,19 +10,19 @@ use Rattle.lp_core.specs.Pivots.{NothingImproves, last_of, last_along}
 use Rattle.lp_exact.specs.declared.row.Entry.{Entry}
 use Rattle.lp_exact.specs.Rows.{number_in}
 
--- The walk is done: nothing improves; or this variable improves and no row limits it; or it is broken off in phase 2 though a
--- variable improves.
+-- The search ends: nothing improves; or this variable improves and no row limits it; or the search
+-- is broken off in phase 2 though a variable improves.
 abbrev pub IsDone : Dictionary → Option ℕ → Type 0
 IsDone d None = NothingImproves d ⊎ (¬ (InPhaseOne d) × ¬ (OpeningIsDue d) × ((q : ℕ) × Improves d q))
 IsDone d (Some q) = ¬ (InPhaseOne d) × IsUnlimited Legal d q
 
--- what is read there: with the ray along which this variable rises, or with no ray
+-- what is read at a dictionary: with the ray along which this variable rises, or without a ray
 abbrev pub last_with : Dictionary → Option ℕ → Last
 last_with d None = last_of d
 last_with d (Some q) = last_along d q
 
 module _ {F : Type 0} (value : F → Number) where
-  -- so many zeros
+  -- a list of `count` zeros
   pub record AreNumbers (count : ℕ) (list : List F) : Type 0 where
     pub sized : length list ≡ count
     pub zeros : (v : ℕ) → number_of (map value list) v ≡ whole (pos 0)
@@ -38,7 +38,8 @@ module _ {F : Type 0} (value : F → Number) where
     pub sized : length list ≡ count
     pub each : (v : ℕ) → v < count → number_of (map value list) v ≡ number_in value (take n row) (v + 1)
 
-  -- the numbers of a variable in the rows of all, negated, and 1 for the variable itself
+  -- the changes of all variables: the negated coefficients of one variable in their rows, and 1 for
+  -- the variable itself
   pub record AreChanges (numbers : List F) (enter : ℕ) (list : List F) : Type 0 where
     pub sized : length list ≡ length numbers
     pub enters : number_of (map value list) enter ≡ whole (pos 1)

@@ -1,4 +1,5 @@
--- Rows of a dictionary that keep only what is not 0: what they mean, and what the pieces of the code promise each other.
+-- Rows of a dictionary that store only numbers other than 0: what they mean, and what the functions
+-- promise each other.
 use Rattle.std.specs.Prelude.{◌≡◌, ◌≢◌, ◌⊎◌, ℕ, ◌+◌, ◌<◌, ◌≤◌, ◌==◌, pos, true, false, List, [], ◌∷◌, ◌++◌, Option, Some, None, Result, Ok, Err, IfOk, IfErr, if◌then◌else◌}
 use Rattle.gq_number.specs.Number.{Number, whole, ◌-ℚ◌, ◌*ℚ◌, ◌/ℚ◌}
 use Rattle.lp_core.specs.Steps.{product_fits, quotient_fits, difference_fits}
@@ -28,12 +29,12 @@ abbrev pub StartsAt : {F : Type 0} → ℕ → List (Entry F) → Type 0
 StartsAt column [] = ⊥
 StartsAt column (e ∷ es) = e.column ≡ column
 
--- the column at which the next of two rows' entries stands; none where both are empty
+-- the column of the next of two rows' entries; none if both are empty
 abbrev pub IsNextColumn : {F : Type 0} → List (Entry F) → List (Entry F) → Option ℕ → Type 0
 IsNextColumn row other None = (row ≡ []) × (other ≡ [])
 IsNextColumn row other (Some column) = StartsFrom column row × StartsFrom column other × (StartsAt column row ⊎ StartsAt column other)
 
--- the first entry is taken off where it is at the column
+-- the first entry is split off if it is at the column
 abbrev pub SplitsAt : {F : Type 0} → List (Entry F) → ℕ → Option F → List (Entry F) → Type 0
 SplitsAt row column (Some number) rest = row ≡ record { column = column; number = number } ∷ rest
 SplitsAt row column None rest = (rest ≡ row) × ¬ (StartsAt column row)
@@ -58,17 +59,17 @@ Lessens value limit number factor other (Ok z) =
     StepsFit limit (number_or_zero value number) (value factor) (number_or_zero value other) × (value z ≡ number_or_zero value number -ℚ value factor *ℚ number_or_zero value other)
 Lessens value limit number factor other (Err p) = Misfits limit (number_or_zero value number) (value factor) (number_or_zero value other) p
 
--- the entry is put at the end, unless it is 0
+-- the entry is appended, unless it is 0
 abbrev pub PushesUnlessZero : {F : Type 0} → (F → Number) → ℕ → F → List (Entry F) → List (Entry F) → Type 0
 PushesUnlessZero value column number before now =
     ((value number ≢ whole (pos 0)) × (now ≡ before ++ record { column = column; number = number } ∷ [])) ⊎ ((value number ≡ whole (pos 0)) × (now ≡ before))
 
--- a step of a row that does not fit, at its column; want of memory says nothing
+-- a step of a row that does not fit, at its column; out of memory makes no claim
 abbrev pub InRow : (ℕ → Part → Type 0) → RowFault → Type 0
 InRow Q (fault.Limit column part) = Q column part
 InRow Q fault.Memory = Unit {0}
 
--- what a function on rows answers
+-- the result of a function on a row: a property of its value, or of the step that does not fit
 abbrev pub OnRow : {T : Type 0} → (T → Type 0) → (ℕ → Part → Type 0) → Result T RowFault → Type 0
 OnRow P Q r = IfOk r P × IfErr r (InRow Q)
 

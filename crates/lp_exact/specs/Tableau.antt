@@ -1,4 +1,5 @@
--- A dictionary as it is kept: each row and the objective have only what is not 0 (Chvatal, Linear Programming, chapter 2).
+-- A dictionary as it is stored: each row and the objective have only numbers other than 0 (Chvatal,
+-- Linear Programming, chapter 2).
 use Rattle.std.specs.Prelude.{◌≡◌, ℕ, ◌+◌, ◌^◌, ◌<◌, ◌≤◌, List, [], length, slice_get, slice_index_or, Option, Some, None, Contains}
 use Rattle.gq_number.specs.Number.{Number}
 use Rattle.lp_core.specs.Dictionary.{Dictionary}
@@ -7,8 +8,8 @@ use Rattle.lp_exact.specs.Rows.{IsRow, number_in}
 use Rattle.lp_exact.specs.Lines.{line}
 use Rattle.lp_exact.specs.Pivots.{IsProper}
 
--- The basic variables, a row for each, and the objective, by entries that are not 0; and the number that the next pivot has in
--- the names of its steps.
+-- The basic variables, a row for each, and the objective, by entries that are not 0; and the number
+-- that the next pivot has in the names of its steps.
 pub record Tableau (F : Type 0) : Type 0 where
   -- the greatest number of a variable
   pub variables : ℕ
@@ -17,12 +18,12 @@ pub record Tableau (F : Type 0) : Type 0 where
   pub objective : List (Entry F)
   pub upcoming : ℕ
 
--- the record of these
+-- the tableau with these rows
 abbrev pub tableau : {F : Type 0} → ℕ → List ℕ → List (List (Entry F)) → List (Entry F) → ℕ → Tableau F
 tableau variables basic rows objective upcoming =
     record { variables = variables; basic = basic; rows = rows; objective = objective; upcoming = upcoming }
 
--- the dictionary that is kept; what is no row is the objective
+-- the dictionary of a tableau; the row past the last is the objective
 abbrev pub dictionary : {F : Type 0} → (F → Number) → Tableau F → Dictionary
 dictionary value t =
     record {
@@ -31,8 +32,8 @@ dictionary value t =
       numbers = λ k c. number_in value (line t.rows t.objective k) c;
     }
 
--- There is a row for each basic variable, all entries are in order and at columns that there are, and the dictionary is one of
--- a program.
+-- The invariant: there is a row for each basic variable, all entries are in order and at columns of
+-- the dictionary, and the dictionary is one of a program.
 pub record IsTableau {F : Type 0} (value : F → Number) (t : Tableau F) : Type 0 where
   pub sized : t.variables + 2 < 2 ^ 32
   pub few : length t.basic ≤ t.variables
@@ -41,7 +42,7 @@ pub record IsTableau {F : Type 0} (value : F → Number) (t : Tableau F) : Type 
   pub objective : IsRow value 0 (t.variables + 2) t.objective
   pub proper : IsProper (dictionary value t)
 
--- the place of a variable among the basic ones; none where it is not basic
+-- the place of a variable among the basic ones; none if it is not basic
 abbrev pub IsPlace : List ℕ → ℕ → Option ℕ → Type 0
 IsPlace basic v (Some k) = slice_get basic k ≡ Some v
 IsPlace basic v None = ¬ (Contains basic v)

@@ -31,7 +31,7 @@ pub(crate) fn is_below_zero<F: ExactField>(x: F) -> bool
     F::zero().cmp_value(x).is_gt()
 }
 
-/// The one with the lesser number, and of equal ones the one with the lesser variable.
+/// The candidate with the lesser number, and of equal ones the one with the lesser variable.
 fn lesser<F: ExactField>(best: Option<Candidate<F>>, other: Candidate<F>) -> Candidate<F>
     ensures { IsLesser F.value best other result }
 {
@@ -51,8 +51,8 @@ fn lesser<F: ExactField>(best: Option<Candidate<F>>, other: Candidate<F>) -> Can
     }
 }
 
-/// The basic variable of a row with the least constant below 0, and of several such the least; none where no constant is
-/// below 0.
+/// The basic variable of a row with the least constant below 0, and of several such the least. None
+/// if no constant is below 0.
 pub(crate) fn least_constant<F: ExactField>(
     rows: &[Vec<Entry<F>>],
     basic: &[u32],
@@ -76,9 +76,9 @@ pub(crate) fn least_constant<F: ExactField>(
     best
 }
 
-/// The basic variable of a row with the least ratio of its constant and its number at a column, among rows where that
-/// number is above 0, and of several such the least; none where there is no such row. Or the first place whose ratio
-/// does not fit.
+/// The basic variable of a row with the least ratio of its constant to its number at a column,
+/// among rows where that number is above 0, and of several such the least. None if there is no such
+/// row. `Err` has the first place whose ratio does not fit.
 pub(crate) fn least_ratio<F: ExactField>(
     rows: &[Vec<Entry<F>>],
     basic: &[u32],

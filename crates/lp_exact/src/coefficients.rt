@@ -7,7 +7,8 @@ use crate::choice::is_above_zero;
 use crate::row::Entry;
 use gq_field::ExactField;
 
-/// Whether an entry has a variable from variable 1 on and a number above 0, which is greater than that of the best entry so far.
+/// Whether an entry belongs to a variable from 1 on and its number is above 0 and greater than that
+/// of the best entry so far.
 fn is_better<F: ExactField>(entry: Entry<F>, best: Option<Entry<F>>) -> bool
     ensures { IsTrue result ↔ IsBetter F.value entry best }
 {
@@ -31,7 +32,7 @@ fn better<F: ExactField>(best: Option<Entry<F>>, entry: Entry<F>) -> Option<Entr
     }
 }
 
-/// The variable from variable 1 on whose number is greatest of those above 0, and of equal ones the least.
+/// The variable from 1 on with the greatest number above 0, and of equal ones the least.
 pub(crate) fn greatest_above<F: ExactField>(row: &[Entry<F>]) -> Option<u32>
     requires { (high : ℕ) × IsRow F.value 0 high row.now }
     ensures { IsGreatestAbove F.value row.now result }

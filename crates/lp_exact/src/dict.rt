@@ -31,10 +31,11 @@ use lp_std::{Standard, Stop};
 use std::alloc::{AllocError, Global};
 use std::marker::Model;
 
-/// A dictionary by fractions: an equation for each basic variable, and the objective (Chvatal, Linear Programming, chapters 2
-/// and 3).
+/// A dictionary by fractions: an equation for each basic variable, and the objective (Chvatal,
+/// Linear Programming, chapters 2 and 3).
 ///
-/// Each row keeps only what is not 0, as reduced fractions. Variable 0 is the one of phase 1.
+/// Each row stores only what is not 0, as reduced fractions. Variable 0 is the artificial variable
+/// of phase 1.
 #[derive(Drop)]
 pub struct ExactDict<F: ExactField> {
     variables: u32,
@@ -82,8 +83,8 @@ fn first_above<F: ExactField>(row: &[Entry<F>]) -> Option<u32>
 }
 
 impl<F: ExactField> ExactDict<F> {
-    /// The dictionary with these rows and this objective, which have to be in order; the next pivot has the number `upcoming`
-    /// in the names of its steps.
+    /// The dictionary with these rows and this objective, which have to be in order. `upcoming` is
+    /// the number of the next pivot in the names of its steps.
     pub fn of_rows(
         variables: u32,
         basic: Vec<u32>,
@@ -103,15 +104,15 @@ impl<F: ExactField> ExactDict<F> {
         }
     }
 
-    /// What each such dictionary keeps, a law: a row for each basic variable, all entries in order, and the dictionary is one of
-    /// a program.
+    /// The invariant of each such dictionary, a law: a row for each basic variable, all entries in
+    /// order, and the dictionary is one of a program.
     pub fn keeps(&self)
         ensures { IsTableau F.value self.now }
     {
         let _ = &self.rows;
     }
 
-    /// The greatest number of a variable: there are as many and variable 0.
+    /// The greatest number of a variable: the variables are 0 and those up to it.
     pub fn variables(&self) -> u32
         ensures { result ≡ self.now.variables }
     {
@@ -139,8 +140,9 @@ impl<F: ExactField> ExactDict<F> {
         self.objective.as_slice()
     }
 
-    /// The first dictionary of a standard form of a well-formed program: its slacks are basic. Variable 0 stands in each row
-    /// where some right side is below 0, and then the opening pivot is due. The error is want of memory.
+    /// The first dictionary of the standard form of a well-formed program: its slacks are basic. If
+    /// some right side is below 0, variable 0 occurs in each row, and the opening pivot is
+    /// required. The only error is out of memory.
     pub fn of(alloc: Global, s: &Standard<F>) -> Result<ExactDict<F>, AllocError>
         requires { (lp : Lp F) × IsWellFormed F.value lp × (standard_value F.value s.now ≡ standard_form F.value lp) }
         ensures first { IfOk result (λ d. dictionary F.value d ≡ first_dictionary (standard_value F.value s.now)) }
@@ -177,8 +179,8 @@ impl<F: ExactField> ExactDict<F> {
         }
     }
 
-    /// The number of a variable in the row of a basic one; 0 where the first is not basic, and where the second is basic
-    /// or no variable.
+    /// The number of a variable in the row of a basic one; 0 if the first is not basic, and if the
+    /// second is basic or no variable.
     pub fn entry(&self, basic: u32, other: u32) -> F
         ensures row { (k : ℕ) → slice_get self.now.basic k ≡ Some basic → ¬ (Contains self.now.basic other) → F.value result ≡ entry_at (dictionary F.value self.now) k other }
         ensures not_basic { ¬ (Contains self.now.basic basic) → F.value result ≡ whole (pos 0) }
@@ -197,8 +199,8 @@ impl<F: ExactField> ExactDict<F> {
         }
     }
 
-    /// The number of a variable in the row by which pivots are chosen: that of variable 0 in phase 1, then the objective.
-    /// It is 0 for a basic variable, and for a number that is no variable.
+    /// The number of a variable in the priced row: that of variable 0 in phase 1, then the
+    /// objective. It is 0 for a basic variable, and for a number that is no variable.
     pub fn coefficient(&self, v: u32) -> F
         ensures priced { (k : ℕ) → IsPriced (dictionary F.value self.now) k → ¬ (Contains self.now.basic v) → F.value result ≡ entry_at (dictionary F.value self.now) k v }
         ensures basic { Contains self.now.basic v → F.value result ≡ whole (pos 0) }
@@ -216,8 +218,8 @@ impl<F: ExactField> ExactDict<F> {
         }
     }
 
-    /// The opening pivot of Bland's choice, where one is due: variable 0 enters, and of the variables with the least
-    /// constant, which is below 0, the least leaves.
+    /// The opening pivot of Bland's choice, if one is required: variable 0 enters, and of the
+    /// variables with the least constant, which is below 0, the least leaves.
     pub fn opening(&self) -> Option<Pivot>
         ensures { MatchOption result (¬ (OpeningIsDue (dictionary F.value self.now)))
             (λ p. ((k : ℕ) × IsOpening (dictionary F.value self.now) p k) × ((i : ℕ) → IsLeast (dictionary F.value self.now) i → p.leave ≤ basic_at (dictionary F.value self.now) i)) }
@@ -243,8 +245,8 @@ impl<F: ExactField> ExactDict<F> {
         }
     }
 
-    /// The variable that improves with the greatest coefficient in the row by which pivots are chosen, and of several such the
-    /// least; none exactly where nothing improves. It walks that row once.
+    /// The variable that improves with the greatest coefficient in the priced row, and of several
+    /// such the least. None exactly if nothing improves. It passes over that row once.
     pub fn greatest(&self) -> Option<u32>
         requires { ¬ (OpeningIsDue (dictionary F.value self.now)) }
         ensures { MatchOption result ((v : ℕ) → ¬ (Improves (dictionary F.value self.now) v)) (HasGreatest (dictionary F.value self.now)) }
@@ -255,9 +257,10 @@ impl<F: ExactField> ExactDict<F> {
         }
     }
 
-    /// The least of the variables that tie for leaving where `enter` enters; none exactly where no row limits that.
+    /// The least of the variables that tie for leaving when `enter` enters. None exactly if no row
+    /// limits it.
     ///
-    /// `Limit` comes with the first ratio that does not fit, and no other stop comes.
+    /// `Limit` has the first ratio that does not fit. No other stop occurs.
     pub fn leaving(&self, enter: u32) -> Result<Option<u32>, Stop>
         requires { Improves (dictionary F.value self.now) enter }
         ensures fits { IfOk result (λ _. AllFit (ratio_steps F.limit self.now.upcoming (dictionary F.value self.now) enter)) }
@@ -276,12 +279,12 @@ impl<F: ExactField> ExactDict<F> {
         }
     }
 
-    /// The dictionary after a legal pivot, in which `p.enter` stands in the row of `p.leave`; variable 0 is dropped where it
-    /// leaves. Rows without the variable that enters stay as they are.
+    /// The dictionary after a legal pivot, in which `p.enter` is basic in the row of `p.leave`.
+    /// Variable 0 is dropped when it leaves. Rows without the entering variable are unchanged.
     ///
-    /// `Limit` comes with the first step that does not fit: first those of the row of the variable that leaves, then those of
-    /// the other rows in order, those of the objective last. `Memory` comes where a growth finds no memory. After either the
-    /// dictionary is gone. `Crossed` does not come.
+    /// `Limit` has the first step that does not fit: first those of the leaving variable's row,
+    /// then those of the other rows in order, and those of the objective at the end. `Memory` means
+    /// out of memory. After either the dictionary is lost. `Crossed` does not occur.
     pub fn pivot(self, alloc: Global, p: Pivot) -> Result<ExactDict<F>, Stop>
         requires { (k : ℕ) × IsLegal (dictionary F.value self) p k }
         ensures exchanged { IfOk result (λ after. (k : ℕ) → slice_get self.basic k ≡ Some p.leave →
@@ -322,7 +325,7 @@ impl<F: ExactField> ExactDict<F> {
         })
     }
 
-    /// The value of each variable where those that are not basic are 0. The error is want of memory.
+    /// The value of each variable when the nonbasic ones are 0. The only error is out of memory.
     pub fn values(&self, alloc: Global) -> Result<Vec<F>, AllocError>
         ensures { IfOk result (λ list. map F.value list.items ≡ (last_of (dictionary F.value self.now)).values) }
     {
@@ -330,7 +333,8 @@ impl<F: ExactField> ExactDict<F> {
         by_variable(alloc, self.rows.as_slice(), self.basic.as_slice(), count, 0)
     }
 
-    /// The coefficient of each variable in the row by which pivots are chosen; 0 for a basic one. The error is want of memory.
+    /// The coefficient of each variable in the priced row; 0 for a basic one. The only error is out
+    /// of memory.
     pub fn costs(&self, alloc: Global) -> Result<Vec<F>, AllocError>
         ensures { IfOk result (λ list. map F.value list.items ≡ (last_of (dictionary F.value self.now)).costs) }
     {
@@ -343,7 +347,8 @@ impl<F: ExactField> ExactDict<F> {
         Ok(costs)
     }
 
-    /// The change of each variable where this one rises by 1; empty where there is none. The error is want of memory.
+    /// The change of each variable when this one rises by 1; empty without one. The only error is
+    /// out of memory.
     pub fn ray(&self, alloc: Global, enter: Option<u32>) -> Result<Vec<F>, AllocError>
         requires { IsDone (dictionary F.value self.now) enter }
         ensures { IfOk result (λ list. map F.value list.items ≡ (last_with (dictionary F.value self.now) enter).changes) }

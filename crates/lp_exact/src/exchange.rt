@@ -10,7 +10,8 @@ use gq_field::ExactField;
 use std::alloc::Global;
 use std::mem;
 
-/// Takes from a row the multiple of the pivot row that its number at the column asks for; a row without that column stays.
+/// Subtracts from a row the multiple of the pivot row that makes its number at the column 0; a row
+/// without that column is unchanged.
 fn exchange_row<F: ExactField>(
     row: &mut Vec<Entry<F>>,
     column: u32,
@@ -31,7 +32,7 @@ fn exchange_row<F: ExactField>(
     Ok(())
 }
 
-/// The same for each row.
+/// Subtracts from each row the multiple of the pivot row that makes its number at the column 0.
 fn exchange_rows<F: ExactField>(
     rows: &mut Vec<Vec<Entry<F>>>,
     column: u32,
@@ -52,7 +53,7 @@ fn exchange_rows<F: ExactField>(
     Ok(())
 }
 
-/// Puts a row at a place, and gives the one that was there.
+/// Puts a row at a place, and returns the one that it replaces.
 fn put_row<F: ExactField>(
     rows: &mut Vec<Vec<Entry<F>>>,
     place: usize,
@@ -66,8 +67,8 @@ fn put_row<F: ExactField>(
     mem::replace(old, row)
 }
 
-/// The exchange: the row at a place is divided by its number at a column, and each other row and the objective lose the
-/// multiple of it that takes theirs.
+/// The exchange: the row at a place is divided by its number at a column, and each other row and
+/// the objective lose the multiple of it that makes their number there 0.
 pub(crate) fn turn<F: ExactField>(
     alloc: Global,
     rows: &mut Vec<Vec<Entry<F>>>,
@@ -101,14 +102,14 @@ pub(crate) fn turn<F: ExactField>(
     Ok(())
 }
 
-/// Takes the entry of variable 0 out of a row.
+/// Removes the entry of variable 0 from a row.
 fn forget_zero<F: ExactField>(row: &mut Vec<Entry<F>>)
     ensures { row.new.items ≡ without 1 row.old.items }
 {
     row.retain(|entry| entry.column != 1);
 }
 
-/// Takes the entries of variable 0 out of each row and the objective, where that variable leaves.
+/// Removes the entries of variable 0 from each row and the objective, if that variable leaves.
 pub(crate) fn forget_leaving<F: ExactField>(
     leave: u32,
     rows: &mut Vec<Vec<Entry<F>>>,

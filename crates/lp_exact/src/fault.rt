@@ -33,7 +33,7 @@ impl Part {
 pub(crate) enum RowFault {
     /// A step does not fit under the limit of the field: the first such one, at this column.
     Limit(u32, Part),
-    /// A growth found no memory.
+    /// Out of memory.
     Memory,
 }
 
@@ -70,7 +70,7 @@ impl<T: Drop> From<AllocFailed<T>> for RowFault {
 pub(crate) enum LineFault {
     /// A step does not fit: the first such one, in the row that has this place and at this column.
     Limit(usize, u32, Part),
-    /// A growth found no memory.
+    /// Out of memory.
     Memory,
 }
 

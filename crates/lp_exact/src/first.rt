@@ -28,14 +28,14 @@ pub(crate) fn is_some_below<F: ExactField>(rows: &[StdRow<F>]) -> bool
     false
 }
 
-/// The number of variable 0 in each row: -1 where it is needed.
+/// The coefficient of variable 0 in each row: -1 if phase 1 is needed, else 0.
 fn number_of_zero<F: ExactField>(needed: bool) -> F
     ensures { F.value result ≡ (if needed then neg_ℚ (whole (pos 1)) else whole (pos 0)) }
 {
     if needed { F::one().neg() } else { F::zero() }
 }
 
-/// A row with its slack, the variable of this number, which is greater than those of the row's entries.
+/// A row with its slack, whose variable number is greater than those of the row's entries.
 fn row_with_slack<F: ExactField>(
     alloc: Global,
     row: &StdRow<F>,
@@ -57,7 +57,7 @@ fn row_with_slack<F: ExactField>(
     Ok(made)
 }
 
-/// The rows, of which the first has the slack of this number.
+/// The rows with their slacks; the first slack has this number.
 pub(crate) fn rows_with_slacks<F: ExactField>(
     alloc: Global,
     rows: &[StdRow<F>],
@@ -92,7 +92,7 @@ pub(crate) fn objective_row<F: ExactField>(
     Ok(made)
 }
 
-/// So many numbers from this one on.
+/// `count` numbers from `first` on.
 pub(crate) fn numbers_from(alloc: Global, first: u32, count: usize) -> Result<Vec<u32>, AllocError>
     requires { first + count < 2 ^ 32 }
     ensures { IfOk result (λ numbers. numbers.items ≡ range_with_len first count) }

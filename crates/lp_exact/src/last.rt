@@ -1,4 +1,4 @@
-//! What is read off a last dictionary.
+//! What is read from a final dictionary.
 ghost use Rattle.std.specs.Prelude.{◌≡◌, ◌+◌, ◌-◌, ◌^◌, ◌<◌, ◌≤◌, ℕ, List, [], map, length, slice_get, slice_index_or, Some, IfOk};
 ghost use Rattle.std.specs.List.{All};
 ghost use Rattle.gq_number.specs.Number.{neg_ℚ};
@@ -10,7 +10,7 @@ use crate::row::{Entry, number_of_row};
 use gq_field::ExactField;
 use std::alloc::{AllocError, Global};
 
-/// So many zeros. The error is want of memory.
+/// A list of `count` zeros. The only error is out of memory.
 pub fn zeros<F: ExactField>(alloc: Global, count: usize) -> Result<Vec<F>, AllocError>
     ensures { IfOk result (λ list. AreNumbers F.value count list.items) }
 {
@@ -21,7 +21,7 @@ pub fn zeros<F: ExactField>(alloc: Global, count: usize) -> Result<Vec<F>, Alloc
     Ok(list)
 }
 
-/// For each of so many variables the number that its row has at a column; 0 where it is not basic.
+/// For each of `count` variables the number of its row at a column; 0 if it is not basic.
 pub(crate) fn by_variable<F: ExactField>(
     alloc: Global,
     rows: &[Vec<Entry<F>>],
@@ -42,7 +42,7 @@ pub(crate) fn by_variable<F: ExactField>(
     Ok(list)
 }
 
-/// For each of so many variables its number in a row.
+/// For each of `count` variables its number in a row.
 pub(crate) fn by_column<F: ExactField>(
     alloc: Global,
     row: &[Entry<F>],
@@ -70,8 +70,8 @@ fn negate<F: ExactField>(list: &mut [F])
     }
 }
 
-/// How each variable changes where one that is not basic rises by 1 and the others that are not basic stay; it is given the
-/// numbers of that variable in the rows of all.
+/// How each variable changes when one nonbasic variable rises by 1 and the others stay. `numbers`
+/// has the coefficients of that variable in the rows of all variables.
 pub fn changes<F: ExactField>(mut numbers: Vec<F>, enter: u32) -> Vec<F>
     requires { enter < length numbers.items }
     ensures { AreChanges F.value numbers.items enter result.items }

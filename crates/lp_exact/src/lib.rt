@@ -1,4 +1,5 @@
-//! Floor 4, linear programs. The dictionary of the simplex method by fractions, sparse and exact, over any field.
+//! Layer 4, linear programs. The dictionary of the simplex method by fractions, sparse and exact,
+//! over any field.
 #![tactic(auto)]
 
 mod choice;

@@ -18,7 +18,7 @@ pub struct Entry<F> {
     pub number: F,
 }
 
-/// The number of a row at a column, found by bisection; 0 where no entry has that column.
+/// The number of a row at a column, found by bisection; 0 if no entry has that column.
 pub(crate) fn number_at<F: ExactField>(row: &[Entry<F>], column: u32) -> F
     requires { (high : ℕ) × IsRow F.value 0 high row.now }
     ensures { F.value result ≡ number_in F.value row.now column }
@@ -46,7 +46,7 @@ pub(crate) fn number_of_row<F: ExactField>(rows: &[Vec<Entry<F>>], place: usize,
     number_at(rows[place].as_slice(), column)
 }
 
-/// The least column that one of two rows has an entry at; none where both are empty.
+/// The least column at which one of two rows has an entry; none if both are empty.
 fn next_column<F>(row: &[Entry<F>], other: &[Entry<F>]) -> Option<u32>
     ensures { IsNextColumn row.now other.now result }
 {
@@ -58,7 +58,7 @@ fn next_column<F>(row: &[Entry<F>], other: &[Entry<F>]) -> Option<u32>
     }
 }
 
-/// The number of the first entry where it is at this column, and the entries that are left.
+/// The number of the first entry if it is at this column, and the remaining entries.
 fn split_column<F: ExactField>(row: &[Entry<F>], column: u32) -> (Option<F>, &[Entry<F>])
     ensures { SplitsAt row.now column result.0 result.1.now }
 {
@@ -68,7 +68,7 @@ fn split_column<F: ExactField>(row: &[Entry<F>], column: u32) -> (Option<F>, &[E
     }
 }
 
-/// A number less a factor times another; a number that is not there is 0, and no step is taken with it.
+/// A number less a factor times another; an absent number is 0, and takes no step.
 fn lessened<F: ExactField>(number: Option<F>, factor: F, other: Option<F>) -> Result<F, Part>
     ensures { Lessens F.value F.limit number factor other result }
 {
@@ -87,7 +87,7 @@ fn lessened<F: ExactField>(number: Option<F>, factor: F, other: Option<F>) -> Re
     }
 }
 
-/// Puts an entry at the end, unless its number is 0. The error is want of memory.
+/// Appends an entry, unless its number is 0. The only error is out of memory.
 pub fn push_unless_zero<F: ExactField>(
     row: &mut Vec<Entry<F>>,
     column: u32,
@@ -102,7 +102,7 @@ pub fn push_unless_zero<F: ExactField>(
     Ok(())
 }
 
-/// A row less a factor times another row, written over what was in `made`.
+/// A row less a factor times another row, in place of what `made` had.
 pub(crate) fn lessen_into<F: ExactField>(
     made: &mut Vec<Entry<F>>,
     row: &[Entry<F>],

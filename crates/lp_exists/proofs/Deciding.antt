@@ -1,5 +1,5 @@
--- What is the case at a dictionary by a choice of the variable that enters: nothing improves, or no row limits what is chosen, or a
--- step of the ratio test does not fit, or a pivot is allowed.
+-- The cases at a dictionary, by a choice of the entering variable: nothing improves, or no row
+-- limits the chosen one, or a step of the ratio test does not fit, or a pivot is allowed.
 use Rattle.std.proofs.Common.{◌≡◌, ℕ, zero, suc, ◌+◌, ◌<◌, ◌≤◌, ◌⊎◌, inl, inr, pos, length, Option, Some, None, refl, sym, ◌∙◌, subst, arith}
 use Rattle.std.specs.Prelude.{slice_get}
 use Rattle.std.proofs.lemmas.Bool.{cases_lt}
@@ -20,7 +20,8 @@ use Rattle.lp_walk.proofs.Walking.{turn_of, opening_is_due, step_is_due}
 
 -- ---- the least of the first n numbers of which something holds
 
--- The number k is the first of those below n where P holds: none has a lesser measure, and none with the same a lesser variable.
+-- The number k is the first below n at which P holds: none has a smaller measure, and none with the
+-- same measure has a smaller variable.
 pub record IsFirst (P : ℕ → Type 0) (measure : ℕ → Number) (variable : ℕ → ℕ) (n k : ℕ) : Type 0 where
   pub below : k < n
   pub holds : P k

@@ -70,7 +70,7 @@ module _ {F : Type 0} (value : F → Number) (limit : ℕ) (some : 1 ≤ limit) 
   meant : (xs : List Number) → All (Fitting limit) xs → (ys : List F) × (map value ys ≡ xs)
   meant xs h = all_meant value limit each xs h
 
-  -- ---- the ends that a last dictionary leads back to
+  -- ---- the ends recovered from a final dictionary
 
   module _ (d : Dictionary) (stands : Stands (standard_form value lp) d) (fitting : HasFitting limit d) where
     levels_meant : AllFit (levels_steps value limit lp (last_of d)) → (xs : List F) × (map value xs ≡ levels_back value lp (last_of d))
@@ -174,7 +174,7 @@ module _ {F : Type 0} (value : F → Number) (limit : ℕ) (some : 1 ≤ limit) 
           ends_broken most (inr (none, (q, row.0, chosen, row.1)))
       ends_at_limit most (pivot_is_due p k allowed tested) = ends_broken most (goes_on_by_pivot Chosen d p k allowed)
 
-  -- ---- the walk
+  -- ---- the run of pivots
 
   module _ (choice : Dictionary → List Pivot → Dictionary → ℕ → Type 0) (improves : ChoosesImproving choice) (always : AlwaysChooses choice) where
     abbrev First : Dictionary
@@ -186,7 +186,7 @@ module _ {F : Type 0} (value : F → Number) (limit : ℕ) (some : 1 ≤ limit) 
     abbrev Ended : List Pivot → ℕ → Dictionary → End F → Type 0
     Ended done n d end = EndsSoBy value limit lp iterlim (IsAllowedBy (Chosen done d) d) (Chosen done d) n d end
 
-    -- pivots from a dictionary, to which so many others have led, and an end
+    -- at most `left` pivots from a dictionary, to which `count` others have led, and an end
     abbrev Goes : ℕ → ℕ → List Pivot → Dictionary → Type 0
     Goes left count done d =
         (pivots : List Pivot) × (length pivots ≤ left) × ((last : Dictionary) × LeadsWithin (ByChoice choice First) limit (count + 1) done d pivots last

@@ -1,4 +1,4 @@
--- Where the steps of the way back fit, each number that it gives fits.
+-- If the steps of the recovery fit, each number that it gives fits.
 use Rattle.std.proofs.Common.{◌≡◌, ℕ, ◌+◌, ◌^◌, ◌<◌, ◌≤◌, ◌==◌, cond, true, pos, List, [], ◌∷◌, map, Option, Some, None, sym, ap, ◌∙◌, subst}
 use Rattle.std.specs.Prelude.{flat_map}
 use Rattle.std.specs.List.{All, enumerate_from}
@@ -115,7 +115,7 @@ module _ {F : Type 0} (value : F → Number) (limit : ℕ) (some : 1 ≤ limit) 
       let rest : List Due = flat_map (λ (p : ℕ × (ℕ × form.Shift)). ray_step limit p.0 p.1 changes) (enumerate_from (j + 1) columns) in
       All-cons (Fitting limit) (form.changed_back c changes) (map (λ c. form.changed_back c changes) columns) (change_within j c changes all (All-append_left Fit here rest fit)) (changes_from (j + 1) columns changes all (All-append_right Fit here rest fit))
 
-  -- ---- the lists of the way back
+  -- ---- the lists of the recovery
 
   module _ (lp : Lp F) (last : form.Last) where
     multiplier_within : All (Fitting limit) last.costs → (r : ℕ) → Fitting limit (form.multiplier (form.variables_of value lp) last.costs r)

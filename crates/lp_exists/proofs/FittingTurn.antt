@@ -1,5 +1,5 @@
--- Where the steps of an exchange fit, each number of the dictionary after it fits; and so do the numbers that are read from a
--- last dictionary.
+-- If the steps of an exchange fit, each number of the next dictionary fits; and so do the numbers
+-- that are read from a final dictionary.
 use Rattle.std.proofs.Common.{◌≡◌, ◌≢◌, ℕ, zero, suc, ◌+◌, ◌^◌, ◌<◌, ◌≤◌, ◌==◌, ◌&&◌, cond, not, Bool, true, true≢false, inl, inr, pos, List, [], ◌∷◌, ◌++◌, length, map, Option, Some, None, refl, sym, ◌∙◌, subst, arith}
 use Rattle.std.specs.Prelude.{flat_map, filter, unwrap_or, slice_set}
 use Rattle.std.specs.List.{All, range_with_len}
@@ -97,7 +97,7 @@ module _ (limit : ℕ) (some : 1 ≤ limit) (small : limit < 2 ^ 127) (n : ℕ) 
             cond_within limit (basic_at d k == 0 && c == 1) (whole (pos 0)) (exchanged_numbers d q k i c) (fits-zero limit some) (numbers_within i c (omega arith) less);
       }
 
--- ---- what is read from a last dictionary
+-- ---- what is read from a final dictionary
 
 module _ (limit : ℕ) (some : 1 ≤ limit) (d : Dictionary) (h : HasFitting limit d) where
   row_there : (v k : ℕ) → row_of_basic d v ≡ Some k → k < length d.basic

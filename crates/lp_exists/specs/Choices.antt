@@ -1,4 +1,5 @@
--- Choices of the variable that enters which always find one (Chvatal, Linear Programming, chapters 2 and 3).
+-- Choices of the entering variable that always find one (Chvatal, Linear Programming, chapters 2
+-- and 3).
 use Rattle.std.specs.Prelude.{ℕ, List, []}
 use Rattle.lp_core.specs.declared.answer.Pivot.{Pivot}
 use Rattle.lp_core.specs.declared.answer.Rule.TheVariants.{Legal}
@@ -6,7 +7,8 @@ use Rattle.lp_core.specs.Dictionary.{Dictionary, Improves}
 use Rattle.lp_core.specs.Pivots.{ByRule, Leads}
 use Rattle.lp_exact.specs.Pivots.{IsProper}
 
--- a choice, told by a first dictionary, the pivots so far, the dictionary that they lead to and a variable: each chosen one improves
+-- a choice, by the first dictionary, the pivots so far, the dictionary they lead to, and a
+-- variable: each chosen variable improves
 abbrev pub ChoosesImproving : (Dictionary → List Pivot → Dictionary → ℕ → Type 0) → Type 0
 ChoosesImproving choice = (first : Dictionary) (pivots : List Pivot) (d : Dictionary) (q : ℕ) → choice first pivots d q → Improves d q
 

@@ -10,20 +10,22 @@ ghost use Rattle.lp_exists.specs.Choices.{ChoosesImproving, AlwaysChooses};
 
 use gq_field::ExactField;
 
-/// A choice of the variable that enters which chooses improving variables alone, and one wherever some variable improves.
+/// A choice of the entering variable that chooses only improving variables, and finds one whenever
+/// some variable improves.
 pub trait Finding {
-    /// Of a first dictionary, the pivots so far, the dictionary that they lead to and a variable: that this variable is chosen.
+    /// That a variable may be chosen, given the first dictionary, the pivots so far, and the
+    /// dictionary they lead to.
     ghost chooses: { Dictionary → List Pivot → Dictionary → ℕ → Type 0 };
 
-    /// What is chosen improves.
+    /// A chosen variable improves.
     ghost improving: { ChoosesImproving chooses };
 
-    /// Where some variable improves, one is chosen.
+    /// If some variable improves, one is chosen.
     ghost always: { AlwaysChooses chooses };
 }
 
-/// A program has an answer under each limit of pivots, by any choice of the variable that enters which always finds one: Chvatal,
-/// Linear Programming, chapters 2, 3 and 8.
+/// A program has an answer under each limit of pivots, by any choice of the entering variable that
+/// always finds one: Chvatal, Linear Programming, chapters 2, 3 and 8.
 pub fn an_answer<F: ExactField, C: Finding>()
     ensures { (lp : Lp F) (iterlim : ℕ) → IsWellFormed F.value lp →
         (answer : Answer F) × IsAnswerByChoice F.value F.limit lp iterlim C.chooses answer }

@@ -1,4 +1,4 @@
--- What a walk over two lists makes has the sum of their numbers at each key.
+-- The merge of two lists has the sum of their numbers at each key.
 use Rattle.std.proofs.Common.{◌≡◌, ◌≢◌, ℕ, suc, ◌≤◌, true, false, pos, cond, List, [], ◌∷◌, length, Ok, Err, refl, sym, ap, ◌∙◌, subst}
 use Rattle.std.specs.declared.cmp.Ordering.TheVariants.{Less, Equal}
 use Rattle.std.specs.List.{All}
@@ -21,7 +21,7 @@ pub before-rest : (k : Key) (ls : List Key) → IsBeforeFirst k ls → AreOrdere
 before-rest k [] before ordered = All-nil (λ l. key_cmp k l ≡ Less)
 before-rest k (l ∷ ls) before ordered = before-all k l ls before ordered
 
--- a fact of what a walk makes
+-- a property of the result of a merge
 unfoldable pub IfMade : {F : Type 0} → (Side F → Type 0) → Outcome F → Type 0
 IfMade P (Ok made) = P made
 IfMade P (Err key) = Unit {0}
@@ -29,20 +29,20 @@ IfMade P (Err key) = Unit {0}
 unfoldable pub with_front : {F : Type 0} → Key → F → Side F → Side F
 with_front k x made = record { keys = k ∷ made.keys; numbers = x ∷ made.numbers }
 
--- a fact of what is made behind an entry, from one of what is made
+-- a property of a result with an entry before it, from one of the result
 pub front : {F : Type 0} (k : Key) (x : F) (P Q : Side F → Type 0) (r : Outcome F) → ((made : Side F) → P made → Q (with_front k x made)) → IfMade P r → IfMade Q (in_front k x r)
 unfolding IfMade with_front
 front k x P Q (Ok made) step h = step made h
 front k x P Q (Err key) step h = tt
 
--- an entry before all that is made, in front of what is in order
+-- an entry whose key precedes all, put before an ordered result
 pub ordered_front : {F : Type 0} (k : Key) (x : F) (r : Outcome F) → IfMade (λ made. All (λ m. key_cmp k m ≡ Less) made.keys) r → IfMade (λ made. AreOrdered made.keys) r → IfMade (λ made. AreOrdered made.keys) (in_front k x r)
 unfolding IfMade with_front
 ordered_front k x (Ok made) before h = ordered-cons k made.keys before h
 ordered_front k x (Err key) before h = tt
 
 module _ {F : Type 0} (value : F → Number) (limit : ℕ) where
-  -- what a walk makes comes after whatever comes before both lists
+  -- the result of a merge comes after whatever comes before both lists
   pub merged-after : (low : Key) {ks : List Key} {xs : List F} {ls : List Key} {ys : List F} {r : Outcome F} → Merges value limit ks xs ls ys r → All (λ k. key_cmp low k ≡ Less) ks → All (λ l. key_cmp low l ≡ Less) ls → IfMade (λ made. All (λ m. key_cmp low m ≡ Less) made.keys) r
   unfolding IfMade with_front
   merged-after low done before others = All-nil (λ m. key_cmp low m ≡ Less)
@@ -56,7 +56,7 @@ module _ {F : Type 0} (value : F → Number) (limit : ℕ) where
       merged-after low m (All-tail (λ k. key_cmp low k ≡ Less) k ks before) (All-tail (λ k. key_cmp low k ≡ Less) l ls others)
   merged-after low (stopped same none) before others = tt
 
-  -- what a walk makes is in order
+  -- the result of a merge is in order
   pub merged-ordered : {ks : List Key} {xs : List F} {ls : List Key} {ys : List F} {r : Outcome F} → Merges value limit ks xs ls ys r → AreOrdered ks → AreOrdered ls → IfMade (λ made. AreOrdered made.keys) r
   unfolding IfMade with_front
   merged-ordered done ordered others = ordered-nil
@@ -226,7 +226,8 @@ module _ {F : Type 0} (value : F → Number) (limit : ℕ) (within : (x : F) →
       rw (number_at_first value k x ks xs, number_at_first value k y ls ys) none,
     )
 
-  -- what a walk tells: the sum at each key, each of which fits; or the first key whose step does not fit
+  -- what a merge computes: the sum at each key, each of which fits; or the first key whose step
+  -- does not fit
   unfoldable pub Tells : List Key → List F → List Key → List F → Outcome F → Type 0
   Tells ks xs ls ys (Ok made) =
       (key : Key) → (number_at value made.keys made.numbers key ≡ number_at value ks xs key +ℚ number_at value ls ys key) × (sum_fits limit (number_at value ks xs key) (number_at value ls ys key) ≡ true)

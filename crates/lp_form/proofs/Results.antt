@@ -1,4 +1,4 @@
--- That what the walks make is what the calls on forms promise.
+-- The merges compute what the calls on forms promise.
 use Rattle.std.proofs.Common.{◌≡◌, ◌≢◌, ℕ, zero, suc, ◌≤◌, true, false, pos, cond, List, [], ◌∷◌, ◌++◌, length, map, get_or, Some, None, Result, Ok, Err, refl, inl, inr, sym, ap, ◌∙◌, subst, arith}
 use Rattle.std.specs.declared.cmp.Ordering.{Ordering}
 use Rattle.std.specs.declared.cmp.Ordering.TheVariants.{Less, Equal, Greater}
@@ -52,7 +52,7 @@ module _ {F : Type 0} (value : F → Number) (limit : ℕ) where
   only_right (l ∷ ls) [] e = absurd (omega arith)
   only_right (l ∷ ls) (y ∷ ys) e = right tt (only_right ls ys (omega arith))
 
-  -- sides of which one comes behind the other become one by putting it behind
+  -- two sides, one of which comes after the other, merge by appending it
   pub put_behind : (ks : List Key) (xs : List F) (ls : List Key) (ys : List F) → length xs ≡ length ks → length ys ≡ length ls → All (λ k. IsBeforeFirst k ls) ks → Merges value limit ks xs ls ys (Ok (record { keys = ks ++ ls; numbers = xs ++ ys }))
   put_behind [] [] ls ys e f before = only_right ls ys f
   put_behind [] (x ∷ xs) ls ys e f before = absurd (omega arith)

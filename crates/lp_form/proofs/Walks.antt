@@ -1,4 +1,5 @@
--- The steps of the walks, as the code takes them: what is made so far in front of whatever the rest makes.
+-- The steps of the loops, as the code runs them: the result so far, followed by whatever the rest
+-- gives.
 use Rattle.std.proofs.Common.{◌≡◌, ◌≢◌, ◌-◌, slice_get, ℕ, suc, ◌⊎◌, inl, inr, ◌+◌, ◌<◌, ◌≤◌, Bool, true, false, pos, List, [], ◌∷◌, ◌++◌, length, get_or, drop, take, Option, Some, None, Result, Ok, Err, refl, sym, ap, ◌∙◌, subst, arith, append_assoc, drop-cons, add-one, length-drop}
 use Rattle.std.specs.declared.cmp.Ordering.TheVariants.{Less, Equal}
 use Rattle.std.specs.List.{All}
@@ -119,7 +120,7 @@ pub before_end : {X : Type 0} (xs : List X) (i : ℕ) → 0 < length (drop i xs)
 before_end xs i h = omega (arith, length-drop i xs)
 
 module _ {F : Type 0} (value : F → Number) (limit : ℕ) (ks : List Key) (xs : List F) (ls : List Key) (ys : List F) where
-  -- what is made so far, in front of what the rests make, is what the whole lists make
+  -- the result so far, followed by the merge of the rests, is the merge of the lists
   abbrev pub Merging : ℕ → ℕ → List Key → List F → Type 0
   Merging i j keys numbers = (r : Outcome F) → Merges value limit (drop i ks) (drop i xs) (drop j ls) (drop j ys) r → Merges value limit ks xs ls ys (after keys numbers r)
 
@@ -200,7 +201,7 @@ on_fault P k (fault.Limit at) e h = rw e h
 on_fault P k fault.Memory e h = tt
 
 module _ {F : Type 0} (value : F → Number) (step : Number → Step) (ks : List Key) (xs : List F) where
-  -- what is made so far, in front of what the rest makes, is what the whole list makes
+  -- the result so far, followed by the changed rest, is the changed list
   abbrev pub Changing : ℕ → List Key → List F → Type 0
   Changing i keys numbers = (r : Outcome F) → Changes value step (drop i ks) (drop i xs) r → Changes value step ks xs (after keys numbers r)
 

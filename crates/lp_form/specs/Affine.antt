@@ -1,4 +1,4 @@
--- Affine forms as contracts see them.
+-- Affine forms as contracts view them.
 use Rattle.std.specs.Prelude.{◌≡◌, ◌≢◌, pos, List, length}
 use Rattle.std.specs.List.{All}
 use Rattle.gq_number.specs.Number.{Number, whole}
@@ -12,7 +12,8 @@ pub record Affine (F : Type 0) : Type 0 where
   -- the numbers, in the order of the keys
   pub numbers : List F
 
--- The keys are distinct and in order, each has its number, and no number is 0. `value` is the number that a value of a field means.
+-- The keys are distinct and in order, each has its number, and no number is 0. `value` gives the
+-- number that a field's value means.
 pub record IsForm {F : Type 0} (value : F → Number) (form : Affine F) : Type 0 where
   pub ordered : AreOrdered form.keys
   pub paired : length form.numbers ≡ length form.keys

@@ -49,12 +49,13 @@ quotient_step limit x y = record { number = x /ℚ y; fits = fits limit (x /ℚ 
 abbrev pub of_two : {F : Type 0} → (Number → Number → Step) → (F → Number) → Affine F → Affine F → Entrywise
 of_two step value a b = record { constant = step (value a.constant) (value b.constant); at = λ key. step (coefficient value a key) (coefficient value b key) }
 
--- a step on the constant of a form and a number, and on the form's number at each key and that number
+-- a step on the constant of a form and a number, and on the form's number at each key and that
+-- number
 abbrev pub by_number : {F : Type 0} → (Number → Number → Step) → (F → Number) → Affine F → Number → Entrywise
 by_number step value a x = record { constant = step (value a.constant) x; at = λ key. step (coefficient value a key) x }
 
--- All steps fit and the form has their numbers; or the fault is the first step that does not fit, that of the constants
--- before those of the keys in order. Want of memory may come at any step.
+-- All steps fit and the form has their numbers; or the fault is the first step that does not fit,
+-- the constant's before those of the keys in order. Out of memory may occur at any step.
 abbrev pub Gives : {F : Type 0} → (F → Number) → Entrywise → Result (Affine F) FormFault → Type 0
 Gives value steps (Ok form) =
     (value form.constant ≡ steps.constant.number) × ((key : Key) → coefficient value form key ≡ (steps.at key).number) × (steps.constant.fits ≡ true) × ((key : Key) → (steps.at key).fits ≡ true) × IsForm value form

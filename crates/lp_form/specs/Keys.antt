@@ -1,4 +1,5 @@
--- The order of keys (Chvatal, Linear Programming, speaks of variables by their subscripts; here a subscript is a key).
+-- The order of keys (Chvatal, Linear Programming, names variables by their subscripts; here a
+-- subscript is a key).
 use Rattle.std.specs.Prelude.{Bool, List}
 use Rattle.std.specs.declared.cmp.Ordering.{Ordering}
 use Rattle.std.specs.Ordering.{nat_cmp, ordering_then, is_eq}

@@ -10,7 +10,7 @@ abbrev pub step_by : {F : Type 0} → (F → Number) → ℕ → Operation F →
 step_by value limit (Times y) x = product_step limit x (value y)
 step_by value limit (Over y) x = quotient_step limit x (value y)
 
--- what is divided by is not 0
+-- an operation does not divide by 0
 abbrev pub CanDivide : {F : Type 0} → (F → Number) → Operation F → Type 0
 CanDivide value (Times y) = Unit {0}
 CanDivide value (Over y) = value y ≢ whole (pos 0)

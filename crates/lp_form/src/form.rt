@@ -15,8 +15,8 @@ use std::marker::Model;
 
 /// A constant, and a number that is not 0 for each of finitely many keys, in the order of keys.
 ///
-/// The left side of `cost.. z - 2*x =e= 5;` is the form with the constant 0, the number 1 at `z` and -2 at `x`. A key
-/// that is not there has the number 0.
+/// The left side of `cost.. z - 2*x =e= 5;` is the form with the constant 0, the number 1 at `z`
+/// and -2 at `x`. An absent key has the number 0.
 pub struct Form<F: ExactField> {
     constant: F,
     keys: Vec<Key>,
@@ -45,7 +45,7 @@ impl<F: ExactField> Model for Form<F> {
 }
 
 impl<F: ExactField> Form<F> {
-    /// The form of a constant alone.
+    /// The form of a constant.
     pub fn constant(alloc: Global, v: F) -> Form<F>
         ensures constant { result.constant ≡ v }
         ensures keys { result.keys ≡ [] }
@@ -76,7 +76,7 @@ impl<F: ExactField> Form<F> {
         })
     }
 
-    /// The number of a key, which is 0 where the key is not there.
+    /// The number of a key, which is 0 if the form does not have the key.
     pub fn get(&self, k: &Key) -> F
         ensures { F.value result ≡ coefficient F.value self.now k.now }
     {
@@ -122,8 +122,8 @@ impl<F: ExactField> Form<F> {
 
     /// Adds the other form: the constants, and the numbers at each key.
     ///
-    /// Where the other's keys come behind all that are there, the cost does not depend on how many these are. After a
-    /// fault the form is as it was.
+    /// If the other's keys all follow those of this form, the cost does not depend on how many
+    /// these are. After a fault the form is as it was.
     pub fn add_assign(&mut self, alloc: Global, o: &Form<F>) -> Result<(), FormFault>
         ensures value { Gives F.value (of_two (sum_step F.limit) F.value self.old o.now)
             (result_map_both (λ _. self.new) (λ fault. fault) result) }
@@ -152,7 +152,8 @@ impl<F: ExactField> Form<F> {
         Ok(sum)
     }
 
-    /// The difference with the other form, which is the sum with the other one negated, with its faults.
+    /// The difference with the other form, which is the sum with the other one negated, with its
+    /// faults.
     pub fn sub(&self, alloc: Global, o: &Form<F>) -> Result<Form<F>, FormFault>
         ensures { Gives F.value (of_two (difference_step F.limit) F.value self.now o.now) result }
     {

@@ -1,17 +1,18 @@
-//! What an entry of a form belongs to: an element of a symbol.
+//! The key of an entry of a form: an element of a symbol.
 ghost use Rattle.std.specs.Prelude.{◌≡◌, IfOk};
 
 use gms_tuple::Tuple;
 use std::alloc::{AllocError, Global};
 
-/// An element of a symbol, such as `x(seattle,chicago)`: the symbol by its number, and the tuple of labels.
+/// An element of a symbol, such as `x(seattle,chicago)`: the symbol by its number, and the tuple of
+/// labels.
 ///
 /// Keys are ordered by their symbols, and those of one symbol by their tuples.
 #[derive(PartialEq, Eq, PartialOrd, Ord)]
 pub struct Key {
     /// The symbol, by its number.
     pub symbol: u32,
-    /// The labels of the element, of which there are none for a symbol without indices.
+    /// The labels of the element; none for a symbol without indices.
     pub tuple: Tuple,
 }
 

@@ -1,4 +1,5 @@
-//! Floor 4, linear programs. Affine forms: a constant and a number for each key, computed with exactly and entry by entry.
+//! Layer 4, linear programs. Affine forms: a constant and a number for each key, with exact
+//! arithmetic entry by entry.
 #![tactic(auto)]
 
 mod fault;

@@ -1,4 +1,5 @@
-//! Keys and their numbers side by side: how two lists become one, and how one is changed number by number.
+//! Keys and their numbers in parallel lists: how two lists merge into one, and how one is changed
+//! number by number.
 ghost use Rattle.std.specs.Prelude.{◌≡◌, ◌++◌, ◌∷◌, [], length, map, Ok, IfOk, IfErr, IsErr, IsTrue, OnOk, OnErr};
 ghost use Rattle.std.specs.List.{All};
 ghost use Rattle.gq_number.specs.Number.{neg_ℚ};
@@ -13,7 +14,7 @@ use gq_field::{ExactField, Limit};
 use std::alloc::{AllocError, Global};
 use std::cmp::Ordering;
 
-/// Keys and their numbers, side by side.
+/// Keys and their numbers, in parallel lists.
 #[derive(Drop)]
 pub(crate) struct Terms<F> {
     pub(crate) keys: Vec<Key>,
@@ -33,7 +34,7 @@ impl<F> Terms<F> {
 }
 
 impl<F: ExactField> Terms<F> {
-    /// Adds a key and its number at the end.
+    /// Appends a key and its number.
     fn push(&mut self, alloc: Global, key: &Key, number: F) -> Result<(), AllocError>
         ensures keys { OnOk result (self.new.keys.items ≡ self.old.keys.items ++ key.now ∷ []) }
         ensures numbers { OnOk result
@@ -44,7 +45,7 @@ impl<F: ExactField> Terms<F> {
         Ok(())
     }
 
-    /// Adds a key and its number at the end, unless the number is 0.
+    /// Appends a key and its number, unless the number is 0.
     fn push_unless_zero(&mut self, alloc: Global, key: &Key, number: F) -> Result<(), AllocError>
         ensures { OnOk result (PushesUnlessZero F.value key.now number self.old self.new) }
     {
@@ -55,7 +56,7 @@ impl<F: ExactField> Terms<F> {
     }
 }
 
-/// From which of two lists of keys the next one comes.
+/// From which of two lists of keys the next key comes.
 #[derive(Clone, Copy)]
 pub(crate) enum Turn {
     Left,
@@ -63,7 +64,7 @@ pub(crate) enum Turn {
     Both,
 }
 
-/// From which of two lists of keys the next one comes; none where both are empty.
+/// From which of two lists of keys the next key comes; none if both are empty.
 fn next_turn(keys: &[Key], others: &[Key]) -> Option<Turn>
     ensures { Comes keys.now others.now result }
 {
@@ -94,7 +95,7 @@ fn checked<F: ExactField>(
     }
 }
 
-/// The entries of two sides in the order of keys, the numbers of one key added.
+/// The entries of two sides in the order of keys, with the numbers of one key added.
 fn merged<F: ExactField>(
     alloc: Global,
     keys: &[Key],
@@ -174,7 +175,7 @@ pub(crate) fn changed<F: ExactField>(
     Ok(made)
 }
 
-/// The keys once more.
+/// A copy of the keys.
 pub(crate) fn copied(alloc: Global, keys: &[Key]) -> Result<Vec<Key>, AllocError>
     ensures { IfOk result (λ copies. copies.items ≡ keys.now) }
 {
@@ -196,7 +197,7 @@ pub(crate) fn negated<F: ExactField>(alloc: Global, numbers: &[F]) -> Result<Vec
     Ok(negated)
 }
 
-/// Whether all keys of the first list come behind all of the second. Each list is in order.
+/// Whether all keys of the first list follow all of the second. Each list is in order.
 fn is_behind(keys: &[Key], others: &[Key]) -> bool
     requires { AreOrdered others.now }
     ensures { IsTrue result → All (λ other. IsBeforeFirst other keys.now) others.now }
@@ -207,7 +208,7 @@ fn is_behind(keys: &[Key], others: &[Key]) -> bool
     }
 }
 
-/// Puts keys and their numbers behind those that are there. After want of memory all is as it was.
+/// Appends keys and their numbers. If out of memory, all is as it was.
 fn extend<F: ExactField>(
     alloc: Global,
     keys: &mut Vec<Key>,
@@ -230,8 +231,8 @@ fn extend<F: ExactField>(
     Ok(())
 }
 
-/// Puts the entries of the second side among those of the first, the numbers of one key added. After a fault all is as
-/// it was.
+/// Merges the entries of the second side into those of the first, adding the numbers of one key.
+/// After a fault all is as it was.
 pub(crate) fn join<F: ExactField>(
     alloc: Global,
     keys: &mut Vec<Key>,

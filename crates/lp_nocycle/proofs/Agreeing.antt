@@ -1,4 +1,5 @@
--- Rows as forms on columns: what an exchange makes of them, and dictionaries with the same solutions.
+-- Rows as linear forms of the columns: what an exchange makes of them, and dictionaries with the
+-- same solutions.
 use Rattle.std.proofs.Common.{◌≡◌, ◌≢◌, ℕ, ◌+◌, ◌<◌, inl, inr, pos, length, refl, sym, ap, ◌∙◌, subst, arith}
 use Rattle.std.specs.List.{range_with_len}
 use Rattle.gq_number.specs.Number.{Number, whole, ◌-ℚ◌, ◌*ℚ◌, ◌/ℚ◌}
@@ -15,11 +16,11 @@ use Rattle.lp_exact.proofs.Equations.{less_nothing, no_quotient}
 use Rattle.lp_exact.proofs.Proper
 use Rattle.lp_nocycle.proofs.Sparse.{same_sum}
 
--- what numbers come to at values of so many columns
+-- the value of a linear form at values of the columns, of which there are `columns`
 abbrev pub form_of : (ℕ → Number) → ℕ → (ℕ → Number) → Number
 form_of numbers columns x = sum_by_ℚ (λ c. numbers c *ℚ x c) (range_with_len 0 columns)
 
--- what a row comes to at values of all columns; column 0 is -1 at a point and 0 at a direction
+-- the value of a row at values of all columns; column 0 is -1 at a point and 0 at a direction
 abbrev pub form : Dictionary → ℕ → (ℕ → Number) → Number
 form d k x = form_of (d.numbers k) (d.variables + 2) x
 
@@ -40,7 +41,7 @@ form_lessened numbers others columns x f =
     ∙ sum_by_ℚ--ℚ (λ c. numbers c *ℚ x c) (λ c. f *ℚ (others c *ℚ x c)) (range_with_len 0 columns)
     ∙ ap (λ y. form_of numbers columns x -ℚ y) (sum_by_ℚ-*ℚ f (λ c. others c *ℚ x c) (range_with_len 0 columns))
 
--- values of the columns at which every row comes to 0
+-- values of the columns at which every row is 0
 abbrev pub Solves : Dictionary → (ℕ → Number) → Type 0
 Solves d x = (k : ℕ) → k < length d.basic → form d k x ≡ whole (pos 0)
 

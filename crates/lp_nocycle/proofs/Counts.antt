@@ -1,4 +1,4 @@
--- Pivots of a run that turns to Bland's rule after so many pivots on end without gain.
+-- Pivots of a run that turns to Bland's rule after a number of successive pivots without gain.
 use Rattle.std.proofs.Common.{◌≡◌, ◌≢◌, ℕ, zero, suc, ◌+◌, ◌-◌, ◌*◌, ◌<◌, ◌≤◌, ◌⊎◌, inl, inr, pos, List, [], ◌∷◌, ◌++◌, append_assoc, append-nil, length, Some, refl, sym, ap, ◌∙◌, subst, arith}
 use Rattle.std.specs.Prelude.{slice_get, unwrap_or}
 use Rattle.std.proofs.lemmas.Bool.{cases_lt}
@@ -84,8 +84,8 @@ module _ (m w : ℕ) (at : ℕ → Dictionary) (pivot : ℕ → Pivot) (row : �
   abbrev pub Gains : ℕ → Type 0
   Gains j = SamePhase (at j) (at (suc j)) × (constant_at (at j) (row j) ≢ Zero)
 
-  -- The count after a pivot: 0 where another phase begins; where the turn has come it stays so, and else it is 0 after a gain, and
-  -- one more after none.
+  -- The count of pivots without gain, after a pivot: 0 where another phase begins; unchanged after
+  -- the turn; else 0 after a gain, and one more after a pivot without gain.
   pub data IsCounted (j c n : ℕ) : Type 0 where
     changes : ¬ (SamePhase (at j) (at (suc j))) → n ≡ 0 → IsCounted j c n
     gains : Gains j → c < w → n ≡ 0 → IsCounted j c n
@@ -162,7 +162,7 @@ module _ (m w : ℕ) (at : ℕ → Dictionary) (pivot : ℕ → Pivot) (row : �
   -- ---- what the count tells
 
   module _ (runs : IsRun m at pivot row) (variables : (j : ℕ) → (at j).variables + 1 ≡ w) (first : Dictionary) (done : ℕ → List Pivot) (begins : at 0 ≡ reached first (done 0)) (more : (j : ℕ) → j < m → done (suc j) ≡ done j ++ pivot j ∷ []) where
-    -- The last pivots, so many, gained nothing, and all are of the phase of this dictionary.
+    -- The last c pivots gained nothing, and all are of the phase of this dictionary.
     pub record IsStreak (j c : ℕ) : Type 0 where
       pub phase : ℕ
       pub before : List Pivot

@@ -1,4 +1,4 @@
--- No run of Bland's pivots comes back to its basic variables (Chvatal, Linear Programming, chapter 3).
+-- No run of Bland's pivots repeats its basic variables (Chvatal, Linear Programming, chapter 3).
 use Rattle.std.proofs.Common.{◌≡◌, ◌≢◌, ℕ, zero, suc, ◌+◌, ◌<◌, ◌≤◌, inl, inr, pos, length, Some, refl, sym, ap, ◌∙◌, subst, arith}
 use Rattle.std.specs.Prelude.{slice_get, Contains}
 use Rattle.std.proofs.lemmas.Bool.{cases_lt}
@@ -33,7 +33,8 @@ first_some x y above none = <ℚ_irrefl (whole (pos 0)) (subst (λ w. whole (pos
 second_some : (x y : Number) → whole (pos 0) <ℚ x *ℚ y → y ≢ whole (pos 0)
 second_some x y above none = <ℚ_irrefl (whole (pos 0)) (subst (λ w. whole (pos 0) <ℚ w) (ap (λ a. x *ℚ a) none ∙ *ℚ-zero x) above)
 
--- a product with a negated factor is above 0, and the other factor at most 0: then what was negated is above 0
+-- if a product with a negated factor is above 0 and the other factor is at most 0, the negated
+-- number is above 0
 negated_above : (x y : Number) → whole (pos 0) <ℚ x *ℚ neg_ℚ y → x ≤ℚ whole (pos 0) → whole (pos 0) <ℚ y
 negated_above x y above below =
     elim (≤ℚ_or_above y (whole (pos 0))) [

@@ -46,7 +46,7 @@ skip_apart i j k same =
       | inr h ↦ elim (skip_is i k) [ inl g ↦ (let a = h.0 in let b = h.1 in let c = g.0 in let e = g.1 in omega arith) | inr g ↦ (let a = h.0 in let b = h.1 in let c = g.0 in let e = g.1 in omega arith) ]
     ]
 
--- so many different numbers below b are at most b
+-- n different numbers below b: n is at most b
 pub at_most : (b n : ℕ) (f : ℕ → ℕ) → ((j : ℕ) → j < n → f j < b) → ((i j : ℕ) → i < n → j < n → f i ≡ f j → i ≡ j) → n ≤ b
 at_most zero zero f below apart = omega arith
 at_most zero (suc n) f below apart = let h = below 0 (omega arith) in absurd (omega arith)
@@ -62,7 +62,7 @@ at_most (suc b) (suc n) f below apart =
       | inr none ↦ let rest : suc n ≤ b = at_most b (suc n) f (λ j less. let h = below j less in let other = none j less in omega arith) apart in omega arith
     ]
 
--- ---- the code of a dictionary: the binary digits of its basic variables, and one more for its phase
+-- ---- the code of a dictionary: the binary digits of its basic variables and a digit for its phase
 
 -- a number where the first holds, else 0
 abbrev part : {A B : Type 0} → A ⊎ B → ℕ → ℕ

@@ -1,4 +1,5 @@
--- Runs of pivots as functions of the place: what a pivot does to the basic variables, and what a run keeps.
+-- Runs of pivots as functions of the place: what a pivot does to the basic variables, and what a
+-- run preserves.
 use Rattle.std.proofs.Common.{◌≡◌, ◌≢◌, ℕ, zero, suc, ◌<◌, ◌≤◌, ◌⊎◌, inl, inr, length, Some, refl, sym, ap, ◌∙◌, subst, arith}
 use Rattle.std.specs.Prelude.{slice_get, Contains}
 use Rattle.lp_core.specs.declared.answer.Pivot.{Pivot}
@@ -51,7 +52,7 @@ module _ (d : Dictionary) (p : Pivot) (k : ℕ) (proper : IsProper d) (legal : I
       let at = place_of (exchanged d p.enter k).basic v h in
       elim (Proper.basic_after d p k proper legal at.0 v at.1) [ inl new ↦ other (sym new.1) | inr old ↦ none (contains_get d.basic at.0 v old.1) ]
 
-  -- a variable that stands in another row
+  -- a variable that is basic in another row
   stays_there : (i v : ℕ) → k ≢ i → slice_get d.basic i ≡ Some v → slice_get (exchanged d p.enter k).basic i ≡ Some v
   stays_there i v other at = Proper.set_other d.basic k i p.enter (λ same. other (sym same)) ∙ at
 
@@ -79,8 +80,8 @@ module _ (d : Dictionary) (p : Pivot) (k : ℕ) (proper : IsProper d) (legal : I
 
 -- ---- runs
 
--- A run: from a proper dictionary on each of m pivots is legal, and each dictionary is the exchange of the one before it; row j
--- is that of the variable that leaves.
+-- A run of m pivots from a proper dictionary: each pivot is legal, each dictionary is the exchange
+-- of the one before it, and `row j` is the row of the variable that leaves.
 pub record IsRun (m : ℕ) (at : ℕ → Dictionary) (pivot : ℕ → Pivot) (row : ℕ → ℕ) : Type 0 where
   pub proper : IsProper (at 0)
   pub legal : (j : ℕ) → j < m → IsLegal (at j) (pivot j) (row j)
@@ -128,7 +129,8 @@ module _ (m : ℕ) (at : ℕ → Dictionary) (pivot : ℕ → Pivot) (row : ℕ 
   pub leaving_at : (j : ℕ) → j < m → slice_get (at j).basic (row j) ≡ Some (pivot j).leave
   leaving_at j less = Proper.leaves_at (at j) (pivot j) (row j) (proper_at j (omega arith)) (runs.legal j less)
 
-  -- a variable that never enters stays out, one that never leaves stays in, and one whose row is never touched stays there
+  -- a variable that never enters stays out, one that never leaves stays in, and one whose row is
+  -- never chosen keeps its row
   pub out_from : (v : ℕ) → ((j : ℕ) → j < m → (pivot j).enter ≢ v) → (a b : ℕ) → a ≤ b → b ≤ m → ¬ (Contains (at a).basic v) → ¬ (Contains (at b).basic v)
   out_from v never = walk (λ j. ¬ (Contains (at j).basic v)) m (λ j less none. out_at v j less (never j less) none)
 

@@ -1,4 +1,4 @@
--- The standard form of a program is told by the numbers that its values mean.
+-- The numbers that the values of a program mean determine its standard form.
 use Rattle.std.proofs.Common.{◌≡◌, ℕ, ◌+◌, List, [], ◌∷◌, ◌++◌, map, Option, Some, None, pos, refl, ap, ap₂, ◌∙◌}
 use Rattle.std.specs.Prelude.{flat_map, sum_by}
 use Rattle.std.specs.List.{enumerate_from}

@@ -11,7 +11,7 @@ use Rattle.gq_number.proofs.Linear.{≤ℚ_from, <ℚ_from, both, strict_and}
 use Rattle.gq_number.proofs.Sums.{sum_by_ℚ-nil, sum_by_ℚ-cons}
 use Rattle.lp_exact.proofs.Improving.{same_or_not}
 
--- the same terms come to the same
+-- equal terms have equal sums
 pub same_sum : (f g : ℕ → Number) → ((c : ℕ) → f c ≡ g c) → (xs : List ℕ) → sum_by_ℚ f xs ≡ sum_by_ℚ g xs
 same_sum f g h [] = sum_by_ℚ-nil f ∙ sym (sum_by_ℚ-nil g)
 same_sum f g h (x ∷ xs) = sum_by_ℚ-cons f x xs ∙ ap₂ (λ a b. a +ℚ b) (h x) (same_sum f g h xs) ∙ sym (sum_by_ℚ-cons g x xs)

@@ -1,5 +1,5 @@
--- The solutions of a dictionary with 1 at one column that is not basic: column 0 gives the negated basic point, another one
--- the direction along which its variable rises.
+-- The solutions of a dictionary with 1 at one nonbasic column: column 0 gives the negated basic
+-- point, another column the direction along which its variable rises.
 use Rattle.std.proofs.Common.{◌≡◌, ◌≢◌, ℕ, zero, suc, ◌+◌, ◌<◌, ◌⊎◌, inl, inr, pos, List, length, Some, refl, sym, ap, ap₂, ◌∙◌, arith}
 use Rattle.std.specs.Prelude.{slice_get, Contains}
 use Rattle.gq_number.specs.Number.{Number, whole, ◌+ℚ◌, ◌*ℚ◌, neg_ℚ}

@@ -1,4 +1,4 @@
--- That no basis comes back under Bland's rule (Chvatal, Linear Programming, chapter 3).
+-- No basis repeats under Bland's rule (Chvatal, Linear Programming, chapter 3).
 use Rattle.std.specs.Prelude.{◌↔◌, ℕ, List, [], ◌∷◌, Contains}
 use Rattle.gq_number.specs.Number.{Number}
 use Rattle.lp_core.specs.declared.answer.Pivot.{Pivot}
@@ -14,8 +14,9 @@ use Rattle.lp_core.specs.WellFormed.{IsWellFormed}
 abbrev pub SameBasic : Dictionary → Dictionary → Type 0
 SameBasic d e = (v : ℕ) → Contains d.basic v ↔ Contains e.basic v
 
--- no basis comes back within a phase, whatever the numbers: legal pivots lead from the first dictionary of a program to d, one of
--- Bland's and more of his lead on to e, and both are of one phase; then d and e have not the same basic variables
+-- no basis repeats within a phase, whatever the numbers: if legal pivots lead from the first
+-- dictionary of a program to d, one or more of Bland's pivots lead from d to e, and both are of one
+-- phase, then d and e differ in their basic variables
 abbrev pub NoneRepeats : {F : Type 0} → (F → Number) → Type 0
 NoneRepeats {F} value =
     (lp : Lp F) (before between : List Pivot) (p : Pivot) (d e : Dictionary) (phase : ℕ) →

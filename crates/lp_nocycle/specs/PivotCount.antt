@@ -8,7 +8,7 @@ use Rattle.lp_core.specs.declared.program.Lp.{Lp}
 use Rattle.lp_core.specs.StandardForm.{standard_form}
 use Rattle.lp_core.specs.Dictionary.{first_dictionary}
 
--- twice the number of sets of so many variables: a set of basic ones in each of the two phases
+-- twice 2^n for n variables: in each of the two phases, any set of them may be basic
 abbrev pub twice_sets : ℕ → ℕ
 twice_sets variables = 2 * 2 ^ variables
 
@@ -21,14 +21,14 @@ abbrev pub IsInterrupted : {F : Type 0} → End F → Type 0
 IsInterrupted (Interrupted phase levels row_levels) = Unit {0}
 IsInterrupted other = ⊥
 
--- an answer has fewer pivots than twice the sets of the program's variables
+-- an answer has fewer pivots than twice the number of sets of the program's variables
 abbrev pub HasFewPivots : {F : Type 0} → (F → Number) → Lp F → Answer F → Type 0
 HasFewPivots value lp answer = length answer.pivots < twice_sets (variable_count value lp)
 
--- with a limit of at least that many pivots an answer is no interrupted one
+-- with a limit of at least that many pivots an answer is not interrupted
 abbrev pub ComesToEnd : {F : Type 0} → (F → Number) → Lp F → ℕ → Answer F → Type 0
 ComesToEnd value lp iterlim answer = twice_sets (variable_count value lp) ≤ iterlim → ¬ (IsInterrupted answer.end)
 
--- twice the sets of so many variables, where that is below 2 to the 64
+-- twice 2^n for n variables, if that is below 2^64
 abbrev pub bound_of : ℕ → Option ℕ
 bound_of variables = if nat_lt (twice_sets variables) (2 ^ 64) then Some (twice_sets variables) else None

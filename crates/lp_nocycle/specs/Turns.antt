@@ -1,4 +1,5 @@
--- How many pivots there are at most by a choice that turns to Bland's rule (Chvatal, Linear Programming, chapter 3).
+-- The greatest number of pivots by a choice that turns to Bland's rule (Chvatal, Linear
+-- Programming, chapter 3).
 use Rattle.std.specs.Prelude.{ℕ, ◌+◌, ◌*◌, ◌<◌, ◌≤◌, List, length}
 use Rattle.gq_number.specs.Number.{Number}
 use Rattle.lp_core.specs.declared.answer.Pivot.{Pivot}
@@ -10,17 +11,18 @@ use Rattle.lp_core.specs.Pivots.{IsChosen}
 use Rattle.lp_core.specs.LargestCoefficient.{HasTurned}
 use Rattle.lp_nocycle.specs.PivotCount.{twice_sets, variable_count, IsInterrupted}
 
--- a choice of the variable that enters which turns to Bland's rule: where the turn has come, the variable is Bland's
+-- a choice of the entering variable that turns to Bland's rule: after the turn, the variable is
+-- Bland's
 abbrev pub TurnsToBland : (Dictionary → List Pivot → Dictionary → ℕ → Type 0) → Type 0
 TurnsToBland choice =
     (first : Dictionary) (pivots : List Pivot) (d : Dictionary) (q : ℕ) → choice first pivots d q → HasTurned first pivots d → IsChosen Bland d q
 
--- twice the sets of so many variables, once for each number of pivots on end that gain nothing before the turn, from 0 to one less
--- than the variables, and once for the turn
+-- twice the number of sets of n variables, times n + 1: once for each count of successive pivots
+-- without gain before the turn, from 0 to n - 1, and once after the turn
 abbrev pub pivots_by_turn : ℕ → ℕ
 pivots_by_turn variables = twice_sets variables * (variables + 1)
 
--- an answer has fewer pivots than that number for the program's variables
+-- an answer has fewer pivots than `pivots_by_turn` of the program's variables
 abbrev pub HasFewPivotsByTurn : {F : Type 0} → (F → Number) → Lp F → Answer F → Type 0
 HasFewPivotsByTurn value lp answer = length answer.pivots < pivots_by_turn (variable_count value lp)
 

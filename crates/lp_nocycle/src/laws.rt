@@ -1,4 +1,4 @@
-//! That Bland's rule ends, and each rule that turns to it: laws on functions with empty bodies.
+//! Bland's rule ends, and each rule that turns to it: laws on functions with empty bodies.
 ghost use Rattle.std.specs.Prelude.{ℕ, List};
 ghost use Rattle.lp_core.specs.declared.answer.Answer.{Answer};
 ghost use Rattle.lp_core.specs.declared.answer.Pivot.{Pivot};
@@ -14,15 +14,16 @@ ghost use Rattle.lp_nocycle.specs.Turns.{TurnsToBland, HasFewPivotsByTurn, Comes
 
 use gq_field::ExactField;
 
-/// Legal pivots lead to some dictionary of a program, whatever rule chose them. From there on no two dictionaries of one phase
-/// that Bland's pivots reach have the same basic variables: Bland, "New finite pivoting rules for the simplex method"; Chvatal,
-/// Linear Programming, chapter 3.
+/// Legal pivots lead to some dictionary of a program, whatever rule chose them. From there on no
+/// two dictionaries of one phase that Bland's pivots reach have the same basic variables: Bland,
+/// "New finite pivoting rules for the simplex method"; Chvatal, Linear Programming, chapter 3.
 pub fn no_basis_repeats<F: ExactField>()
     ensures none_repeats { NoneRepeats F.value }
 {}
 
-/// Each answer of a program under Bland's rule has fewer pivots than twice the sets of the variables of its standard form, slacks and
-/// variable 0 included, and with a limit of at least that many it is no interrupted one: Chvatal, Linear Programming, chapter 3.
+/// Each answer of a program under Bland's rule has fewer pivots than twice the number of sets of
+/// the variables of its standard form, slacks and variable 0 included. With a limit of at least
+/// that many it is not interrupted: Chvatal, Linear Programming, chapter 3.
 pub fn pivots_end<F: ExactField>()
     ensures few { (lp : Lp F) (limit iterlim : ℕ) (answer : Answer F) → IsWellFormed F.value lp →
         IsAnswer F.value limit lp iterlim Bland answer → HasFewPivots F.value lp answer }
@@ -30,18 +31,21 @@ pub fn pivots_end<F: ExactField>()
         IsAnswer F.value limit lp iterlim Bland answer → ComesToEnd F.value lp iterlim answer }
 {}
 
-/// A choice of the variable that enters which turns to Bland's rule after as many pivots without gain as there are variables.
+/// A choice of the entering variable that turns to Bland's rule after as many pivots without gain
+/// as there are variables.
 pub trait Turning {
-    /// Of a first dictionary, the pivots so far, the dictionary that they lead to and a variable: that this variable is chosen.
+    /// That a variable may be chosen, given the first dictionary, the pivots so far, and the
+    /// dictionary they lead to.
     ghost chooses: { Dictionary → List Pivot → Dictionary → ℕ → Type 0 };
 
-    /// Where the turn has come, what is chosen is Bland's.
+    /// After the turn, the chosen variable is Bland's.
     ghost turning: { TurnsToBland chooses };
 }
 
-/// A search ends by each choice that turns to Bland's rule. An answer of a program by such a choice has fewer pivots than twice the
-/// sets of the n variables of its standard form, slacks and variable 0 included, times n + 1, and with a limit of at least that many
-/// it is not interrupted: Chvatal, Linear Programming, chapter 3.
+/// A search ends by each choice that turns to Bland's rule. Let n be the number of variables of the
+/// standard form, slacks and variable 0 included. An answer by such a choice has fewer pivots than
+/// 2^n times 2(n + 1), and with a limit of at least that many it is not interrupted: Chvatal,
+/// Linear Programming, chapter 3.
 pub fn turns_end<F: ExactField, C: Turning>()
     ensures few { (lp : Lp F) (limit iterlim : ℕ) (answer : Answer F) → IsWellFormed F.value lp →
         IsAnswerByChoice F.value limit lp iterlim C.chooses answer → HasFewPivotsByTurn F.value lp answer }

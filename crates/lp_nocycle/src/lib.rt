@@ -1,5 +1,5 @@
-//! Floor 4, linear programs. No cycling: under Bland's rule no basis comes back, and so the pivots end, also where another rule
-//! turns to it.
+//! Layer 4, linear programs. No cycling: under Bland's rule no basis repeats. So the pivots end,
+//! also if another rule turns to it.
 #![tactic(auto)]
 
 mod laws;

@@ -5,7 +5,7 @@ use Rattle.std.proofs.lemmas.Bool.{cases_eq, cases_lt}
 use Rattle.gq_number.proofs.Whole.{nat_abs-*ℤ}
 use Rattle.lp_numbers.specs.Lines.{whole_at, AreWithin, HaveRoom, AreLessenedTo, AreDividedTo, AreNegatedTo, AreLessened, AreOver, AreNegated}
 
--- past the end stands 0
+-- past the end the number is 0
 pub whole_past : (numbers : List ℤ) (c : ℕ) → length numbers ≤ c → whole_at numbers c ≡ pos 0
 whole_past [] c past = refl
 whole_past (n ∷ numbers) zero past = absurd (omega arith)
@@ -20,7 +20,7 @@ read_within (n ∷ numbers) (suc c) default within = read_within numbers c defau
 difference_within : (u v : ℤ) → nat_abs (u -ℤ v) ≤ nat_abs u + nat_abs v
 difference_within u v = omega (arith, ints)
 
--- the steps on one number have room
+-- the steps on one number stay below 2^127
 pub record StepsHaveRoom (a b n x : ℤ) : Type 0 where
   pub first : nat_abs (a *ℤ n) < 2 ^ 127
   pub second : nat_abs (b *ℤ x) < 2 ^ 127

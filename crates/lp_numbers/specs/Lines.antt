@@ -1,24 +1,26 @@
--- Whole numbers in a list, and the changes that are made of them all.
+-- Integers in a list, and changes made to all of them.
 use Rattle.std.specs.Prelude.{◌≡◌, ◌≢◌, ℕ, ◌+◌, ◌*◌, ◌<◌, ◌≤◌, ℤ, pos, ◌-ℤ◌, ◌*ℤ◌, neg_ℤ, nat_abs, List, length, slice_get, slice_index_or, Some}
 use Rattle.std.specs.Int.{◌∣◌}
 
--- the whole number at a column; 0 past the end
+-- the integer at a column; 0 past the end
 abbrev pub whole_at : List ℤ → ℕ → ℤ
 whole_at numbers c = slice_index_or numbers c (pos 0)
 
--- no magnitude of these numbers is greater
+-- the magnitudes of these numbers are at most `most`
 abbrev pub AreWithin : List ℤ → ℕ → Type 0
 AreWithin numbers most = (c : ℕ) → nat_abs (whole_at numbers c) ≤ most
 
--- each of these numbers can be divided
+-- a divisor divides each of these numbers
 abbrev pub AreDivided : List ℤ → ℕ → Type 0
 AreDivided numbers divisor = (c : ℕ) → divisor ∣ nat_abs (whole_at numbers c)
 
--- There is room below a magnitude for these numbers times a less the others times b, and for each step on the way.
+-- Each number times a, less the other times b, stays within a magnitude, and so does each product
+-- on the way.
 abbrev pub HaveRoom : ℕ → ℤ → ℤ → List ℤ → List ℤ → Type 0
 HaveRoom most a b numbers others = (c : ℕ) → nat_abs a * nat_abs (whole_at numbers c) + nat_abs b * nat_abs (whole_at others c) ≤ most
 
--- The numbers of the columns below n are lessened, those of the others are as before; no lessened one has a greater magnitude.
+-- The numbers of the columns below n have become a times themselves less b times the others'; the
+-- rest is unchanged. None of those has a magnitude above `most`, which is no larger than needed.
 pub record AreLessenedTo (a b : ℤ) (before others after : List ℤ) (n most : ℕ) : Type 0 where
   pub sized : length after ≡ length before
   pub done : (c : ℕ) → c < n → whole_at after c ≡ a *ℤ whole_at before c -ℤ b *ℤ whole_at others c
@@ -38,15 +40,15 @@ pub record AreNegatedTo (before after : List ℤ) (n : ℕ) : Type 0 where
   pub done : (c : ℕ) → c < n → whole_at after c ≡ neg_ℤ (whole_at before c)
   pub left : (c : ℕ) → n ≤ c → whole_at after c ≡ whole_at before c
 
--- Numbers are those of a list times a, less those of another times b. No magnitude of them passes `most`, and where there was room
--- below a magnitude `most` does not pass it.
+-- Numbers are a times those of a list less b times those of another. None has a magnitude above
+-- `most`, and `most` is at most any bound that all steps stay within.
 pub record AreLessened (a b : ℤ) (before others after : List ℤ) (most : ℕ) : Type 0 where
   pub sized : length after ≡ length before
   pub numbers : (c : ℕ) → c < length before → whole_at after c ≡ a *ℤ whole_at before c -ℤ b *ℤ whole_at others c
   pub within : AreWithin after most
   pub small : (m : ℕ) → HaveRoom m a b before others → most ≤ m
 
--- Numbers are those of a list, each over a divisor of them all.
+-- Numbers are those of a list, each divided by a common divisor.
 pub record AreOver (divisor : ℕ) (before after : List ℤ) : Type 0 where
   pub sized : length after ≡ length before
   pub numbers : (c : ℕ) → whole_at after c *ℤ pos divisor ≡ whole_at before c
@@ -56,13 +58,14 @@ pub record AreNegated (before after : List ℤ) : Type 0 where
   pub sized : length after ≡ length before
   pub numbers : (c : ℕ) → whole_at after c ≡ neg_ℤ (whole_at before c)
 
--- Places are those below n at which a list has a number other than 0, each once.
+-- The distinct places below n at which a list has a number other than 0.
 pub record ArePlaces (numbers : List ℤ) (n : ℕ) (places : List ℕ) : Type 0 where
   pub some : (i c : ℕ) → slice_get places i ≡ Some c → (c < n) × (whole_at numbers c ≢ pos 0)
   pub apart : (i j c : ℕ) → slice_get places i ≡ Some c → slice_get places j ≡ Some c → i ≡ j
   pub all : (c : ℕ) → c < n → whole_at numbers c ≢ pos 0 → (i : ℕ) × (slice_get places i ≡ Some c)
 
--- The numbers at the first n places are lessened by b times the others', the rest is as before; none has a greater magnitude.
+-- The numbers at the first n places have lost b times the others'; the rest is unchanged. No number
+-- has a magnitude above `most`.
 pub record AreLessenedAt (b : ℤ) (before others after : List ℤ) (places : List ℕ) (n least most : ℕ) : Type 0 where
   pub sized : length after ≡ length before
   pub done : (i c : ℕ) → i < n → slice_get places i ≡ Some c → whole_at after c ≡ pos 1 *ℤ whole_at before c -ℤ b *ℤ whole_at others c
@@ -71,8 +74,8 @@ pub record AreLessenedAt (b : ℤ) (before others after : List ℤ) (places : Li
   pub grown : least ≤ most
   pub small : (m : ℕ) → HaveRoom m (pos 1) b before others → least ≤ m → most ≤ m
 
--- Numbers are those of a list, less those of another times b. No magnitude of them passes `most`, and where there was room below a
--- magnitude that is at least `least`, `most` does not pass it.
+-- Numbers are those of a list less b times those of another. None has a magnitude above `most`, and
+-- `most` is at most any bound from `least` up that all steps stay within.
 pub record AreLessenedFrom (least : ℕ) (b : ℤ) (before others after : List ℤ) (most : ℕ) : Type 0 where
   pub sized : length after ≡ length before
   pub numbers : (c : ℕ) → c < length before → whole_at after c ≡ pos 1 *ℤ whole_at before c -ℤ b *ℤ whole_at others c

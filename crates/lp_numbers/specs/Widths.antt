@@ -1,10 +1,10 @@
--- Whole numbers as callers see them, and the two ways in which they are kept.
+-- Integers as callers view them, and the two ways in which they are stored.
 use Rattle.std.specs.Prelude.{◌-◌, ◌^◌, ℤ, List}
 use Rattle.lp_numbers.specs.declared.kept.Kept.{Kept}
 use Rattle.lp_numbers.specs.declared.kept.Kept.TheVariants as kept
 use Rattle.lp_numbers.specs.Lines.{AreWithin}
 
--- the numbers that are kept so
+-- the stored numbers
 abbrev pub listed : Kept → List ℤ
 listed (kept.Narrow list) = list.items
 listed (kept.Wide list) = list.items

@@ -1,6 +1,6 @@
-//! The two ways in which the whole numbers of a line are kept.
+//! The two ways in which the integers of a row are stored.
 
-/// How whole numbers are kept.
+/// How integers are stored.
 #[derive(Drop)]
 pub(crate) enum Kept {
     /// In one word each; their magnitudes have at most 63 bits.

@@ -1,4 +1,5 @@
-//! Floor 4, linear programs. The whole numbers of a line: of one word each while they are small, of two where they are not.
+//! Layer 4, linear programs. The integers of a row: of one word each while they are small, else of
+//! two.
 #![tactic(auto)]
 
 mod common;

@@ -1,4 +1,4 @@
-//! The loops over whole numbers of one word each.
+//! The loops over integers of one word each.
 ghost use Rattle.std.specs.Prelude.{◌≡◌, ◌⊎◌, ℕ, ◌+◌, ◌*◌, ◌<◌, ◌≤◌, ◌^◌, ◌-◌, pos, ◌-ℤ◌, ◌*ℤ◌, neg_ℤ, nat_abs, length, IfOk};
 ghost use Rattle.std.specs.Int.{◌∣◌};
 ghost use Rattle.lp_numbers.specs.Lines.{whole_at, AreWithin, AreDivided, HaveRoom, AreLessened, ArePlaces, AreLessenedFrom, AreOver, AreNegated};
@@ -34,14 +34,14 @@ fn greater(most: u64, n: i64) -> u64
     if magnitude > most { magnitude } else { most }
 }
 
-/// The capacity of a list of so many words: lists of one length then lie an odd number of a cache's lines apart, and the
-/// numbers at one place of many lists are spread over the cache.
+/// The capacity of a list of `len` words. Lists of one length then lie an odd number of cache lines
+/// apart, which spreads the numbers at one place of many lists over the cache.
 pub(crate) fn spread(len: usize) -> usize {
     let lines = (len / 8).saturating_add(2) | 1;
     lines.saturating_mul(8).saturating_sub(2)
 }
 
-/// The same numbers in a list of their own. The error is out of memory.
+/// A copy of the numbers. The error is out of memory.
 pub(crate) fn copied(alloc: Global, numbers: &[i64]) -> Result<Vec<i64>, AllocError>
     ensures { IfOk result (λ list. list.items ≡ numbers.now) }
 {
@@ -60,7 +60,7 @@ pub fn zero_words(alloc: Global, count: usize) -> Result<Vec<i64>, AllocError>
     Ok(list)
 }
 
-/// The greatest magnitude of the numbers; 0 where there is none.
+/// The greatest magnitude of the numbers; 0 without numbers.
 pub(crate) fn greatest(numbers: &[i64]) -> u64
     ensures within { AreWithin numbers.now result }
     ensures small { (m : ℕ) → AreWithin numbers.now m → result ≤ m }
@@ -72,7 +72,8 @@ pub(crate) fn greatest(numbers: &[i64]) -> u64
     most
 }
 
-/// Turns each number into `a` times it less `b` times the other list's; answers a magnitude that none of them passes.
+/// Turns each number into `a` times it less `b` times the other list's; answers a bound of the
+/// magnitudes of the results.
 pub(crate) fn lessen(numbers: &mut [i64], a: i64, b: i64, others: &[i64]) -> u64
     requires sized { length others.now ≡ length numbers.old }
     requires room { HaveRoom (2 ^ 63 - 1) a b numbers.old others.now }
@@ -89,8 +90,8 @@ pub(crate) fn lessen(numbers: &mut [i64], a: i64, b: i64, others: &[i64]) -> u64
     most
 }
 
-/// Takes from each number `b` times the other list's, where the places are those at which that has a number other than 0; answers a
-/// magnitude that is at least `least` and that none of them passes.
+/// Subtracts `b` times the other list's number from each number, at the places where the other is
+/// not 0. Answers a bound of the magnitudes of all numbers, which is at least `least`.
 pub(crate) fn lessen_at(
     numbers: &mut [i64],
     b: i64,
@@ -115,7 +116,7 @@ pub(crate) fn lessen_at(
     most
 }
 
-/// The greatest divisor of each number and of a denominator.
+/// The greatest common divisor of all numbers and a denominator.
 pub(crate) fn divisor_of(numbers: &[i64], denominator: u64) -> u64
     requires { 0 < denominator }
     ensures positive { 0 < result }
@@ -133,7 +134,7 @@ pub(crate) fn divisor_of(numbers: &[i64], denominator: u64) -> u64
     divisor
 }
 
-/// A number over a divisor of it. 0 is not divided: most numbers of a line are.
+/// A number divided by a divisor of it. 0 is not divided: most numbers of a row are 0.
 #[inline(always)]
 fn quotient(n: i64, divisor: u64) -> i64
     requires positive { 0 < divisor }
@@ -147,7 +148,7 @@ fn quotient(n: i64, divisor: u64) -> i64
     n / divisor as i64
 }
 
-/// Divides each number by a divisor of them all.
+/// Divides each number by a common divisor.
 pub(crate) fn divide(numbers: &mut [i64], divisor: u64)
     requires positive { 0 < divisor }
     requires small { divisor < 2 ^ 63 }

@@ -1,4 +1,4 @@
-//! Whole numbers in a list, of one word each or of two.
+//! Integers in a list, of one word each or of two.
 ghost use Rattle.std.specs.Prelude.{◌≡◌, ℕ, ◌+◌, ◌*◌, ◌<◌, ◌≤◌, ◌^◌, ◌-◌, ◌-ℤ◌, ◌*ℤ◌, [], pos, nat_abs, length, slice_set, true, false, IfOk, MatchOption};
 ghost use Rattle.std.specs.Int.{◌∣◌};
 ghost use Rattle.lp_numbers.specs.Lines.{whole_at, AreWithin, AreDivided, HaveRoom, AreLessened, ArePlaces, AreLessenedFrom, AreOver, AreNegated};
@@ -13,7 +13,8 @@ use std::marker::Model;
 /// The least magnitude that does not fit in one word with a sign.
 const HALF: u128 = 1 << 63;
 
-/// Whole numbers in a list. They take one word each while all are small, and two where they are not; no answer tells which.
+/// Integers in a list. They take one word each while all are small, else two; no result depends on
+/// which.
 #[derive(Drop)]
 pub struct Numbers {
     kept: Kept,
@@ -30,7 +31,7 @@ impl Model for Numbers {
     ghost invariant = { λ n. AreKept n.kept };
 }
 
-/// Numbers in one word each, where all are small; else as they are. The error is want of memory.
+/// Numbers in one word each if all are small; else in two. The only error is out of memory.
 fn kept_of(alloc: Global, numbers: Vec<i128>) -> Result<Kept, AllocError>
     ensures { IfOk result (λ kept. (listed kept ≡ numbers.items) × AreKept kept) }
 {
@@ -51,7 +52,7 @@ impl Numbers {
         }
     }
 
-    /// These numbers, none of which passes a magnitude. The error is want of memory.
+    /// These numbers, whose magnitudes are at most `most`. The only error is out of memory.
     pub fn of(alloc: Global, numbers: Vec<i128>, most: u128) -> Result<Numbers, AllocError>
         requires { AreWithin numbers.items most }
         ensures { IfOk result (λ list. list ≡ numbers.items) }
@@ -77,7 +78,7 @@ impl Numbers {
         }
     }
 
-    /// The greatest magnitude of the numbers; 0 where there is none.
+    /// The greatest magnitude of the numbers; 0 without numbers.
     pub fn greatest(&self) -> u128
         ensures within { AreWithin self.now result }
         ensures small { (m : ℕ) → AreWithin self.now m → result ≤ m }
@@ -88,7 +89,7 @@ impl Numbers {
         }
     }
 
-    /// The same numbers in a list of their own. The error is out of memory.
+    /// A copy of the numbers. The error is out of memory.
     pub fn copy(&self, alloc: Global) -> Result<Numbers, AllocError>
         ensures { IfOk result (λ list. list ≡ self.now) }
     {
@@ -130,7 +131,8 @@ impl Numbers {
         }
     }
 
-    /// The number of the other list at a place times that of this one at a second place, less the same with the places exchanged.
+    /// The other list's number at `zero` times this list's at `place`, less the product with the
+    /// places exchanged.
     #[inline(always)]
     pub fn cross_at(&self, others: &Numbers, zero: usize, place: usize) -> i128
         requires sized { length others.now ≡ length self.now }
@@ -152,7 +154,7 @@ impl Numbers {
         )
     }
 
-    /// The places at which there is a number other than 0, each once. The error is want of memory.
+    /// The distinct places of the numbers other than 0. The only error is out of memory.
     pub fn places(&self, alloc: Global) -> Result<Vec<usize>, AllocError>
         ensures { IfOk result (λ places. ArePlaces self.now (length self.now) places.items) }
     {
@@ -165,7 +167,7 @@ impl Numbers {
         Ok(places)
     }
 
-    /// The same numbers in two words each. The error is want of memory.
+    /// The same numbers in two words each. The only error is out of memory.
     fn copied(&self, alloc: Global) -> Result<Vec<i128>, AllocError>
         ensures { IfOk result (λ list. list.items ≡ self.now) }
     {
@@ -175,8 +177,8 @@ impl Numbers {
         }
     }
 
-    /// Turns each number into `a` times it less `b` times the other's where both lists have one word for each; else the numbers
-    /// stay.
+    /// Turns each number into `a` times it less `b` times the other's, if both lists have one word
+    /// for each; else the numbers stay.
     fn lessen_narrow(&mut self, a: i64, b: i64, others: &Numbers) -> Option<u64>
         requires sized { length others.now ≡ length self.old }
         requires room { HaveRoom (2 ^ 63 - 1) a b self.old others.now }
@@ -194,7 +196,8 @@ impl Numbers {
         }
     }
 
-    /// Turns each number into `a` times it less `b` times the other's, by two words for each. The error is want of memory.
+    /// Turns each number into `a` times it less `b` times the other's, by two words for each. The
+    /// only error is out of memory.
     fn lessen_wide(
         &mut self,
         alloc: Global,
@@ -213,8 +216,9 @@ impl Numbers {
         Ok(most)
     }
 
-    /// Turns each number into `a` times it less `b` times the other's, where none of them and no product on the way passes a
-    /// magnitude; answers a magnitude that none of them passes. The error is want of memory.
+    /// Turns each number into `a` times it less `b` times the other's. No result and no product may
+    /// exceed a given bound. Answers a bound of the magnitudes of the results. The only error is
+    /// out of memory.
     pub fn lessen(
         &mut self,
         alloc: Global,
@@ -236,8 +240,8 @@ impl Numbers {
         self.lessen_wide(alloc, a, b, others)
     }
 
-    /// Takes from each number `b` times the other's at the places of the other's numbers, where both lists have one word for each;
-    /// else the numbers stay.
+    /// Subtracts `b` times the other's number from each number at the places of the other's
+    /// numbers, if both lists have one word for each; else the numbers stay.
     fn lessen_narrow_at(
         &mut self,
         b: i64,
@@ -270,9 +274,9 @@ impl Numbers {
         }
     }
 
-    /// Takes from each number `b` times the other's, where it is quick to go by the places at which the other has a number that is
-    /// not 0, and where no number passes `room`; answers a magnitude that none of them passes and that is at least `least`, as all
-    /// were before. Else the numbers stay.
+    /// Subtracts `b` times the other's number from each number, if only the places where the other
+    /// is not 0 have to be visited and no number exceeds `room`. Answers a bound of the magnitudes,
+    /// at least `least`, which bounded the numbers before. Else the numbers stay.
     pub fn lessen_at(
         &mut self,
         b: i128,
@@ -295,7 +299,7 @@ impl Numbers {
         None
     }
 
-    /// The greatest divisor of each number and of a denominator, number by number.
+    /// The greatest common divisor of all numbers and a denominator, number by number.
     fn divisor_of_any(&self, denominator: u128) -> u128
         requires { 0 < denominator }
         ensures positive { 0 < result }
@@ -313,7 +317,7 @@ impl Numbers {
         divisor
     }
 
-    /// The greatest divisor of each number and of a denominator.
+    /// The greatest common divisor of all numbers and a denominator.
     pub fn divisor_of(&self, denominator: u128) -> u128
         requires { 0 < denominator }
         ensures positive { 0 < result }
@@ -330,8 +334,8 @@ impl Numbers {
         }
     }
 
-    /// Divides each number by a divisor of them all where there is one word for each; else the numbers stay, and the answer is
-    /// `false`.
+    /// Divides each number by a common divisor if there is one word for each; else the numbers
+    /// stay, and the answer is `false`.
     fn divide_narrow(&mut self, divisor: u64) -> bool
         requires positive { 0 < divisor }
         requires small { divisor < 2 ^ 63 }
@@ -348,7 +352,7 @@ impl Numbers {
         }
     }
 
-    /// Divides each number by a divisor of them all. The error is want of memory.
+    /// Divides each number by a common divisor. The only error is out of memory.
     pub fn divide(&mut self, alloc: Global, divisor: u128) -> Result<(), AllocError>
         requires positive { 0 < divisor }
         requires small { divisor < 2 ^ 127 }

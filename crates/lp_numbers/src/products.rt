@@ -3,7 +3,7 @@ ghost use Rattle.std.specs.Prelude.{◌≡◌, ◌+◌, ◌*◌, ◌<◌, ◌≤
 
 use crate::common::WORD;
 
-/// The product of two magnitudes; none where that is above the bound.
+/// The product of two magnitudes; none if it is above the bound.
 #[inline(always)]
 pub fn product_within(bound: u128, a: u128, b: u128) -> Option<u128>
     ensures { MatchOption result (bound < a * b) (λ m. (m ≡ a * b) × (m ≤ bound)) }
@@ -19,7 +19,7 @@ pub fn product_within(bound: u128, a: u128, b: u128) -> Option<u128>
     }
 }
 
-/// The sum of two products of magnitudes; none where that is above the bound.
+/// The sum of two products of magnitudes; none if it is above the bound.
 #[inline(always)]
 pub fn sum_within(bound: u128, a: u128, m: u128, b: u128, n: u128) -> Option<u128>
     requires { bound < 2 ^ 127 }

@@ -1,4 +1,4 @@
-//! The loops over whole numbers of two words each.
+//! The loops over integers of two words each.
 ghost use Rattle.std.specs.Prelude.{◌≡◌, ◌⊎◌, ℕ, ◌+◌, ◌*◌, ◌<◌, ◌≤◌, ◌^◌, ◌-◌, pos, ◌-ℤ◌, ◌*ℤ◌, neg_ℤ, nat_abs, length, IfOk};
 ghost use Rattle.std.specs.Int.{◌∣◌};
 ghost use Rattle.lp_numbers.specs.Lines.{whole_at, AreWithin, AreDivided, HaveRoom, AreLessened, AreOver, AreNegated};
@@ -45,7 +45,8 @@ fn greater(most: u128, n: i128) -> u128
     if magnitude > most { magnitude } else { most }
 }
 
-/// Turns each number into `a` times it less `b` times the other list's; answers a magnitude that none of them passes.
+/// Turns each number into `a` times it less `b` times the other list's; answers a bound of the
+/// magnitudes of the results.
 pub(crate) fn lessen(numbers: &mut [i128], a: i128, b: i128, others: &[i128]) -> u128
     requires sized { length others.now ≡ length numbers.old }
     requires room { HaveRoom (2 ^ 127 - 1) a b numbers.old others.now }
@@ -62,7 +63,7 @@ pub(crate) fn lessen(numbers: &mut [i128], a: i128, b: i128, others: &[i128]) ->
     most
 }
 
-/// Divides each number by a divisor of them all.
+/// Divides each number by a common divisor.
 pub(crate) fn divide(numbers: &mut [i128], divisor: u128)
     requires positive { 0 < divisor }
     requires small { divisor < 2 ^ 127 }
@@ -86,7 +87,7 @@ pub(crate) fn negate(numbers: &mut [i128])
     }
 }
 
-/// A magnitude that no number passes, nor this one: the greatest of them.
+/// The greatest magnitude of the numbers, and at least `least`.
 pub fn greatest(numbers: &[i128], least: u128) -> u128
     ensures within { AreWithin numbers.now result }
     ensures above { least ≤ result }

@@ -1,4 +1,5 @@
--- Where a cost is in its range there are duals of which the bound, with that cost, is what the costs come to at the listed levels.
+-- If a cost is within its range, there are duals whose bound for that cost equals the cost of the
+-- listed levels.
 use Rattle.std.proofs.Common.{◌≡◌, ℕ, zero, suc, ◌+◌, ◌-◌, ◌<◌, ◌≤◌, Bool, true, false, not, cond, inl, inr, pos, List, [], ◌∷◌, length, map, filter, get_or, Option, Some, None, refl, sym, ap, ap₂, ◌∙◌, subst, arith}
 use Rattle.std.specs.Prelude.{slice_get, option_map, is_some, Contains}
 use Rattle.std.specs.List.{All, zip, enumerate_from, range_with_len}
@@ -140,7 +141,7 @@ prices_apart lp j cost k =
     nothing a = simp ring_ℚ
 
 module _ {F : Type 0} (lp : Lp F) (j : ℕ) (inside : j < length lp.columns) (cost : Number) (x : List Number) (there : lp.objective < length lp.columns) where
-  -- they come to the objective, and the move times the column's value
+  -- the moved costs at the point: the objective, plus the move times the column's value
   prices_at : cost_at lp (costs_with lp j cost) x ≡ number_of x lp.objective +ℚ (cost -ℚ objective_costs lp j) *ℚ number_of x j
   prices_at =
       sum_by_same (λ (q : ℕ × Column F). costs_with lp j cost q.0 *ℚ number_of x q.0) (λ (q : ℕ × Column F). objective_costs lp q.0 *ℚ number_of x q.0 +ℚ unit_at j (cost -ℚ objective_costs lp j) q.0 *ℚ number_of x q.0) (enumerate_from 0 lp.columns)
@@ -247,7 +248,7 @@ module _ {F : Type 0} (value : F → Number) (limit : ℕ) (lp : Lp F) (formed :
   prices_here : (x : List Number) → cost_at lp (costs_with lp j cost) x ≡ number_of x lp.objective +ℚ move *ℚ number_of x j
   prices_here x = prices_at lp j inside cost x formed.objective
 
-  -- the target is what the costs come to at the point
+  -- the target is the value of the costs at the point
   aim : (y : List Number) → directed lp.maximize (target y) ≡ cost_at lp (costs_with lp j cost) (point_of s y)
   aim y =
       let x = point_of s y in
@@ -296,7 +297,7 @@ module _ {F : Type 0} (value : F → Number) (limit : ℕ) (lp : Lp F) (formed :
     feasible : Feasible value lp levels
     feasible = point_feasible value lp formed ordered d is nothing.0 second
 
-    -- what the costs come to at the levels
+    -- the value of the costs at the levels
     level_is : directed lp.maximize (cost_at lp (costs_with lp j cost) levels) ≡ neg_ℚ start
     level_is =
         let values = (last_of e).values in

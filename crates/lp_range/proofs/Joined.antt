@@ -1,4 +1,5 @@
--- The ranges of a solved program: what is read at the last dictionary, and what each interval proves.
+-- The ranges of a solved program: what is read at the final dictionary, and what each interval
+-- proves.
 use Rattle.std.proofs.Common.{◌≡◌, ℕ, List, [], length, map, Some, sym, ap, ◌∙◌, subst}
 use Rattle.std.specs.Prelude.{slice_get, Option}
 use Rattle.gq_number.specs.Number.{Number}

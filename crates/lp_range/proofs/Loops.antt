@@ -1,4 +1,4 @@
--- The walks of the code: gain by gain, row by row, column by column, pivot by pivot.
+-- The loops of the code: gain by gain, row by row, column by column, pivot by pivot.
 use Rattle.std.proofs.Common.{◌≡◌, ◌≢◌, ℕ, suc, ◌+◌, ◌-◌, ◌<◌, ◌≤◌, ◌&&◌, Bool, true, false, not, cond, inl, inr, pos, List, [], ◌∷◌, ◌++◌, length, map, filter, drop, get_or, Option, Some, None, refl, sym, ap, ap₂, ◌∙◌, subst, arith, append_assoc}
 use Rattle.std.specs.Prelude.{slice_get, Contains, IsTrue, is_some, sum_by, ◌↔◌}
 use Rattle.std.specs.List.{range_with_len}
@@ -73,7 +73,7 @@ module _ {F : Type 0} (value : F → Number) (limit : ℕ) (x : Number) (moves :
   end_stops amount each found amount_is misfit =
       span_stops limit x (bound_value value moves.low) (bound_value value moves.high) g gains (subst (λ (k : Gain). gain_fits limit k ≡ false) (same_gain (value amount) (value each) amount_is found.0 found.1) misfit)
 
--- the walk begins with no ends
+-- the loop begins with no ends
 pub walk_begins : {F : Type 0} (value : F → Number) (limit : ℕ) (x : Number) (moves : Interval F) (gains rest : List Gain) → moves.low ≡ None → moves.high ≡ None → rest ≡ gains → span limit x gains ≡ span_from limit x (bound_value value moves.low) (bound_value value moves.high) rest
 walk_begins value limit x moves gains rest low high same =
     sym (ap₂ (λ lo hi. span_from limit x (bound_value value lo) (bound_value value hi) rest) low high ∙ ap (λ gs. span limit x gs) same)
@@ -155,7 +155,7 @@ module _ {F : Type 0} (value : F → Number) (limit : ℕ) (d : Dictionary) (row
 pub spans_end : {F : Type 0} (value : F → Number) (limit : ℕ) (d : Dictionary) (rows : List (Row F)) (i v : ℕ) (made : List (Option (Interval F))) → length rows ≤ i → map (span_value value) made ≡ map (span_value value) made ++ right_spans limit d value v (drop i rows)
 spans_end value limit d rows i v made end = sym (append-nil (map (span_value value) made)) ∙ sym (ap (λ xs. map (span_value value) made ++ right_spans limit d value v xs) (drop_all i rows end))
 
--- the first slack, and that there is room for the others
+-- the first slack, and that the others stay within the variables
 module _ {F : Type 0} (value : F → Number) (lp : Lp F) (formed : IsWellFormed value lp) (d : Dictionary) (is : IsDictionaryOf (form.standard_form value lp) d) where
   pub first_slack : (n m : ℕ) → n ≡ d.variables → m ≡ length d.basic → n - m + 1 ≡ form.variables_of value lp + 1
   first_slack n m variables rows = omega (arith, variables, rows, is.variables, is.sized, count_is value lp formed)

@@ -1,4 +1,5 @@
--- A dictionary of which the constants are moved is one of the standard form of which the right sides are moved.
+-- A dictionary with moved constants is a dictionary of the standard form with the right sides so
+-- moved.
 use Rattle.std.proofs.Common.{◌≡◌, ℕ, zero, suc, ◌+◌, ◌<◌, ◌≤◌, inl, inr, pos, List, [], ◌∷◌, length, map, Option, Some, None, refl, sym, ap, ap₂, ◌∙◌, subst, arith}
 use mathlib.Core.Path.{fun_ext}
 use Rattle.std.specs.Prelude.{slice_index_or}
@@ -22,8 +23,8 @@ use Rattle.lp_std.proofs.Lasts.{listed_at}
 use Rattle.lp_std.proofs.First.{Within, first_row_at, first_last_at}
 use Rattle.lp_exact.proofs.Kept.{contains_get}
 
--- Two standard forms of which the second has each right side moved by what the push has at the row's slack, and all else the
--- same; at the other variables there is no push.
+-- Two standard forms. The second has each right side moved by the push at the row's slack, and is
+-- equal elsewhere; at the other variables the push is 0.
 pub record IsMovedForm (push : ℕ → Number) (s t : form.Standard) : Type 0 where
   pub objective : t.objective ≡ s.objective
   pub constant : t.constant ≡ s.constant

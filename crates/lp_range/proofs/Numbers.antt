@@ -1,4 +1,5 @@
--- A program of the numbers that values mean, and one of which a right side is exchanged, are well formed where the program is.
+-- A program of the numbers that values mean, and one with a replaced right side, are well formed if
+-- the program is.
 use Rattle.std.proofs.Common.{◌≡◌, ◌≢◌, ℕ, zero, suc, ◌+◌, ◌<◌, pos, List, [], ◌∷◌, length, map, Option, Some, None, refl, sym, ap, ◌∙◌, subst, arith}
 use Rattle.std.specs.Prelude.{slice_index_or, sum_by}
 use Rattle.std.specs.List.{All, AllPairs}

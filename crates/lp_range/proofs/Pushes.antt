@@ -28,7 +28,8 @@ use Rattle.lp_range.specs.Moved.{itself, rows_with_right, with_right}
 use Rattle.lp_range.specs.Ranges.{right_gain}
 use Rattle.lp_range.proofs.Moves.{IsMovedForm, gained}
 
--- what each variable's value is moved by, where the right side of a row of this sense with the first slack v moves by t
+-- the move of each variable's value when the right side of a row of this sense, whose first slack
+-- is v, moves by t
 abbrev pub push_of : Sense → ℕ → Number → ℕ → Number
 push_of sense.E v t w = unit_at v t w +ℚ unit_at (v + 1) (neg_ℚ t) w
 push_of sense.L v t w = unit_at v t w

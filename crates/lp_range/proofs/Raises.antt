@@ -1,4 +1,5 @@
--- A dictionary of which the objective gains a multiple of a column is one of the standard form of which the objective does.
+-- A dictionary whose objective gains a multiple of a column is a dictionary of the standard form
+-- whose objective does.
 use Rattle.std.proofs.Common.{◌≡◌, ℕ, zero, suc, ◌+◌, ◌<◌, ◌≤◌, ◌==◌, true, cond, inl, inr, pos, List, [], ◌∷◌, length, map, Option, Some, None, refl, sym, ap, ap₂, ◌∙◌, subst, arith}
 use mathlib.Core.Path.{fun_ext}
 use Rattle.std.specs.Prelude.{slice_index_or, if◌then◌else◌}
@@ -163,7 +164,7 @@ module _ (d : Dictionary) where
     raised_last zero = constant_at d (length d.basic) +ℚ t *ℚ column_constant c
     raised_last (suc w) = d.numbers (length d.basic) (suc w) +ℚ t *ℚ column_entry c w
 
-    -- the dictionary of which the objective gains so many times the column
+    -- the dictionary whose objective gains t times the column
     abbrev pub raised : Dictionary
     raised =
         record {
@@ -211,7 +212,7 @@ module _ (d : Dictionary) where
     )
 
     module _ (s : form.Standard) (is : IsDictionaryOf s d) (second : ¬ (InPhaseOne d)) (not_due : ¬ (OpeningIsDue d)) (low : 1 ≤ c.0) (high : c.0 + width c.1 ≤ 1 + length s.objective) (within : All (λ (row : form.StandardRow). Within (length s.objective) row.entries) s.rows) where
-      -- the standard form of which the objective gains so many times the column's variables
+      -- the standard form whose objective gains t times the column's variables
       abbrev pub raised_form : form.Standard
       raised_form = record s { objective = summed s.objective (objective_of (length s.objective) (spread c.0 c.1 t)) }
 

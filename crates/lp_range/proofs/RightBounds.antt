@@ -1,4 +1,5 @@
--- Where a right side is in its range, the listed duals are the bound of a feasible point of the program with that right side.
+-- If a right side is within its range, the listed duals give the bound that a feasible point of the
+-- program with that right side attains.
 use Rattle.std.proofs.Common.{◌≡◌, ℕ, zero, suc, ◌+◌, ◌<◌, ◌≤◌, pos, List, [], ◌∷◌, length, map, get_or, Option, Some, refl, sym, ap, ◌∙◌, subst, arith}
 use Rattle.std.specs.Prelude.{slice_get, option_map}
 use Rattle.std.specs.List.{All, range_with_len}

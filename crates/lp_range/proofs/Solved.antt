@@ -1,4 +1,4 @@
--- What is known of the last dictionary of an optimum.
+-- What is known of the final dictionary of an optimum.
 use Rattle.std.proofs.Common.{◌≡◌, ℕ, ◌+◌, inl, inr, List, [], ◌∷◌, ◌++◌, length, map, refl, sym, subst, arith}
 use Rattle.std.specs.List.{All}
 use Rattle.gq_number.specs.Number.{Number}
@@ -31,7 +31,8 @@ leads_legal rule limit n done d (p ∷ pivots) last leads =
     ((leads.0.0, legal_of rule d p leads.0.0 leads.0.1, rest.0), (leads.1.0, leads.1.1, rest.1))
 
 module _ {F : Type 0} (value : F → Number) (limit : ℕ) (lp : Lp F) where
-  -- A program is solved: pivots lead to a last dictionary at which nothing improves, and levels and duals are the way back from it.
+  -- A program is solved: pivots lead to a final dictionary at which nothing improves, and levels
+  -- and duals are recovered from it.
   pub record IsSolved (pivots : List Pivot) (levels duals : List Number) : Type 0 where
     pub none : All (λ (c : Column F). ¬ (Crosses value c.lower c.upper)) lp.columns
     pub fit : AllFit (standard_steps value limit lp)
@@ -42,7 +43,7 @@ module _ {F : Type 0} (value : F → Number) (limit : ℕ) (lp : Lp F) where
     pub levels_are : levels ≡ levels_back value lp (last_of last)
     pub duals_are : duals ≡ duals_back value lp (last_of last)
 
-  -- what an optimum tells of its last dictionary
+  -- what an optimum states of its final dictionary
   abbrev IsTold : Dictionary → List F → List F → List F → List F → Type 0
   IsTold d levels row_levels duals reduced =
       ¬ (InPhaseOne d) × NothingImproves d × LeadsTo value lp kind.Optimal (last_of d) (Optimal levels row_levels duals reduced)

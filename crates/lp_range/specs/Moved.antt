@@ -1,5 +1,5 @@
--- Programs of which one right side or one cost has moved, and what the listed answer proves of them (Chvatal, Linear Programming,
--- chapters 5 and 10).
+-- Programs with one right side or one cost moved, and what the listed answer proves of them
+-- (Chvatal, Linear Programming, chapters 5 and 10).
 use Rattle.std.specs.Prelude.{◌≡◌, ℕ, zero, suc, ◌==◌, List, [], ◌∷◌, length, Some, Option, if◌then◌else◌}
 use Rattle.std.specs.List.{enumerate_from}
 use Rattle.gq_number.specs.Number.{Number, ◌*ℚ◌}
@@ -16,35 +16,38 @@ use Rattle.lp_core.specs.Numbers.{lp_numbers}
 abbrev pub itself : Number → Number
 itself x = x
 
--- rows of which that at a place has another right side
+-- rows with the right side at a place replaced
 abbrev pub rows_with_right : ℕ → Number → List (Row Number) → List (Row Number)
 rows_with_right i right [] = []
 rows_with_right zero right (row ∷ rows) = record row { right = right } ∷ rows
 rows_with_right (suc i) right (row ∷ rows) = row ∷ rows_with_right i right rows
 
--- a program in which the row at a place has another right side
+-- a program with the right side of the row at a place replaced
 abbrev pub with_right : ℕ → Number → Lp Number → Lp Number
 with_right i right lp = record lp { rows = rows_with_right i right lp.rows }
 
--- the costs of a program, that of the column at a place exchanged for another; the objective's is 1 and each other is 0
+-- the costs of a program, with the cost of column j replaced; the objective's cost is 1 and each
+-- other is 0
 abbrev pub costs_with : {F : Type 0} → Lp F → ℕ → Number → ℕ → Number
 costs_with lp j cost k = if j == k then cost else objective_costs lp k
 
--- what costs come to at a point
+-- the value of costs at a point
 abbrev pub cost_at : {F : Type 0} → Lp F → (ℕ → Number) → List Number → Number
 cost_at {F} lp costs x = sum_by_ℚ (λ (q : ℕ × Column F). costs q.0 *ℚ number_of x q.0) (enumerate_from 0 lp.columns)
 
--- the bound of costs that duals give: from above where they are to be greatest, else from below
+-- the bound that duals give for costs: an upper bound when maximizing, else a lower bound
 abbrev pub bound_of_costs : {F : Type 0} → (F → Number) → Lp F → (ℕ → Number) → List Number → Option Number
 bound_of_costs value lp costs duals = if lp.maximize then high value lp costs duals else low value lp costs duals
 
--- With this right side in row i the program has a feasible point of which the objective is the bound that the duals give.
+-- With this right side in row i, the program has a feasible point whose objective attains the bound
+-- that the duals give.
 abbrev pub MeetsBoundWithRight : {F : Type 0} → (F → Number) → Lp F → List Number → ℕ → Number → Type 0
 MeetsBoundWithRight value lp duals i right =
     (x : List Number) × Feasible itself (with_right i right (lp_numbers value lp)) x
     × (dual_bound itself (with_right i right (lp_numbers value lp)) duals ≡ Some (number_of x lp.objective))
 
--- With this cost of column j there are duals that give as a bound what the costs come to at the levels.
+-- With this cost of column j, some duals give a bound that equals the value of the costs at the
+-- levels.
 abbrev pub MeetsBoundWithCost : {F : Type 0} → (F → Number) → Lp F → List Number → ℕ → Number → Type 0
 MeetsBoundWithCost value lp levels j cost =
     (duals : List Number) × (length duals ≡ length lp.rows)

@@ -1,4 +1,4 @@
--- What the pieces of the code promise each other.
+-- What the functions promise each other.
 use Rattle.std.specs.Prelude.{◌≡◌, ℕ, ◌+◌, true, false, List, Option, Some, None, Result, Ok, Err}
 use Rattle.gq_number.specs.Number.{Number}
 use Rattle.lp_core.specs.Dictionary.{Dictionary}

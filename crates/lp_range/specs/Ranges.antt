@@ -1,4 +1,5 @@
--- The ranges of right sides and costs at a last dictionary (Chvatal, Linear Programming, chapter 10).
+-- The ranges of right sides and costs at a final dictionary (Chvatal, Linear Programming, chapter
+-- 10).
 use Rattle.std.specs.Prelude.{◌≡◌, ℕ, ◌+◌, Bool, true, not, pos, List, [], ◌∷◌, map, filter, length, Option, Some, None, is_some}
 use Rattle.std.specs.List.{enumerate_from, range_with_len}
 use Rattle.gq_number.specs.Number.{Number, whole, ◌-ℚ◌, neg_ℚ}
@@ -31,15 +32,15 @@ LeadTo value limit lp pivots last = LeadsWithin (ByRule Legal) limit 1 [] (first
 abbrev pub interval_value : {F : Type 0} → (F → Number) → Interval F → Span
 interval_value value interval = record { low = bound_value value interval.low; high = bound_value value interval.high }
 
--- an interval, where there is one
+-- the numbers of an interval, if any
 abbrev pub span_value : {F : Type 0} → (F → Number) → Option (Interval F) → Option Span
 span_value value None = None
 span_value value (Some interval) = Some (interval_value value interval)
 
 module _ (limit : ℕ) (d : Dictionary) where
-  -- What the constant of row k gains where the right side of a row of this sense moves, of which the first slack is v: where it is
-  -- at most its right side what the slack has there, where it is at least that negated, and for an equation the difference of
-  -- its two slacks. A row that asks nothing gains nothing.
+  -- What the constant of row k gains for each unit by which the right side of a row moves; v is the
+  -- row's first slack. For `=l=` it is the slack's coefficient in row k, for `=g=` that negated,
+  -- for an equation the difference of its two slacks' coefficients, and for `=n=` it is 0.
   abbrev pub right_gain : Sense → ℕ → ℕ → Gain
   right_gain sense.E v k =
       record { amount = constant_at d k; each = entry_at d k v -ℚ entry_at d k (v + 1); fits = difference_fits limit (entry_at d k v) (entry_at d k (v + 1)) }
@@ -51,7 +52,7 @@ module _ (limit : ℕ) (d : Dictionary) where
   abbrev pub right_gains : Sense → ℕ → List Gain
   right_gains s v = map (right_gain s v) (range_with_len 0 (length d.basic))
 
-  -- the ranges of right sides of rows of which the first has the first slack v
+  -- the ranges of right sides of rows, of which the first has the first slack v
   abbrev pub right_spans : {F : Type 0} → (F → Number) → ℕ → List (Row F) → List (Option Span)
   right_spans value v [] = []
   right_spans value v (row ∷ rows) = span limit (value row.right) (right_gains row.sense v) ∷ right_spans value (v + rows_of_sense row.sense) rows
@@ -60,41 +61,44 @@ module _ (limit : ℕ) (d : Dictionary) where
   abbrev pub others : List ℕ
   others = filter (λ v. not (is_some (row_of_basic d v))) (range_with_len 1 d.variables)
 
-  -- what variable v gains where q rises by 1, which is not basic
+  -- what variable v gains when the nonbasic variable q rises by 1
   abbrev pub change : ℕ → ℕ → Number
   change q v = change_by_row d q v (row_of_basic d v)
 
-  -- what a column gains where q rises by 1, by its shift and its first variable
+  -- what a column gains when the nonbasic variable q rises by 1, by its shift and its first
+  -- variable
   abbrev pub column_change : ℕ × Shift → ℕ → Number
   column_change (v, from_lower b) q = change q v
   column_change (v, from_upper b) q = neg_ℚ (change q v)
   column_change (v, free) q = change q v -ℚ change q (v + 1)
 
-  -- whether the step fits by which that is found: the difference for a column of two variables
+  -- whether the step that finds this gain fits: the difference for a column of two variables
   abbrev pub column_change_fits : ℕ × Shift → ℕ → Bool
   column_change_fits (v, from_lower b) q = true
   column_change_fits (v, from_upper b) q = true
   column_change_fits (v, free) q = difference_fits limit (change q v) (change q (v + 1))
 
-  -- What keeps q from entering where the cost of a column moves: its coefficient in the objective, negated, which loses what
-  -- the column gains by q, in the direction of the objective.
+  -- What keeps q from entering when the cost of a column moves: its negated coefficient in the
+  -- objective, less the column's gain by q in the direction of the objective.
   abbrev pub cost_gain : Bool → ℕ × Shift → ℕ → Gain
   cost_gain maximize c q =
       record { amount = neg_ℚ (entry_at d (length d.basic) q); each = neg_ℚ (directed maximize (column_change c q)); fits = column_change_fits c q }
 
-  -- the same of all variables that are not basic
+  -- the cost gains of all nonbasic variables
   abbrev pub cost_gains : Bool → ℕ × Shift → List Gain
   cost_gains maximize c = map (cost_gain maximize c) others
 
--- The ranges of right sides, one for each row: the right side may move while each constant stays at least 0.
+-- The ranges of right sides, one for each row: the right side may move while each constant remains
+-- at least 0.
 abbrev pub rights : {F : Type 0} → (F → Number) → ℕ → Lp F → Dictionary → List (Option Span)
 rights value limit lp d = right_spans limit d value (variables_of value lp + 1) lp.rows
 
--- the ranges of the costs of columns of which the first has place j, by their shifts and first variables
+-- the ranges of the costs of columns from place j on, by their shifts and first variables
 abbrev pub cost_spans : {F : Type 0} → ℕ → Dictionary → Lp F → ℕ → List (ℕ × Shift) → List (Option Span)
 cost_spans limit d lp j columns =
     map (λ (p : ℕ × (ℕ × Shift)). span limit (objective_costs lp p.0) (cost_gains limit d lp.maximize p.1)) (enumerate_from j columns)
 
--- The ranges of costs, one for each column: the cost, 1 for the objective and 0 elsewhere, may move while no variable improves.
+-- The ranges of costs, one for each column. The cost, which is 1 for the objective and else 0, may
+-- move while no variable improves.
 abbrev pub costs : {F : Type 0} → (F → Number) → ℕ → Lp F → Dictionary → List (Option Span)
 costs value limit lp d = cost_spans limit d lp 0 (columns_of value lp)

@@ -1,4 +1,5 @@
--- How far a move may go while amounts that gain or lose by it stay at least 0 (Chvatal, Linear Programming, chapter 10).
+-- How far a move may go while the amounts that change with it remain at least 0 (Chvatal, Linear
+-- Programming, chapter 10).
 use Rattle.std.specs.Prelude.{ℕ, ◌&&◌, Bool, true, pos, List, [], ◌∷◌, Option, Some, None, option_map, if◌then◌else◌}
 use Rattle.std.specs.List.{All}
 use Rattle.std.specs.declared.cmp.Ordering.{Ordering}
@@ -10,13 +11,13 @@ use Rattle.gq_field.specs.Fits.{sum_fits}
 use Rattle.lp_core.specs.Feasible.{KeepsLower, KeepsUpper}
 use Rattle.lp_core.specs.Steps.{quotient_fits}
 
--- An amount, what it gains for each unit of a move, and whether the step by which that gain is found fits.
+-- An amount, what it gains for each unit of a move, and whether the step that finds the gain fits.
 pub record Gain : Type 0 where
   pub amount : Number
   pub each : Number
   pub fits : Bool
 
--- The least and the greatest number that something may be; none where there is no end.
+-- An interval of numbers; each end may be none.
 pub record Span : Type 0 where
   pub low : Option Number
   pub high : Option Number
@@ -29,7 +30,7 @@ IsWithin span x = KeepsLower span.low x × KeepsUpper span.high x
 abbrev pub Stay : List Gain → Number → Type 0
 Stay gains t = All (λ (g : Gain). whole (pos 0) ≤ℚ g.amount +ℚ t *ℚ g.each) gains
 
--- the move at which an amount comes to 0
+-- the move at which an amount is 0
 abbrev pub end_of : Gain → Number
 end_of g = neg_ℚ (g.amount /ℚ g.each)
 
@@ -55,35 +56,37 @@ high_by Less high e = lesser high e
 high_by Equal high e = high
 high_by Greater high e = high
 
--- an end from below so far, with one amount more
+-- the lower end of the moves so far, updated by one more amount
 abbrev pub low_with : Option Number → Gain → Option Number
 low_with low g = low_by (number_cmp g.each (whole (pos 0))) low (end_of g)
 
--- and an end from above so far
+-- the upper end of the moves so far, updated by one more amount
 abbrev pub high_with : Option Number → Gain → Option Number
 high_with high g = high_by (number_cmp g.each (whole (pos 0))) high (end_of g)
 
--- the greatest of the ends from below, on top of one so far
+-- the greatest of the ends from below, of one so far and of these amounts
 abbrev pub low_end : Option Number → List Gain → Option Number
 low_end low [] = low
 low_end low (g ∷ gains) = low_end (low_with low g) gains
 
--- the least of the ends from above
+-- the least of the ends from above, of one so far and of these amounts
 abbrev pub high_end : Option Number → List Gain → Option Number
 high_end high [] = high
 high_end high (g ∷ gains) = high_end (high_with high g) gains
 
--- whether the quotient fits that an end takes, by how the gain compares with 0; where there is no end there is no step
+-- whether the quotient for an end fits, by how the gain compares with 0; without an end there is no
+-- step
 abbrev pub end_fits : Ordering → ℕ → Gain → Bool
 end_fits Less limit g = quotient_fits limit g.amount g.each
 end_fits Equal limit g = true
 end_fits Greater limit g = quotient_fits limit g.amount g.each
 
--- whether the steps on an amount fit: that by which its gain is found, and the quotient where it gives an end
+-- whether the steps on an amount fit: the one that finds its gain, and the quotient if it gives an
+-- end
 abbrev pub gain_fits : ℕ → Gain → Bool
 gain_fits limit g = g.fits && end_fits (number_cmp g.each (whole (pos 0))) limit g
 
--- whether the steps on all of them fit
+-- whether the steps on all amounts fit
 abbrev pub gains_fit : ℕ → List Gain → Bool
 gains_fit limit [] = true
 gains_fit limit (g ∷ gains) = gain_fits limit g && gains_fit limit gains
@@ -97,13 +100,14 @@ moved_fits limit x (Some e) = sum_fits limit x e
 abbrev pub moved_to : Number → Option Number → Option Number
 moved_to x e = option_map (λ t. x +ℚ t) e
 
--- what a number may be where it moves and these amounts stay at least 0, with ends so far; none where a step does not fit
+-- the values that a number may take while these amounts remain at least 0, given ends so far; none
+-- if a step does not fit
 abbrev pub span_from : ℕ → Number → Option Number → Option Number → List Gain → Option Span
 span_from limit x low high gains =
     if gains_fit limit gains && moved_fits limit x (low_end low gains) && moved_fits limit x (high_end high gains) then
     Some (record { low = moved_to x (low_end low gains); high = moved_to x (high_end high gains) }) else
     None
 
--- what a number may be where it moves and these amounts stay at least 0
+-- the values that a number may take while these amounts remain at least 0
 abbrev pub span : ℕ → Number → List Gain → Option Span
 span limit x gains = span_from limit x None None gains

@@ -26,7 +26,7 @@ pub(crate) struct Placed {
     pub(crate) row: Option<usize>,
 }
 
-/// A column by its shift and its variables; the second is that of a column without bounds.
+/// A column by its shift and its variables; only a column without bounds has the second.
 #[derive(Clone, Copy)]
 pub(crate) struct ColumnPlace<F> {
     pub(crate) shift: Shift<F>,
@@ -45,7 +45,7 @@ fn place_of<F: ExactField>(dict: &Dict<F>, variable: u32) -> Placed
     }
 }
 
-/// The variables from number 1 that are not basic. The error is want of memory.
+/// The nonbasic variables from number 1. The only error is out of memory.
 fn others_of<F: ExactField>(alloc: Global, dict: &Dict<F>) -> Result<Vec<u32>, AllocError>
     ensures { IfOk result (λ made. made.items ≡ of.others F.limit (dictionary F.value dict.now)) }
 {
@@ -59,7 +59,7 @@ fn others_of<F: ExactField>(alloc: Global, dict: &Dict<F>) -> Result<Vec<u32>, A
     Ok(others)
 }
 
-/// What a variable gains where another rises by 1, which is not basic.
+/// What a variable gains when a nonbasic variable rises by 1.
 fn change_of<F: ExactField>(dict: &Dict<F>, other: u32, placed: Placed) -> F
     requires there { other ≤ dict.now.variables }
     requires placed { IsPlace dict.now.basic placed.variable placed.row }
@@ -78,8 +78,8 @@ fn change_of<F: ExactField>(dict: &Dict<F>, other: u32, placed: Placed) -> F
     }
 }
 
-/// What a column gains where a variable rises by 1 that is not basic; none where the difference of its two variables' gains does
-/// not fit.
+/// What a column gains when a nonbasic variable rises by 1. None if the difference of its two
+/// variables' gains does not fit.
 fn column_change_of<F: ExactField>(dict: &Dict<F>, other: u32, column: ColumnPlace<F>) -> Option<F>
     requires there { other ≤ dict.now.variables }
     requires placed { IsPlaced dict.now.basic column }
@@ -96,14 +96,15 @@ fn column_change_of<F: ExactField>(dict: &Dict<F>, other: u32, column: ColumnPla
     }
 }
 
-/// A number kept where the objective is to be greatest, and negated where it is to be least.
+/// A number unchanged when maximizing, and negated when minimizing.
 fn directed<F: ExactField>(maximize: bool, x: F) -> F
     ensures { F.value result ≡ directed_number maximize (F.value x) }
 {
     if maximize { x } else { x.neg() }
 }
 
-/// What keeps a variable from entering loses for each unit by which the cost of a column rises.
+/// What keeps a variable from entering, and its loss for each unit by which the cost of a column
+/// rises.
 fn gain_of<F: ExactField>(
     dict: &Dict<F>,
     maximize: bool,
@@ -120,8 +121,8 @@ fn gain_of<F: ExactField>(
     }
 }
 
-/// The range of the cost of a column, at a last dictionary of which these are the variables that are not basic; none where a
-/// step does not fit.
+/// The range of the cost of a column at a final dictionary, whose nonbasic variables are `others`.
+/// None if a step does not fit.
 fn range_of<F: ExactField>(
     dict: &Dict<F>,
     others: &[u32],
@@ -171,7 +172,8 @@ fn cost_of<F: ExactField>(lp: &Lp<F>, place: usize) -> F
     }
 }
 
-/// The range of the cost of each column by its shift, at a last dictionary of which these are the variables that are not basic.
+/// The range of the cost of each column, by its shift, at a final dictionary whose nonbasic
+/// variables are `others`.
 fn ranges_of<F: ExactField>(
     alloc: Global,
     lp: &Lp<F>,
@@ -199,7 +201,7 @@ fn ranges_of<F: ExactField>(
     Ok(made)
 }
 
-/// The range of the cost of each column, at a last dictionary. The error is want of memory.
+/// The range of the cost of each column, at a final dictionary. The only error is out of memory.
 pub(crate) fn costs_of<F: ExactField>(
     alloc: Global,
     lp: &Lp<F>,

@@ -1,4 +1,4 @@
-//! Intervals of numbers, each end of which may be missing, and the ranges of a program.
+//! Intervals of numbers, each end of which may be absent, and the ranges of a program.
 ghost use Rattle.std.specs.Prelude.{◌≡◌, true, [], None, Some};
 ghost use Rattle.lp_core.specs.Feasible.{bound_value};
 ghost use Rattle.lp_range.specs.Spans as spans;
@@ -9,22 +9,24 @@ use gq_field::ExactField;
 use lp_core::Sequence;
 use std::cmp::Ordering;
 
-/// The numbers from a least to a greatest one, both among them.
+/// The numbers from a least to a greatest one, both included.
 #[derive(Clone, Copy)]
 pub struct Interval<F> {
-    /// The least number; none where there is no end from below.
+    /// The least number; none without a lower end.
     pub low: Option<F>,
-    /// The greatest number; none where there is no end from above.
+    /// The greatest number; none without an upper end.
     pub high: Option<F>,
 }
 
-/// How far each right side and each cost of a solved program may move, by itself, before the proof of its answer changes.
+/// How far each right side and each cost of a solved program may move, by itself, before the
+/// certificate of its answer changes.
 #[derive(Drop)]
 pub struct Ranges<F> {
-    /// For each row the numbers that its right side may be; none where a step on the way to them does not fit.
+    /// For each row the values that its right side may take. None if a step that finds them does
+    /// not fit.
     pub rights: Sequence<Option<Interval<F>>>,
-    /// For each column the numbers that its cost may be, which is 1 for the objective and else 0; none where a step on the way to
-    /// them does not fit.
+    /// For each column the values that its cost may take, which is 1 for the objective and else 0.
+    /// None if a step that finds them does not fit.
     pub costs: Sequence<Option<Interval<F>>>,
 }
 
@@ -59,8 +61,8 @@ fn lesser<F: ExactField>(end: Option<F>, x: F) -> F
     }
 }
 
-/// The moves so far by which an amount stays at least 0 that gains so much for each unit of a move; none where the quotient of
-/// the two, which is an end, does not fit.
+/// The moves so far, narrowed to those that keep an amount at least 0 which gains `each` for a unit
+/// of the move. None if the quotient of the two, which is an end, does not fit.
 pub(crate) fn with_amount<F: ExactField>(
     moves: Interval<F>,
     amount: F,
@@ -91,7 +93,7 @@ pub(crate) fn with_amount<F: ExactField>(
     }
 }
 
-/// A number moved to an end of the moves, if there is one; `Err` where the sum does not fit.
+/// A number moved to an end of the moves, if there is one; `Err` if the sum does not fit.
 fn moved<F: ExactField>(given: F, end: Option<F>) -> Result<Option<F>, ()>
     ensures { AddsTo F.value F.limit (F.value given) (bound_value F.value end) result }
 {
@@ -104,7 +106,7 @@ fn moved<F: ExactField>(given: F, end: Option<F>) -> Result<Option<F>, ()>
     }
 }
 
-/// The moves added to the number that moves; none where a sum does not fit.
+/// The moves added to the number that moves; none if a sum does not fit.
 pub(crate) fn around<F: ExactField>(given: F, moves: Interval<F>) -> Option<Interval<F>>
     ensures { span_value F.value result ≡ spans.span_from F.limit (F.value given) (bound_value F.value moves.low) (bound_value F.value moves.high) [] }
 {

@@ -17,15 +17,16 @@ ghost use Rattle.lp_range.specs.Ranges.{IsOptimum};
 
 use gq_field::ExactField;
 
-/// A number is in the span of gains exactly where each amount stays at least 0 when it moves there, each being at least 0 before:
-/// no wider span would do.
+/// A number is in the span of gains exactly if each amount, at least 0 before, remains at least 0
+/// when the number moves there: no wider span would do.
 pub fn widest_span()
     ensures { (limit : ℕ) (given x : Number) (gains : List Gain) (s : Span) → All (λ g. whole (pos 0) ≤ℚ g.amount) gains →
         span limit given gains ≡ Some s → IsWithin s x ↔ Stay gains (x -ℚ given) }
 {}
 
-/// Where the program with another right side has a feasible point whose objective is the bound of duals, that point is best among
-/// the feasible ones: weak duality, as in Chvatal, Linear Programming, chapter 5.
+/// If the program with another right side has a feasible point whose objective is the bound of
+/// duals, that point is the best feasible one: weak duality, as in Chvatal, Linear Programming,
+/// chapter 5.
 pub fn best_with_right<F: ExactField>()
     ensures least { (lp : Lp F) (duals : List Number) (i : ℕ) (right : Number) → IsWellFormed F.value lp → lp.maximize ≡ false →
         (meets : MeetsBoundWithRight F.value lp duals i right) → (x : List Number) →
@@ -35,8 +36,8 @@ pub fn best_with_right<F: ExactField>()
         Feasible itself (with_right i right (lp_numbers F.value lp)) x → number_of x lp.objective ≤ℚ number_of meets.0 lp.objective }
 {}
 
-/// Where there are duals whose bound, with another cost, is what the costs come to at the levels, no feasible point is better for
-/// these costs.
+/// If the bound that some duals give for another cost equals the value of the costs at the levels,
+/// no feasible point is better for these costs.
 pub fn best_with_cost<F: ExactField>()
     ensures least { (lp : Lp F) (levels : List Number) (j : ℕ) (cost : Number) → IsWellFormed F.value lp → lp.maximize ≡ false →
         MeetsBoundWithCost F.value lp levels j cost → (x : List Number) →
@@ -46,7 +47,8 @@ pub fn best_with_cost<F: ExactField>()
         Feasible F.value lp x → cost_at lp (costs_with lp j cost) x ≤ℚ cost_at lp (costs_with lp j cost) levels }
 {}
 
-/// An optimum under either rule, at any limit of pivots, is one under the rule Legal at its own number of pivots.
+/// An optimum under either rule, at any limit of pivots, is one under the rule Legal with its
+/// number of pivots as the limit.
 pub fn legal_by_its_pivots<F: ExactField>()
     ensures bland { (lp : Lp F) (iterlim : ℕ) (answer : Answer F) → IsOptimum answer →
         IsAnswer F.value F.limit lp iterlim Bland answer → IsAnswer F.value F.limit lp (length answer.pivots) Legal answer }

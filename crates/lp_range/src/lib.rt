@@ -1,4 +1,5 @@
-//! Floor 4, linear programs. How far a right side or a cost of a solved program may move before its proof changes.
+//! Layer 4, linear programs. How far a right side or a cost of a solved program may move before its
+//! certificate changes.
 #![tactic(auto)]
 
 mod costs;

@@ -21,15 +21,17 @@ use lp_core::{Answer, Lp, Sequence};
 use lp_dict::Dict;
 use std::alloc::{AllocError, Global};
 
-/// The ranges of a program by its answer, which is an optimum: Chvatal, Linear Programming, chapter 10.
+/// The ranges of a program from its answer, which is an optimum: Chvatal, Linear Programming,
+/// chapter 10.
 ///
-/// They are read off the last dictionary, to which the pivots of the answer lead. The right side of a row may move while each
-/// constant stays at least 0: then the listed duals prove the program with that right side. The cost of a column may move
-/// while no variable improves: then there are duals that prove the listed levels for these costs. One number moves at a time.
+/// They are read from the final dictionary, to which the pivots of the answer lead. The right side
+/// of a row may move while each constant remains at least 0: then the listed duals certify the
+/// program with that right side. The cost of a column may move while no variable improves: then
+/// some duals certify the listed levels for these costs. One number moves at a time.
 ///
-/// An interval is none exactly where one of its own steps does not fit under the limit of the field: row by row, or variable by
-/// variable, the difference for an equation or a column without bounds and the quotient where there is an end, and then
-/// the two sums. The error is want of memory.
+/// An interval is none exactly if one of its steps does not fit under the limit of the field. Its
+/// steps are, for each row or variable, the difference for an equation or a column without bounds
+/// and the quotient that gives an end, and then the two sums. The only error is out of memory.
 pub fn ranges<F: ExactField>(
     alloc: Global,
     lp: &Lp<F>,

@@ -1,4 +1,4 @@
-//! From a program and its pivots to the last dictionary.
+//! From a program and its pivots to the final dictionary.
 ghost use Rattle.std.specs.Prelude.{◌≡◌, ◌+◌, ℕ, [], slice_get, Some, IfOk};
 ghost use Rattle.lp_core.specs.Counts.{counted};
 ghost use Rattle.lp_core.specs.Dictionary.{Dictionary, IsLegal, exchanged, first_dictionary};
@@ -19,7 +19,7 @@ use lp_dict::Dict;
 use lp_std::{Standard, Stop, standard};
 use std::alloc::{AllocError, Global};
 
-/// The standard form of a program that has one. The error is want of memory.
+/// The standard form of a program that has one. The only error is out of memory.
 pub(crate) fn form_of<F: ExactField>(alloc: Global, lp: &Lp<F>) -> Result<Standard<F>, AllocError>
     requires well_formed { IsWellFormed F.value lp.now }
     requires none_crosses { FirstCrossed F.value lp.now.columns None }
@@ -34,7 +34,7 @@ pub(crate) fn form_of<F: ExactField>(alloc: Global, lp: &Lp<F>) -> Result<Standa
     }
 }
 
-/// The dictionary after a pivot of which each step fits. The error is want of memory.
+/// The dictionary after a pivot whose steps all fit. The only error is out of memory.
 fn after<F: ExactField>(alloc: Global, dict: Dict<F>, pivot: Pivot) -> Result<Dict<F>, AllocError>
     requires { (k : ℕ) × IsLegal (dictionary F.value dict) pivot k × AllFit (exchange_steps F.limit dict.upcoming (dictionary F.value dict) pivot.enter k) }
     ensures exchanged { IfOk result (λ made. (k : ℕ) → slice_get dict.basic k ≡ Some pivot.leave → dictionary F.value made ≡ exchanged (dictionary F.value dict) pivot.enter k) }
@@ -49,7 +49,7 @@ fn after<F: ExactField>(alloc: Global, dict: Dict<F>, pivot: Pivot) -> Result<Di
     }
 }
 
-/// The dictionary to which pivots lead from a first one. The error is want of memory.
+/// The dictionary to which pivots lead from a first one. The only error is out of memory.
 pub(crate) fn replayed<F: ExactField>(
     alloc: Global,
     first: Dict<F>,

@@ -16,8 +16,9 @@ use lp_core::{Lp, Row, Sense, rows_by_sense};
 use lp_dict::Dict;
 use std::alloc::{AllocError, Global};
 
-/// What the constant of a row gains where the right side of a row of this sense moves, of which the first slack is this; none
-/// where the difference of the two slacks of an equation does not fit.
+/// What the constant of a row gains when the right side of a row of this sense moves; `slack` is
+/// the first slack of that row. None if the difference of the two slacks of an equation does not
+/// fit.
 fn gain_of<F: ExactField>(dict: &Dict<F>, sense: Sense, slack: usize, row: usize) -> Option<F>
     requires row { row < length dict.now.basic }
     requires room { slack + rows_of_sense sense ≤ dict.now.variables + 1 }
@@ -35,7 +36,8 @@ fn gain_of<F: ExactField>(dict: &Dict<F>, sense: Sense, slack: usize, row: usize
     }
 }
 
-/// The range of the right side of a row of this sense, of which the first slack is this; none where a step does not fit.
+/// The range of the right side of a row of this sense, whose first slack is `slack`. None if a step
+/// does not fit.
 fn range_of<F: ExactField>(
     dict: &Dict<F>,
     sense: Sense,
@@ -58,7 +60,7 @@ fn range_of<F: ExactField>(
     around(right, moves)
 }
 
-/// The range of the right side of each of these rows, of which the first has this first slack.
+/// The range of the right side of each of these rows; the first row has this first slack.
 fn ranges_of<F: ExactField>(
     alloc: Global,
     rows: &[Row<F>],
@@ -78,7 +80,7 @@ fn ranges_of<F: ExactField>(
     Ok(made)
 }
 
-/// The range of the right side of each row, at a last dictionary. The error is want of memory.
+/// The range of the right side of each row, at a final dictionary. The only error is out of memory.
 pub(crate) fn rights_of<F: ExactField>(
     alloc: Global,
     lp: &Lp<F>,

@@ -13,8 +13,8 @@ begins_with_letter (byte ∷ bytes) = is_ascii_alphabetic byte
 abbrev pub may_stand_in_name : ℕ → Bool
 may_stand_in_name byte = is_ascii_alphanumeric byte || byte == 95
 
--- A solver's name: a letter, then letters, digits and `_`, 63 bytes at most. No solver is named `none`, in any letter case: so a
--- list without solvers is told.
+-- A solver's name: a letter, then letters, digits and `_`, at most 63 bytes. No solver is named
+-- `none`, in any letter case: that word denotes a list without solvers.
 pub record IsSolverName (name : List ℕ) : Type 0 where
   pub letter : IsTrue (begins_with_letter name)
   pub plain : IsTrue (list_all may_stand_in_name name)

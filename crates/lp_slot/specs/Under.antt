@@ -12,7 +12,7 @@ use Rattle.lp_core.specs.Pivots.{IsChosen}
 use Rattle.lp_slot.specs.declared.solver.SolverRule.{SolverRule}
 use Rattle.lp_slot.specs.declared.solver.SolverRule.TheVariants.{Bland, LargestCoefficient, Turning, Legal}
 
--- the variable that enters next: any improving one until the turn has come, and Bland's from then on
+-- the variable that enters next: any improving one before the turn, and Bland's after it
 abbrev pub IsNextImproving : Dictionary → List Pivot → Dictionary → ℕ → Type 0
 IsNextImproving first pivots d q = (¬ (HasTurned first pivots d) × Improves d q) ⊎ (HasTurned first pivots d × IsChosen by.Bland d q)
 

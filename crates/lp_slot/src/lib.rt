@@ -1,4 +1,5 @@
-//! Floor 4, linear programs. The slot for a solver: what each solver of linear programs tells of itself, and what it answers.
+//! Layer 4, linear programs. The slot for a solver: what each solver of linear programs exposes,
+//! and what it answers.
 #![tactic(auto)]
 
 mod solver;

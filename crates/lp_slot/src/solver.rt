@@ -1,4 +1,4 @@
-//! A solver of linear programs, as a run sees it.
+//! A solver of linear programs, as a run views it.
 ghost use Rattle.std.specs.Prelude.{◌≡◌, ◌∷◌, ◌++◌, ℕ, List, [], IfOk, OnErr};
 ghost use Rattle.gq_frac.specs.Frac.{frac_limit, frac_value};
 ghost use Rattle.lp_core.specs.declared.answer.Pivot.{Pivot};
@@ -16,9 +16,9 @@ use std::alloc::{AllocError, Global};
 pub enum SolverRule {
     /// Those of Bland's rule.
     Bland,
-    /// Those of the largest coefficient, with the turn to Bland's rule where pivots gain nothing.
+    /// Those of the largest coefficient, with the turn to Bland's rule after pivots without gain.
     LargestCoefficient,
-    /// Those by any improving variables until that turn has come, and by Bland's rule from then on.
+    /// Those by any improving variables before that turn, and by Bland's rule after it.
     Turning,
     /// Those by any legal pivots.
     Legal,
@@ -26,8 +26,8 @@ pub enum SolverRule {
 
 /// A solver of linear programs over exact numbers.
 ///
-/// It tells its name, by which a source chooses it, the rule by which it takes pivots, and the pivots of each answer that it
-/// has given. Only the last of these changes.
+/// A solver exposes its name, by which a source chooses it; the rule by which it chooses pivots;
+/// and the pivots of each answer that it has given. Only these pivots change.
 pub trait LpSolver: Drop {
     /// The name by which a source chooses the solver.
     ghost name: { Self → List ℕ };
@@ -38,7 +38,7 @@ pub trait LpSolver: Drop {
     /// The pivots of each answer that the solver has given, in order.
     ghost paths: { Self → List (List Pivot) };
 
-    /// The name by which a source chooses the solver. It is of the form that a source can write.
+    /// The name by which a source chooses the solver, in a form that a source can write.
     fn name(&self) -> &str
         ensures name { result.now ≡ name self.now }
         ensures named { IsSolverName result.now };
@@ -51,12 +51,13 @@ pub trait LpSolver: Drop {
     fn paths(&self) -> &[Sequence<Pivot>]
         ensures { result.now ≡ paths self.now };
 
-    /// An answer of a program, found by at most `iterlim` pivots that the solver's rule allows, as in Chvatal, Linear
-    /// Programming, chapters 2, 3 and 8.
+    /// An answer of a program, found by at most `iterlim` pivots that the solver's rule allows, as
+    /// in Chvatal, Linear Programming, chapters 2, 3 and 8.
     ///
-    /// Optimal, Infeasible and Unbounded come with what proves them; Interrupted comes after exactly `iterlim` pivots where a
-    /// further one is due; Refused comes with the first step that does not fit under the limit of the numbers. The pivots are
-    /// put behind the paths as one list. The error is want of memory, and after it the solver is as before.
+    /// Optimal, Infeasible and Unbounded come with their certificates. Interrupted is the end after
+    /// exactly `iterlim` pivots when a further one is required. Refused has the first step that
+    /// does not fit under the limit of the numbers. The pivots are appended to the paths as one
+    /// list. The only error is out of memory, after which the solver is as before.
     fn solve(
         &mut self,
         alloc: Global,

@@ -1,4 +1,4 @@
--- The way back as a whole: what is read has its sizes, and the end that it leads to is proved.
+-- The recovery as one: what is read has its sizes, and the recovered end is proved.
 use Rattle.std.proofs.Common.{◌≡◌, ℕ, ◌+◌, ◌≤◌, List, [], ◌∷◌, length, map, None, refl, sym, ap, ap₂, ◌∙◌, subst, arith}
 use Rattle.std.specs.Prelude.{sum_by, Result, Ok, Err}
 use Rattle.std.specs.Result.{IfOk, IfErr}
@@ -125,7 +125,7 @@ module _ {F : Type 0} (value : F → Number) (limit : ℕ) (lp : Lp F) (k : EndK
   end_stops (Ok end) h = tt
   end_stops (Err s) h = stop_back s h
 
--- a ray is there, or none is wanted
+-- a ray exists, or none is required
 pub has_ray : (k : EndKind) (P : Type 0) → P → HasRay k P
 has_ray kind.Optimal P h = tt
 has_ray kind.Infeasible P h = tt

@@ -1,4 +1,4 @@
--- That what the way back gives is proved by the program's own rows and bounds.
+-- The program's rows and bounds prove what the recovery gives.
 use Rattle.std.proofs.Common.{◌≡◌, ℕ, suc, ◌+◌, ◌<◌, ◌≤◌, Bool, true, false, cond, pos, List, [], ◌∷◌, length, map, get_or, Option, Some, None, refl, sym, ap, ap₂, ◌∙◌, subst, arith}
 use Rattle.std.specs.List.{All, zip, enumerate_from}
 use Rattle.std.proofs.lemmas.List.{length-map, get_or-map}
@@ -157,7 +157,7 @@ module _ {F : Type 0} (value : F → Number) (columns : List (ℕ × form.Shift)
       All-cons P (j, column) (enumerate_from (j + 1) bounded) (subst (λ x. KeepsLowerAlong column.lower x × KeepsUpperAlong column.upper x) (sym level) (bound_along j c.0 column.lower column.upper (at_least_zero y above c.0) (All-append_left RowAlong first (bounds_over value columns (j + 1) bounded) all)))
       (bounds_kept_along (j + 1) bounded (omega arith) (λ k d h. ap (λ m. (form.column_at columns m).1) (let e : j + 1 + k ≡ j + suc k = omega arith in e) ∙ shifts (suc k) d (omega arith)) above (All-append_right RowAlong first (bounds_over value columns (j + 1) bounded) all))
 
--- ---- a program and a last dictionary of its standard form
+-- ---- a program and a final dictionary of its standard form
 
 -- reduced costs are the coefficients, where a free column has none
 module _ {F : Type 0} (value : F → Number) (costs : List Number) (n : ℕ) (below : (w : ℕ) → 1 ≤ w → number_of costs w ≤ℚ whole (pos 0)) where
@@ -327,7 +327,7 @@ module _ {F : Type 0} (value : F → Number) (lp : Lp F) (formed : IsWellFormed 
         balanced : (k t : Number) → k +ℚ neg_ℚ k ≡ t +ℚ neg_ℚ t
         balanced k t = simp ring_ℚ
 
--- ---- what the way back tells of an end of any kind is proved
+-- ---- the recovered end is proved, whatever its kind
 
 module _ {F : Type 0} (value : F → Number) (lp : Lp F) (formed : IsWellFormed value lp) (none : FirstCrossed value lp.columns None) (d : Dictionary) (is : IsDictionaryOf (form.standard_form value lp) d) where
   pub proved_at : (k : EndKind) (last : form.Last) → IsReadAt d k last → (end : End F) → LeadsTo value lp k last end → IsProved value lp end

@@ -1,4 +1,5 @@
--- The sum of a row on the way back, entry by entry; and duals and reduced costs, row by row and column by column.
+-- The sum of a row in the recovery, entry by entry; and duals and reduced costs, row by row and
+-- column by column.
 use Rattle.std.proofs.Common.{◌≡◌, ℕ, ◌+◌, ◌<◌, ◌≤◌, Bool, pos, List, [], ◌∷◌, ◌++◌, length, map, get_or, take, drop, Some, None, sym, ap, ap₂, ◌∙◌, append_assoc}
 use Rattle.std.specs.Prelude.{sum_by}
 use Rattle.std.proofs.lemmas.List.{get_or-map, drop_all, map-append, append-nil}

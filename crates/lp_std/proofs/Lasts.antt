@@ -1,4 +1,4 @@
--- What is read from a last dictionary, against the standard form.
+-- What is read from a final dictionary, against the standard form.
 use Rattle.std.proofs.Common.{◌≡◌, ◌≢◌, ℕ, zero, suc, ◌+◌, ◌-◌, ◌<◌, ◌≤◌, ◌==◌, Bool, true, false, cond, pos, List, [], ◌∷◌, length, map, get_or, Option, Some, None, inl, inr, refl, sym, ap, ap₂, ◌∙◌, subst, arith}
 use Rattle.std.specs.Prelude.{slice_index_or, slice_get, unwrap_or}
 use Rattle.std.specs.List.{All, enumerate_from, range_with_len}
@@ -63,13 +63,13 @@ placed_sum g f a (x ∷ xs) =
     ∙ ap₂ (λ u w. g a *ℚ u +ℚ w) (ap (number_of (f x ∷ map f xs)) (let e : a - a ≡ 0 = omega arith in e)) (range_same (λ v. g v *ℚ number_of (f x ∷ map f xs) (v - a)) (λ v. g v *ℚ number_of (map f xs) (v - (a + 1))) (a + 1) (length xs) (λ v low high. ap (λ k. g v *ℚ number_of (f x ∷ map f xs) k) (let e : v - a ≡ suc (v - (a + 1)) = omega arith in e)) ∙ placed_sum g f (a + 1) xs)
     ∙ sym (sum_by_ℚ-cons _ (a, x) (enumerate_from (a + 1) xs))
 
--- what coefficients come to at values of the variables but the slacks
+-- the value of coefficients at values of the variables, with the slacks that these determine
 abbrev pub priced_at : form.Standard → List Number → List Number → Number
 priced_at s costs y =
     sum_by_ℚ (λ v. number_of costs v *ℚ number_of y v) (range_with_len 1 (length s.objective))
     +ℚ sum_by_ℚ (λ (p : ℕ × form.StandardRow). number_of costs p.0 *ℚ (p.1.right -ℚ sum_at p.1.entries y)) (enumerate_from (length s.objective + 1) s.rows)
 
--- Coefficients of the priced row: what they come to at values of the variables but the slacks, and that none is above 0.
+-- Coefficients of the priced row: their value at values of the variables, and that none is above 0.
 pub record Costs (s : form.Standard) (costs : List Number) (start : Number) (target : List Number → Number) : Type 0 where
   pub sums : (y : List Number) → length y ≡ length s.objective + 1 → number_of y 0 ≡ whole (pos 0) → priced_at s costs y ≡ start +ℚ target y
   pub below : (v : ℕ) → 1 ≤ v → number_of costs v ≤ℚ whole (pos 0)
@@ -284,7 +284,8 @@ module _ (s : form.Standard) (d : Dictionary) (is : IsDictionaryOf s d) (not_due
             let other : priced ≢ k = λ same. absurd (let clash : v ≡ 0 = sym found.1 ∙ own k found.0 same in omega arith) in
             sym (ap (entry_at d priced) (sym found.1) ∙ is.alone priced k room found.0 other)
 
-    -- what the coefficients come to, where the values fill up to a list whose sum in the priced row is known
+    -- the value of the coefficients, if the values extend to a list whose sum in the priced row is
+    -- known
     pub priced_sum : (y : List Number) (total : Number) (sized : length y ≡ length s.objective + 1) → number_of y 0 ≡ whole (pos 0) → sum_by_ℚ (λ v. entry_at d priced v *ℚ number_of (filled s y) v) (range_with_len 0 (d.variables + 1)) ≡ total → priced_at s costs y ≡ total
     priced_sum y total sized zero_there e =
         let n = length s.objective in

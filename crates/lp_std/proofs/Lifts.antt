@@ -1,4 +1,4 @@
--- Values of the variables for a point: every point has some, and what coefficients come to there.
+-- Values of the variables for a point: every point has some; and the value of coefficients there.
 use Rattle.std.proofs.Common.{◌≡◌, ℕ, suc, ◌+◌, pos, List, [], ◌∷◌, ◌++◌, length, map, Option, Some, None, refl, sym, ap, ap₂, ◌∙◌, arith, append_assoc}
 use Rattle.std.specs.Prelude.{sum_by}
 use Rattle.std.specs.List.{enumerate_from, range_with_len}
@@ -19,7 +19,8 @@ use Rattle.lp_std.proofs.Shapes.{shift_for}
 use Rattle.lp_std.proofs.Sums.{range-append}
 use Rattle.lp_std.proofs.Prices.{slack_sum, slack_sum-append, one_slack}
 
--- the values of a column's variables where the column has this value; a free one's second variable may have any
+-- the values of a column's variables at this value of the column; a free column's second variable
+-- may have any value
 abbrev pub piece : form.Shift → Number → Number → List Number
 piece (form.from_lower b) a c = (a -ℚ b) ∷ []
 piece (form.from_upper b) a c = (b -ℚ a) ∷ []
@@ -30,7 +31,7 @@ length-piece (form.from_lower b) a c = refl
 length-piece (form.from_upper b) a c = refl
 length-piece form.free a c = refl
 
--- a value behind others
+-- a value after others
 value_at : (front : List Number) (a : Number) (rest y : List Number) (v : ℕ) → y ≡ front ++ a ∷ rest → length front ≡ v → number_of y v ≡ a
 value_at front a rest y v e n = ap (λ l. number_of l v) e ∙ get_or_at front a rest (whole (pos 0)) v n
 
@@ -44,7 +45,8 @@ piece_back (form.from_upper b) front a c rest y v e n = ap (λ u. b -ℚ u) (val
 piece_back form.free front a c rest y v e n = ap₂ (λ u w. u -ℚ w) (value_at front (a +ℚ c) (c ∷ rest) y v e n) (value_next front (a +ℚ c) c rest y v e n) ∙ simp ring_ℚ
 
 module _ {F : Type 0} (value : F → Number) (costs : List Number) (n : ℕ) where
-  -- what coefficients come to at a column: a part by its value, one by the second variable's, and a constant
+  -- the share of a column in the value of coefficients: one part by its value, one by its second
+  -- variable's value, and a constant
   abbrev pub slope : ℕ → ℕ → Option F → Option F → Number
   slope v r (Some l) (Some u) = number_of costs v +ℚ form.multiplier n costs r
   slope v r (Some l) None = number_of costs v

@@ -1,4 +1,4 @@
--- That the way back gives duals and reduced costs which prove an optimum, or that there is no feasible point.
+-- The recovered duals and reduced costs prove an optimum, or that there is no feasible point.
 use Rattle.std.proofs.Common.{◌≡◌, ◌≢◌, ℕ, zero, suc, ◌+◌, ◌<◌, ◌≤◌, Bool, true, false, cond, eqb, pos, List, [], ◌∷◌, ◌++◌, length, map, Option, Some, refl, sym, ap, ap₂, ◌∙◌, subst, arith}
 use Rattle.std.specs.Prelude.{sum_by}
 use Rattle.std.specs.List.{All, zip, enumerate_from, range_with_len}
@@ -110,7 +110,7 @@ rows_over_counted {F} value columns i (row ∷ rows) =
     ∙ ap₂ (λ a b. a + b) (counted_by_sense row.sense i _) (rows_over_counted value columns (i + 1) rows)
     ∙ sym (sum_by-cons (λ (row : Row F). form.rows_of_sense row.sense) row rows)
 
--- what rows, each times its factor, and the reduced costs come to at a point
+-- the value at a point of the rows, each times its factor, and of the reduced costs
 costs_apart : {F : Type 0} (value : F → Number) (lp : Lp F) (factors x : List Number) (prices : ℕ → Number) → All (λ (row : Row F). All (λ (e : ℕ × F). e.0 < length lp.columns) row.entries) lp.rows → sum_by_ℚ (λ (p : Row F × Number). p.1 *ℚ row_sum value p.0.entries x) (zip lp.rows factors) +ℚ sum_by_ℚ (λ (q : ℕ × Column F). reduced_cost value lp prices factors q.0 *ℚ number_of x q.0) (enumerate_from 0 lp.columns) ≡ sum_by_ℚ (λ (q : ℕ × Column F). prices q.0 *ℚ number_of x q.0) (enumerate_from 0 lp.columns)
 costs_apart {F} value lp factors x prices there =
     let rows = zip lp.rows factors in
@@ -165,7 +165,7 @@ module _ {F : Type 0} (value : F → Number) (lp : Lp F) (costs : List Number) w
     lifted_point : map (λ c. form.shifted_back c lifted) (form.columns_of value lp) ≡ at_point
     lifted_point = lift_back x t shifts (whole (pos 0) ∷ []) lifted 1 0 refl refl ∙ ap (λ k. map x (range_with_len 0 k)) (length-map lp.columns (shift_for value))
 
-    -- what the coefficients come to, in terms of the program
+    -- the value of the coefficients, in terms of the program
     pub priced_sum : priced_at (form.standard_form value lp) costs lifted ≡ (weighted x 0 slopes +ℚ weighted t 0 seconds +ℚ plain constants) +ℚ neg_ℚ (sum_by_ℚ (λ (q : Row F × Number). q.1 *ℚ (value q.0.right -ℚ row_sum value q.0.entries at_point)) (zip lp.rows duals))
     priced_sum =
         let n = form.variables_of value lp in
@@ -297,7 +297,7 @@ module _ {F : Type 0} (value : F → Number) (lp : Lp F) (costs : List Number) w
             two : (k : Number) → (k +ℚ whole (pos 0)) -ℚ k ≡ whole (pos 0)
             two k = simp ring_ℚ
 
-    -- the bounds that are used come to a number, in the direction at most the start negated
+    -- the used bounds have a sum, which in the objective's direction is at most the negated start
     pub bound_is : All (λ (column : Column F). ¬ (Crosses value column.lower column.upper)) lp.columns → (t : Number) × (both (total (map (λ (q : Row F × Number). used q.1 (cond b (row_upper q.0.sense (value q.0.right)) (row_lower q.0.sense (value q.0.right))) (cond b (row_lower q.0.sense (value q.0.right)) (row_upper q.0.sense (value q.0.right)))) (zip lp.rows back))) (total (map (λ (q : ℕ × Column F). used (reduced_cost value lp prices back q.0) (cond b (bound_value value q.1.upper) (bound_value value q.1.lower)) (cond b (bound_value value q.1.lower) (bound_value value q.1.upper))) (enumerate_from 0 lp.columns))) ≡ Some t) × (form.directed b t ≤ℚ neg_ℚ start)
     bound_is ordered =
         let rows = rows_total value b (form.multiplier (form.variables_of value lp) costs) (λ k. neg-zero-≤ℚ (number_of costs (form.variables_of value lp + 1 + k)) (are.below (form.variables_of value lp + 1 + k) (omega arith))) 0 lp.rows in

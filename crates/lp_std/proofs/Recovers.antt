@@ -1,4 +1,4 @@
--- The way back put together: its steps in order, and the sizes of what is read.
+-- The recovery put together: its steps in order, and the sizes of what is read.
 use Rattle.std.proofs.Common.{◌≡◌, ℕ, ◌+◌, ◌^◌, ◌<◌, ◌≤◌, Bool, pos, List, [], ◌∷◌, ◌++◌, length, map, drop, None, refl, sym, ap, ap₂, ◌∙◌, subst, arith}
 use Rattle.std.specs.Prelude.{sum_by, flat_map, Result, Vec}
 use Rattle.std.specs.declared.alloc.Global.{Global}

@@ -35,7 +35,7 @@ base_and_change (v, form.from_lower b) y = refl
 base_and_change (v, form.from_upper b) y = simp ring_ℚ
 base_and_change (v, form.free) y = simp ring_ℚ
 
--- a coefficient of a column, told by its variables
+-- a coefficient of a column, expressed by the column's variables
 pub spread_at : (c : ℕ × form.Shift) (a : Number) (y : List Number) → sum_at (form.spread c.0 c.1 a) y ≡ a *ℚ form.changed_back c y
 spread_at (v, form.from_lower b) a y = sum_by_ℚ-cons _ (v, a) [] ∙ ap (λ u. a *ℚ number_of y v +ℚ u) (sum_by_ℚ-nil _) ∙ simp ring_ℚ
 spread_at (v, form.from_upper b) a y = sum_by_ℚ-cons _ (v, neg_ℚ a) [] ∙ ap (λ u. neg_ℚ a *ℚ number_of y v +ℚ u) (sum_by_ℚ-nil _) ∙ simp ring_ℚ
@@ -57,7 +57,7 @@ column_at-numbered n (s ∷ shifts) (suc j) h = column_at-numbered (n + form.wid
 -- ---- rows
 
 module _ {F : Type 0} (value : F → Number) (columns : List (ℕ × form.Shift)) (y : List Number) where
-  -- entries told by variables come to the row's sum at the changes
+  -- entries expressed by variables have the row's sum at the changes
   pub spread_changes : (entries : List (ℕ × F)) → All (λ (e : ℕ × F). e.0 < length columns) entries → sum_at (spread_entries value columns entries) y ≡ row_sum value entries (map (λ c. form.changed_back c y) columns)
   spread_changes [] there = sum_by_ℚ-nil _ ∙ sym (sum_by_ℚ-nil _)
   spread_changes (e ∷ entries) there =

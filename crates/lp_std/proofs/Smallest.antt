@@ -1,4 +1,5 @@
--- A program whose first dictionary is its last: one column that is at most a bound, to be greatest, in no row.
+-- A program whose first dictionary is its final one: one column, at most a bound, to maximize, in
+-- no row.
 use Rattle.std.proofs.Common.{◌≡◌, ℕ, true, pos, [], ◌∷◌, Some, None, inr, refl, sym, ap, ◌∙◌, subst, arith}
 use Rattle.std.specs.Prelude.{if◌then◌else◌, ◌==◌}
 use Rattle.std.proofs.lemmas.List.Elements.{All-nil}

@@ -37,7 +37,7 @@ module _ (k : ℕ) (c : Number) (f : ℕ → Number) where
       let other : k ≢ a = omega arith in
       sum_by_ℚ-cons _ a (range_with_len (a + 1) n) ∙ ap₂ (λ u v. u *ℚ f a +ℚ v) (unit_there k a c other) (range_past (a + 1) n (omega arith)) ∙ ap (λ u. u +ℚ whole (pos 0)) (zero-*ℚ (f a)) ∙ zero-+ℚ (whole (pos 0))
 
-  -- the sum over numbers of what is there at one of them
+  -- the sum over numbers of a term that is 0 except at one of them
   pub range_unit : (a n : ℕ) → a ≤ k → k < a + n → sum_by_ℚ (λ v. unit_at k c v *ℚ f v) (range_with_len a n) ≡ c *ℚ f k
   range_unit a zero low h = absurd (omega arith)
   range_unit a (suc n) low h =

@@ -1,4 +1,4 @@
--- The bounds that duals and reduced costs use, and what they come to.
+-- The bounds that duals and reduced costs use, and their sum.
 use Rattle.std.proofs.Common.{◌≡◌, ℕ, suc, ◌+◌, ◌<◌, ◌≤◌, Bool, true, false, cond, pos, List, [], ◌∷◌, length, map, Option, Some, None, inl, inr, refl, sym, ap, ap₂, ◌∙◌, subst, arith}
 use Rattle.std.specs.Prelude.{option_map, option_and_then}
 use Rattle.std.specs.declared.cmp.Ordering.{Ordering}
@@ -80,7 +80,7 @@ pub directed-+ℚ : (b : Bool) (x y : Number) → form.directed b (x +ℚ y) ≡
 directed-+ℚ true x y = refl
 directed-+ℚ false x y = simp ring_ℚ
 
--- what a column uses comes to at most the part that it has in the constant
+-- the bound that a column uses is at most the column's share of the constant
 abbrev UsesAtMost : {F : Type 0} → (F → Number) → Bool → Number → Number → Option F → Option F → Type 0
 UsesAtMost value b factor k lower upper = (u : Number) × (used (form.directed b factor) (cond b (bound_value value upper) (bound_value value lower)) (cond b (bound_value value lower) (bound_value value upper)) ≡ Some u) × (form.directed b u ≤ℚ neg_ℚ k)
 

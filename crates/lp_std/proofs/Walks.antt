@@ -1,4 +1,4 @@
--- The walks over columns, entries and rows, as the code takes them.
+-- The loops over columns, entries and rows, as the code runs them.
 use Rattle.std.proofs.Common.{◌≡◌, ℕ, zero, suc, ◌+◌, ◌<◌, ◌≤◌, pos, List, [], ◌∷◌, ◌++◌, length, map, get_or, take, drop, Some, None, sym, ap, ◌∙◌, arith, append_assoc}
 use Rattle.std.proofs.lemmas.List.{take_more, drop_all, append-nil, map-append}
 use Rattle.std.proofs.lemmas.Grind.{flat_map-append}

@@ -1,4 +1,4 @@
--- What the way back gives (Chvatal, Linear Programming, chapters 1, 3, 5 and 9).
+-- What the recovery gives (Chvatal, Linear Programming, chapters 1, 3, 5 and 9).
 use Rattle.std.specs.Prelude.{◌≡◌, ℕ, None}
 use Rattle.gq_number.specs.Number.{Number}
 use Rattle.lp_core.specs.declared.program.Lp.{Lp}
@@ -12,12 +12,12 @@ use Rattle.lp_std.specs.declared.stop.Stop.TheVariants as stop
 use Rattle.lp_std.specs.Meaning.{standard_value}
 
 module _ {F : Type 0} (value : F → Number) (lp : Lp F) where
-  -- this is the program's standard form, which there is where no bounds cross
+  -- this is the program's standard form, which exists if no bounds cross
   abbrev pub IsFormOf : Standard F → Type 0
   IsFormOf s = FirstCrossed value lp.columns None × (standard_value value s ≡ form.standard_form value lp)
 
 module _ {F : Type 0} (value : F → Number) (limit : ℕ) (lp : Lp F) where
-  -- Why there is no way back: a step does not fit. Want of memory has no cause.
+  -- Why the recovery fails: a step does not fit. Out of memory has no cause.
   abbrev pub HasNoWayBack : EndKind → form.Last → Stop → Type 0
   HasNoWayBack k last (stop.Limit step) = FirstStop (steps_back value limit lp k last) step
   HasNoWayBack k last (stop.Crossed j) = ⊥

@@ -1,4 +1,5 @@
--- What a last dictionary is, and what is read from it (Chvatal, Linear Programming, chapters 2, 3 and 8).
+-- What a final dictionary is, and what is read from it (Chvatal, Linear Programming, chapters 2, 3
+-- and 8).
 use Rattle.std.specs.Prelude.{◌≡◌, ◌≢◌, ◌↔◌, ◌⊎◌, ℕ, ◌+◌, ◌<◌, ◌≤◌, pos, List, map, length, slice_get, Some}
 use Rattle.std.specs.List.{All}
 use Rattle.gq_number.specs.Number.{Number, whole}
@@ -16,9 +17,10 @@ use Rattle.lp_std.specs.Meaning.{standard_value}
 abbrev pub HasZero : Dictionary → Type 0
 HasZero d = InPhaseOne d ⊎ OpeningIsDue d
 
--- A dictionary of a standard form: its basic variables are variables of the form, each told by its own row alone; and the
--- lists of values that meet it are those that meet the first dictionary, with the same objective. Where variable 0 has no part
--- this is said of lists with 0 at it. While it is basic, and no opening pivot is due, its constant is above 0.
+-- A dictionary of a standard form. Its basic variables are variables of the form, and each occurs
+-- in its own row alone. The values that satisfy it are those that satisfy the first dictionary,
+-- with the same objective; once variable 0 has left, this holds for values with 0 at variable 0.
+-- While variable 0 is basic and no opening pivot is required, its constant is above 0.
 pub record IsDictionaryOf (s : form.Standard) (d : Dictionary) : Type 0 where
   pub variables : d.variables ≡ length s.objective + length s.rows
   pub sized : length d.basic ≡ length s.rows
@@ -28,16 +30,16 @@ pub record IsDictionaryOf (s : form.Standard) (d : Dictionary) : Type 0 where
   pub same : (x : List Number) (objective : Number) → (¬ (HasZero d) → number_of x 0 ≡ whole (pos 0)) → Meets d x objective ↔ Meets (first_dictionary s) x objective
   pub zero_above : (k : ℕ) → slice_get d.basic k ≡ Some 0 → ¬ (OpeningIsDue d) → whole (pos 0) <ℚ constant_at d k
 
--- the lists of a last dictionary, as numbers
+-- the lists of a final dictionary, as numbers
 abbrev pub last_value : {F : Type 0} → (F → Number) → Final F → form.Last
 last_value value final = record { values = map value final.values; costs = map value final.costs; changes = map value final.ray }
 
--- A dictionary at which a walk may end by this kind, and what is read from it: any variable that improves may enter, and the walk
--- may be broken off where one does.
+-- A dictionary at which a search may end with this kind, and what is read from it: any improving
+-- variable may enter, and the search may be broken off while one improves.
 abbrev pub IsReadAt : Dictionary → EndKind → form.Last → Type 0
 IsReadAt d kind last = EndsAt (Improves d) ((q : ℕ) × Improves d q) d kind last
 
 module _ {F : Type 0} (value : F → Number) where
-  -- what is read from a last dictionary of this standard form
+  -- what is read from a final dictionary of this standard form
   abbrev pub IsLast : Standard F → Final F → Type 0
   IsLast s final = (d : Dictionary) × IsDictionaryOf (standard_value value s) d × IsReadAt d final.kind (last_value value final)

@@ -44,7 +44,8 @@ standard_value value s =
       constant = value s.constant;
     }
 
--- Why a program has no standard form: a column's bounds cross, or else a step does not fit. Want of memory has no cause.
+-- Why a program has no standard form: a column's bounds cross, or else a step does not fit. Out of
+-- memory has no cause.
 abbrev pub HasNoForm : {F : Type 0} → (F → Number) → ℕ → Lp F → Stop → Type 0
 HasNoForm value limit lp (stop.Limit step) = FirstCrossed value lp.columns None × FirstStop (standard_steps value limit lp) step
 HasNoForm value limit lp (stop.Crossed j) = FirstCrossed value lp.columns (Some j)

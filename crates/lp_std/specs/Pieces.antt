@@ -1,4 +1,5 @@
--- What the pieces of the code promise each other: the first step that does not fit, and rows over columns with their numbers.
+-- What the functions of this crate promise each other: the first step that does not fit, and rows
+-- over columns with their numbers.
 use Rattle.std.specs.Prelude.{◌≡◌, ℕ, ◌+◌, ◌==◌, if◌then◌else◌, pos, true, false, List, [], ◌∷◌, ◌++◌, map, flat_map, length, sum_by, Option, Some, None, Result, Ok, Err, Vec}
 use Rattle.std.specs.declared.alloc.Global.{Global}
 use Rattle.std.specs.List.{enumerate_from}
@@ -32,7 +33,7 @@ first_stop [] = None
 first_stop ((name, true) ∷ steps) = first_stop steps
 first_stop ((name, false) ∷ steps) = Some name
 
--- what stops is the first of these steps that does not fit; want of memory has no cause
+-- what stops is the first of these steps that does not fit; out of memory has no cause
 abbrev pub StopsAt : List Due → Stop → Type 0
 StopsAt steps (stop.Limit step) = first_stop steps ≡ Some step
 StopsAt steps (stop.Crossed j) = ⊥
@@ -48,7 +49,7 @@ right_after value columns right [] = right
 right_after value columns right (e ∷ entries) =
     right_after value columns (right -ℚ value e.1 *ℚ form.base (form.column_at columns e.0).1) entries
 
--- the entries of a row, each column told by its variables
+-- the entries of a row, each column expressed by its variables
 abbrev pub spread_entries : {F : Type 0} → (F → Number) → List (ℕ × form.Shift) → List (ℕ × F) → List (ℕ × Number)
 spread_entries {F} value columns entries =
     flat_map (λ (e : ℕ × F). form.spread (form.column_at columns e.0).0 (form.column_at columns e.0).1 (value e.1)) entries
@@ -87,7 +88,8 @@ sense_steps value limit columns r row =
 abbrev pub bound_row_of : ℕ → ℕ → Number → form.StandardRow
 bound_row_of j v right = record { right = right; entries = (v, whole (pos 1)) ∷ []; origin = form.of_bound j }
 
--- the row of a column is put at the end of rows, if it has two bounds, or its step does not fit
+-- the row of a column with two bounds is appended to the rows, or its step does not fit; other
+-- columns add nothing
 abbrev pub BoundsPush : {F : Type 0} → (F → Number) → ℕ → ℕ → ℕ → Column F → List (StdRow F) → List (StdRow F) → Result (Unit {0}) Stop → Type 0
 BoundsPush value limit j v column old new (Ok u) =
     (first_stop (bound_step limit (length old + 1) j (bound_value value column.lower) (bound_value value column.upper)) ≡ None)
@@ -95,14 +97,14 @@ BoundsPush value limit j v column old new (Ok u) =
 BoundsPush value limit j v column old new (Err stop) =
     StopsAt (bound_step limit (length old + 1) j (bound_value value column.lower) (bound_value value column.upper)) stop
 
--- ---- the way back
+-- ---- the recovery
 
--- what is computed by these steps: the number where all fit, and else the first that does not
+-- the result of these steps: the number if all fit, and else the first that does not
 abbrev pub Computes : {F : Type 0} → (F → Number) → List Due → Number → Result F StepName → Type 0
 Computes value steps x (Ok y) = (first_stop steps ≡ None) × (value y ≡ x)
 Computes value steps x (Err step) = first_stop steps ≡ Some step
 
--- the same of a list of numbers
+-- the result of these steps for a list of numbers
 abbrev pub ComputesAll : {F : Type 0} → (F → Number) → List Due → List Number → Result (Vec F Global) Stop → Type 0
 ComputesAll value steps xs (Ok ys) = (first_stop steps ≡ None) × (map value ys.items ≡ xs)
 ComputesAll value steps xs (Err stop) = StopsAt steps stop
@@ -115,11 +117,12 @@ slack_multiplier value slacks r = neg_ℚ (number_of (map value slacks) r)
 abbrev pub dual_step : ℕ → (ℕ → Number) → ℕ → ℕ → Sense → List Due
 dual_step limit p i r sense = if form.rows_of_sense sense == 2 then (Recover 2 i 0 1, difference_fits limit (p r) (p (r + 1))) ∷ [] else []
 
--- the step on the reduced cost of column j, whose first variable is v and whose own standard row has place r
+-- the step on the reduced cost of column j, whose first variable is v and whose standard row has
+-- place r
 abbrev pub reduced_step : {F : Type 0} → ℕ → List Number → (ℕ → Number) → ℕ → ℕ → ℕ → Option F → Option F → List Due
 reduced_step limit costs p j v r lower upper = if form.rows_of_bounds lower upper == 1 then (Recover 3 j 0 1, sum_fits limit (number_of costs v) (p r)) ∷ [] else []
 
--- the same of an end of which this is to hold
+-- the result of these steps for an end with this property
 abbrev pub ComputesEnd : {F : Type 0} → List Due → (End F → Type 0) → Result (End F) Stop → Type 0
 ComputesEnd steps P (Ok end) = (first_stop steps ≡ None) × P end
 ComputesEnd steps P (Err stop) = StopsAt steps stop
@@ -128,11 +131,11 @@ ComputesEnd steps P (Err stop) = StopsAt steps stop
 abbrev pub IsSized : {F : Type 0} → (F → Number) → Lp F → ℕ → Type 0
 IsSized {F} value lp n = n ≡ form.variables_of value lp + (count_of_rows lp.rows + sum_by (λ (column : Column F). form.rows_of_bounds column.lower column.upper) lp.columns) + 1
 
--- there is a ray where the walk ended so
+-- there is a ray if the end is Unbounded
 abbrev pub HasRay : EndKind → Type 0 → Type 0
 HasRay kind.Unbounded P = P
 HasRay other P = Unit {0}
 
--- the lists of a last dictionary have an entry for each variable
+-- the lists of a final dictionary have an entry for each variable
 abbrev pub AreSized : {F : Type 0} → (F → Number) → Lp F → Final F → Type 0
 AreSized value lp final = IsSized value lp (length final.values) × IsSized value lp (length final.costs) × HasRay final.kind (IsSized value lp (length final.ray))

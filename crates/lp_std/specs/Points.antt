@@ -7,7 +7,8 @@ use Rattle.gq_number.specs.Sums.{sum_by_ℚ}
 use Rattle.lp_core.specs.Sums.{number_of}
 use Rattle.lp_core.specs.StandardForm.{Standard, StandardRow}
 
--- A list has the values of all variables by their numbers, that of variable 0 first; a variable past its end has the value 0.
+-- A list has the values of all variables by their numbers, beginning with variable 0; a variable
+-- past its end has the value 0.
 
 -- each value is at least 0
 abbrev pub AreAtLeastZero : List Number → Type 0

@@ -1,4 +1,4 @@
-//! The way back from what is read off a last dictionary to an answer of the program.
+//! The recovery: from what is read from a final dictionary to an answer of the program.
 ghost use Rattle.std.specs.Prelude.{◌≡◌, ◌≤◌, ◌+◌, ◌++◌, length, map, None, IfOk, IfErr};
 ghost use Rattle.std.specs.List.{All};
 ghost use Rattle.lp_core.specs.Proofs.{row_sums, IsProved};
@@ -29,7 +29,7 @@ struct Point<F> {
     row_levels: Vec<F>,
 }
 
-/// The point that a last dictionary stands for.
+/// The point of a final dictionary.
 fn point_of<F: ExactField>(
     alloc: Global,
     lp: &Lp<F>,
@@ -102,7 +102,7 @@ fn columns_back<F: ExactField>(
     )
 }
 
-/// The optimum that a last dictionary stands for.
+/// The optimum of a final dictionary.
 fn optimum<F: ExactField>(
     alloc: Global,
     lp: &Lp<F>,
@@ -129,7 +129,7 @@ fn optimum<F: ExactField>(
     })
 }
 
-/// The factors of rows that a last dictionary of phase 1 stands for.
+/// The factors of rows from a final dictionary of phase 1.
 fn infeasible<F: ExactField>(
     alloc: Global,
     lp: &Lp<F>,
@@ -149,7 +149,7 @@ fn infeasible<F: ExactField>(
     })
 }
 
-/// The point and the ray that a last dictionary stands for.
+/// The point and the ray of a final dictionary.
 fn unbounded<F: ExactField>(
     alloc: Global,
     lp: &Lp<F>,
@@ -172,7 +172,7 @@ fn unbounded<F: ExactField>(
     })
 }
 
-/// The point at which the walk was broken off.
+/// The point at which the search was broken off.
 fn interrupted<F: ExactField>(
     alloc: Global,
     lp: &Lp<F>,
@@ -193,7 +193,7 @@ fn interrupted<F: ExactField>(
     })
 }
 
-/// The end by the kind of what was read off.
+/// The end of this kind, from what was read.
 pub(crate) fn led_back<F: ExactField>(
     alloc: Global,
     lp: &Lp<F>,
@@ -217,16 +217,17 @@ pub(crate) fn led_back<F: ExactField>(
     }
 }
 
-/// The answer that the last dictionary of a program's standard form stands for, as in Chvatal, Linear Programming, chapters 1,
-/// 5 and 9.
+/// The answer of a program by the final dictionary of its standard form, as in Chvatal, Linear
+/// Programming, chapters 1, 5 and 9.
 ///
-/// `dict` has what was read off the dictionary. At `Optimal` the end has the levels of columns and rows, the duals of rows and
-/// the reduced costs of columns; at `Infeasible` factors of the rows; at `Unbounded` levels and a ray; at `Interrupted` the
-/// levels of phase 2. The dual of a row is told by the coefficients of its slacks, and a reduced cost by those of the column's
-/// variables and of the slack of its own row; minimizing, both are negated.
+/// `dict` has what was read from the dictionary. At `Optimal` the end has the levels of columns and
+/// rows, the duals of rows and the reduced costs of columns; at `Infeasible` factors of the rows;
+/// at `Unbounded` levels and a ray; at `Interrupted` the levels of phase 2. The coefficients of a
+/// row's slacks determine its dual. Those of a column's variables, and of the slack of the column's
+/// row, determine its reduced cost. When minimizing, both are negated.
 ///
-/// `Limit` comes where a step does not fit under the limit of the field, with the first such step: levels, row levels, duals,
-/// reduced costs, then the ray.
+/// `Limit` has the first step that does not fit under the limit of the field, in the order levels,
+/// row levels, duals, reduced costs, ray.
 pub fn recover<F: ExactField>(
     alloc: Global,
     lp: &Lp<F>,

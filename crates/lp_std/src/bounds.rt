@@ -11,7 +11,7 @@ use gq_field::ExactField;
 use lp_core::Column;
 use std::alloc::{AllocError, Global};
 
-/// Whether the lower bound of a column passes its upper one.
+/// Whether the lower bound of a column exceeds its upper bound.
 fn crosses<F: ExactField>(column: &Column<F>) -> bool
     ensures { IsTrue result ↔ Crosses F.value column.now.lower column.now.upper }
 {
@@ -21,7 +21,7 @@ fn crosses<F: ExactField>(column: &Column<F>) -> bool
     }
 }
 
-/// The first column whose lower bound passes its upper one.
+/// The first column whose lower bound exceeds its upper bound.
 pub(crate) fn first_crossed<F: ExactField>(columns: &[Column<F>]) -> Option<u32>
     requires { length columns.now < 2 ^ 32 }
     ensures { FirstCrossed F.value columns.now result }

@@ -1,4 +1,4 @@
-//! The way back to the duals of rows and the reduced costs of columns.
+//! The recovery of the duals of rows and the reduced costs of columns.
 ghost use Rattle.std.specs.Prelude.{◌≡◌, ◌≤◌, ◌<◌, ◌+◌, length, map, sum_by};
 ghost use Rattle.std.specs.List.{All};
 ghost use Rattle.gq_number.specs.Number.{neg_ℚ};
@@ -39,7 +39,8 @@ pub(crate) fn count_rows<F: ExactField>(rows: &[Row<F>]) -> u32
     count
 }
 
-/// The dual of a row of this sense, of which the first standard row has this place, or the step that does not fit.
+/// The dual of a row of this sense, whose first standard row has this place, or the step that does
+/// not fit.
 fn dual_of<F: ExactField>(i: u64, sense: Sense, slacks: &[F], place: u32) -> Result<F, StepName>
     requires { place + form.rows_of_sense sense ≤ length slacks.now }
     ensures { Computes F.value (dual_step F.limit (slack_multiplier F.value slacks.now) i place sense)
@@ -62,7 +63,7 @@ fn dual_of<F: ExactField>(i: u64, sense: Sense, slacks: &[F], place: u32) -> Res
     }
 }
 
-/// The dual of each row by the coefficients of the slacks; negated unless the objective is to be greatest.
+/// The dual of each row by the coefficients of the slacks; negated when minimizing.
 pub(crate) fn duals_of<F: ExactField>(
     alloc: Global,
     rows: &[Row<F>],
@@ -84,7 +85,7 @@ pub(crate) fn duals_of<F: ExactField>(
     Ok(duals)
 }
 
-/// How many rows of the standard form a column has of its own.
+/// How many rows of the standard form a column's bounds add.
 fn rows_by_bounds<F: ExactField>(column: &Column<F>) -> u32
     ensures { result ≡ form.rows_of_bounds column.now.lower column.now.upper }
 {
@@ -94,8 +95,8 @@ fn rows_by_bounds<F: ExactField>(column: &Column<F>) -> u32
     }
 }
 
-/// The reduced cost of a column, of which the first variable and the own standard row are given, or the step that does not
-/// fit.
+/// The reduced cost of a column, given its first variable and its standard row, or the step that
+/// does not fit.
 fn reduced_of<F: ExactField>(
     j: u64,
     column: &Column<F>,
@@ -128,7 +129,7 @@ fn reduced_of<F: ExactField>(
     }
 }
 
-/// The reduced cost of each column by the coefficients of all variables; negated unless the objective is to be greatest.
+/// The reduced cost of each column by the coefficients of all variables; negated when minimizing.
 ///
 /// `first` is the place of the first standard row that comes from a column.
 pub(crate) fn reduced_costs_of<F: ExactField>(

@@ -17,14 +17,14 @@ use gq_field::ExactField;
 use lp_core::{Lp, Sequence};
 use std::alloc::{AllocError, Global};
 
-/// A number kept where the objective is to be greatest, and negated where it is to be least.
+/// A number unchanged when maximizing, and negated when minimizing.
 pub(crate) fn directed<F: ExactField>(maximize: bool, x: F) -> F
     ensures { F.value result ≡ form.directed maximize (F.value x) }
 {
     if maximize { x } else { x.neg() }
 }
 
-/// The bound that a shift counts from, 0 where there is none.
+/// The bound that a shift counts from; 0 without one.
 fn base_of<F: ExactField>(shift: Shift<F>) -> F
     ensures { F.value result ≡ form.base (shift_value F.value shift) }
 {
@@ -35,14 +35,14 @@ fn base_of<F: ExactField>(shift: Shift<F>) -> F
     }
 }
 
-/// A number where a test holds, else 0.
+/// A number if a test holds, else 0.
 fn kept_if<F: ExactField>(kept: bool, x: F) -> F
     ensures { F.value result ≡ if kept then F.value x else whole (pos 0) }
 {
     if kept { x } else { F::zero() }
 }
 
-/// The coefficient of a variable in a multiple of a column, the first variable of which has this number.
+/// The coefficient of a variable in a multiple of a column whose first variable has this number.
 fn coefficient_at<F: ExactField>(variable: u32, first: u32, shift: Shift<F>, factor: F) -> F
     requires { first + 1 < 2 ^ 32 }
     ensures { F.value result ≡ sum_by_ℚ (λ e. if e.0 == variable then e.1 else whole (pos 0))
@@ -60,7 +60,7 @@ fn coefficient_at<F: ExactField>(variable: u32, first: u32, shift: Shift<F>, fac
     }
 }
 
-/// The coefficients of a multiple of a column, for so many variables from number 1.
+/// The coefficients of a multiple of a column, for `count` variables from number 1.
 fn objective_of<F: ExactField>(
     alloc: Global,
     count: u32,
@@ -89,7 +89,7 @@ struct Objective<F> {
     constant: F,
 }
 
-/// The objective that is a column with this number of its first variable and this shift.
+/// The objective for an objective column with this first variable and this shift.
 fn objective_at<F: ExactField>(
     alloc: Global,
     count: u32,
@@ -112,7 +112,8 @@ fn objective_at<F: ExactField>(
     })
 }
 
-/// The rows of the standard form of a program, by its columns with the numbers of their first variables.
+/// The rows of the standard form of a program, by its columns with the numbers of their first
+/// variables.
 fn all_rows<F: ExactField>(
     alloc: Global,
     columns: &[(u32, Shift<F>)],
@@ -151,15 +152,17 @@ fn formed<F: ExactField>(alloc: Global, lp: &Lp<F>) -> Result<Standard<F>, Stop>
     })
 }
 
-/// The standard form of a program: each column told by variables that are at least 0, each row at most its right side, and
-/// the objective to be greatest, as in Chvatal, Linear Programming, chapter 1.
+/// The standard form of a program: variables that are at least 0 express each column, each row is
+/// at most its right side, and the objective is to maximize, as in Chvatal, Linear Programming,
+/// chapter 1.
 ///
-/// A column with a lower bound is that bound plus a variable; one with an upper bound alone is that bound less a variable;
-/// one without bounds is the difference of two. A `=l=` row keeps its sign, a `=g=` row is negated, an `=e=` row gives both,
-/// an `=n=` row none; each column with two bounds gives a row after these. The bounds are taken out of the right sides.
+/// A column with a lower bound is that bound plus a variable; one with only an upper bound is that
+/// bound less a variable; one without bounds is the difference of two variables. A `=l=` row keeps
+/// its sign, a `=g=` row is negated, an `=e=` row gives both, an `=n=` row none; after these, each
+/// column with two bounds gives a row. The bounds are taken out of the right sides.
 ///
-/// `Crossed` comes where the lower bound of a column passes its upper one, with the first such column; it is looked for
-/// first. `Limit` comes where a step does not fit under the limit of the field, with the first such step.
+/// `Crossed` has the first column whose lower bound exceeds its upper bound; it is looked for
+/// first. `Limit` has the first step that does not fit under the limit of the field.
 pub fn standard<F: ExactField>(alloc: Global, lp: &Lp<F>) -> Result<Standard<F>, Stop>
     requires well_formed { IsWellFormed F.value lp.now }
     ensures form { IfOk result (λ s. standard_value F.value s ≡ form.standard_form F.value lp.now) }

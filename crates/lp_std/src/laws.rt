@@ -1,4 +1,4 @@
-//! What a standard form has to do with its program: a law on a function with an empty body.
+//! How a standard form relates to its program: a law on a function with an empty body.
 ghost use Rattle.std.specs.Prelude.{◌≡◌, ◌↔◌, ℕ, List};
 ghost use Rattle.gq_number.specs.Number.{Number};
 ghost use Rattle.lp_core.specs.declared.program.Lp.{Lp};
@@ -10,9 +10,9 @@ ghost use Rattle.lp_std.specs.Points.{AreAtLeastZero, KeepsRows, objective_at};
 
 use gq_field::ExactField;
 
-/// Values of variables that are at least 0 keep the rows of a standard form exactly where the point that they stand for is
-/// feasible; and the objective at them is that of the point, negated where it is to be least: Chvatal, Linear Programming,
-/// chapter 1.
+/// Values of variables that are at least 0 satisfy the rows of a standard form exactly if the point
+/// that they express is feasible. Their objective is that of the point, negated when minimizing:
+/// Chvatal, Linear Programming, chapter 1.
 pub fn same_points<F: ExactField>()
     ensures points { (lp : Lp F) (y : List Number) → IsWellFormed F.value lp → AreAtLeastZero y →
         KeepsRows (standard_form F.value lp) y ↔ Feasible F.value lp (point_of (standard_form F.value lp) y) }

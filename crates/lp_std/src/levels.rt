@@ -1,4 +1,4 @@
-//! The way back to a point: the levels of columns and rows, and the ray.
+//! The recovery of a point: the levels of columns and rows, and the ray.
 ghost use Rattle.std.specs.Prelude.{◌≡◌, ◌≤◌, ◌<◌, ◌+◌, ◌^◌, [], ◌∷◌, pos, length, map, flat_map, Ok, Err, MatchResult};
 ghost use Rattle.std.specs.List.{All, enumerate_from};
 ghost use Rattle.gq_number.specs.Number.{whole, ◌+ℚ◌, ◌*ℚ◌};
@@ -16,7 +16,7 @@ use gq_field::{ExactField, Limit};
 use lp_core::{Row, StepName};
 use std::alloc::Global;
 
-/// The number that a step gave, or the step where it does not fit.
+/// The number that a step gave, or the step if it does not fit.
 pub(crate) fn or_step<F: ExactField>(
     answer: Result<F, Limit>,
     step: StepName,
@@ -69,7 +69,7 @@ pub(crate) fn levels_of<F: ExactField>(
     Ok(levels)
 }
 
-/// A sum and one more product, or the step that does not fit.
+/// A sum plus one more product, or the step that does not fit.
 fn plus_product<F: ExactField>(
     i: u64,
     entry: u32,

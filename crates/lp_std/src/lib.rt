@@ -1,4 +1,5 @@
-//! Floor 4, linear programs. Linear programs in standard form, and the way back from a last dictionary to an answer of the program.
+//! Layer 4, linear programs. Linear programs in standard form, and the recovery: from a final
+//! dictionary to an answer of the program.
 #![tactic(auto)]
 
 mod back;

@@ -1,4 +1,5 @@
-//! Rows of the standard form: those of the program's rows, and those of its columns with two bounds.
+//! Rows of the standard form: those of the program's rows, and those of its columns with two
+//! bounds.
 ghost use Rattle.std.specs.Prelude.{◌≡◌, ◌≤◌, ◌<◌, ◌+◌, ◌-◌, ◌^◌, ◌++◌, length, map, sum_by, None, Some, IfOk, IfErr, OnOk};
 ghost use Rattle.std.specs.List.{All};
 ghost use Rattle.gq_number.specs.Number.{◌-ℚ◌, ◌*ℚ◌, neg_ℚ};
@@ -25,7 +26,8 @@ fn bound_of<F: ExactField>(shift: Shift<F>) -> Option<F>
     }
 }
 
-/// The right side of a standard row after the bound of one column is taken out, or the step that does not fit.
+/// The right side of a standard row after the bound of one column is taken out, or the step that
+/// does not fit.
 fn taken_out<F: ExactField>(
     row: u32,
     column: u32,
@@ -56,7 +58,8 @@ fn taken_out<F: ExactField>(
     Ok(next)
 }
 
-/// The right side of a standard row after the bounds of its columns are taken out, or the first step that does not fit.
+/// The right side of a standard row after the bounds of its columns are taken out, or the first
+/// step that does not fit.
 fn right_of<F: ExactField>(
     row: u32,
     columns: &[(u32, Shift<F>)],
@@ -80,7 +83,7 @@ fn right_of<F: ExactField>(
     Ok(left)
 }
 
-/// Puts a coefficient of a column at the end, told by the column's variables.
+/// Appends a coefficient of a column, expressed by the column's variables.
 fn push_spread<F: ExactField>(
     entries: &mut Vec<(u32, F)>,
     first: u32,
@@ -102,7 +105,7 @@ fn push_spread<F: ExactField>(
     Ok(())
 }
 
-/// The entries of a row, each column told by its variables.
+/// The entries of a row, each column expressed by its variables.
 fn spread_row<F: ExactField>(
     alloc: Global,
     columns: &[(u32, Shift<F>)],
@@ -178,7 +181,7 @@ fn shifted_row<F: ExactField>(
     })
 }
 
-/// Puts the standard rows of a row at the end, by its sense.
+/// Appends the standard rows of a row, by its sense.
 fn push_by_sense<F: ExactField>(
     alloc: Global,
     rows: &mut Vec<StdRow<F>>,
@@ -202,7 +205,7 @@ fn push_by_sense<F: ExactField>(
     Ok(())
 }
 
-/// Puts the standard rows of a row of the program at the end.
+/// Appends the standard rows of a row of the program.
 fn push_row<F: ExactField>(
     alloc: Global,
     rows: &mut Vec<StdRow<F>>,
@@ -273,7 +276,7 @@ fn bound_row<F: ExactField>(
     })
 }
 
-/// Puts the row of a column at the end, if the column has two bounds.
+/// Appends the row of a column, if the column has two bounds.
 fn push_bound_row<F: ExactField>(
     alloc: Global,
     rows: &mut Vec<StdRow<F>>,
@@ -300,7 +303,7 @@ fn push_bound_row<F: ExactField>(
     Ok(())
 }
 
-/// The rows with those of columns with two bounds behind them.
+/// The rows, followed by those of columns with two bounds.
 pub(crate) fn with_bound_rows<F: ExactField>(
     alloc: Global,
     rows: Vec<StdRow<F>>,

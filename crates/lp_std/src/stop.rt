@@ -1,4 +1,4 @@
-//! Why there is no standard form, or no way back.
+//! Why a program has no standard form, or an answer no recovery.
 ghost use Rattle.std.specs.Prelude.{◌≡◌};
 ghost use Rattle.lp_std.specs.declared.stop.Stop.TheVariants.{Limit, Memory};
 
@@ -6,7 +6,7 @@ use lp_core::StepName;
 use std::alloc::{AllocError, AllocFailed};
 use thiserror::Error;
 
-/// Why there is no standard form, or no way back.
+/// Why a program has no standard form, or an answer no recovery.
 #[derive(Clone, Copy, Debug, Error)]
 pub enum Stop {
     /// The first step that exceeds the field's limit.

@@ -1,7 +1,7 @@
 //! A program in standard form.
 use lp_core::{EndKind, Sequence};
 
-/// How a column of a program is told by variables that are at least 0.
+/// How variables that are at least 0 express a column of a program.
 #[derive(Clone, Copy)]
 pub enum Shift<F> {
     /// The column is this lower bound plus its variable.
@@ -44,10 +44,11 @@ impl<F: Drop> Drop for StdRow<F> {
     }
 }
 
-/// A program in standard form: variables that are at least 0, rows at most their right sides, an objective to be greatest.
+/// A program in standard form: variables that are at least 0, rows at most their right sides, and
+/// an objective to maximize.
 ///
-/// The variables of the columns have the numbers from 1 in the order of the columns, a free column having two; then come
-/// the slacks in the order of the rows. Chvatal, Linear Programming, chapter 1.
+/// The variables of the columns have the numbers from 1 in the order of the columns, two for a free
+/// column. The slacks follow in the order of the rows. Chvatal, Linear Programming, chapter 1.
 pub struct Standard<F> {
     /// The shift of each column of the program.
     pub shifts: Sequence<Shift<F>>,
@@ -71,15 +72,16 @@ impl<F: Drop> Drop for Standard<F> {
     }
 }
 
-/// What is read off a last dictionary; the lists have one entry for each variable, from number 0.
+/// What is read from a final dictionary; the lists have one entry for each variable, from number 0.
 pub struct Final<F> {
-    /// How the walk came to its end.
+    /// How the search ended.
     pub kind: EndKind,
     /// The value of each variable at the dictionary's point.
     pub values: Sequence<F>,
-    /// The coefficient of each variable: in the row of variable 0 where infeasible, else in the objective.
+    /// The coefficient of each variable: in the row of variable 0 if infeasible, else in the
+    /// objective.
     pub costs: Sequence<F>,
-    /// The direction without end where unbounded, else an empty list.
+    /// The direction of unbounded gain if unbounded, else an empty list.
     pub ray: Sequence<F>,
 }
 

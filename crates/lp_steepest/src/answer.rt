@@ -13,14 +13,17 @@ use lp_core::{Answer, Lp};
 use lp_turn::solve_with;
 use std::alloc::{AllocError, Global};
 
-/// The answer of a program by steepest edge over the rows that limit a variable, found by at most `iterlim` pivots: Goldfarb and
-/// Reid, "A practicable steepest-edge simplex algorithm"; Chvatal, Linear Programming, chapters 2 and 3.
+/// The answer of a program by steepest edge over the rows that limit a variable, found by at most
+/// `iterlim` pivots: Goldfarb and Reid, "A practicable steepest-edge simplex algorithm"; Chvatal,
+/// Linear Programming, chapters 2 and 3.
 ///
-/// Of the tied variables the least leaves; once as many pivots on end as there are variables gained nothing, Bland's rule takes
-/// over to the end of the phase. Optimal, Infeasible and Unbounded come with what proves them. Interrupted comes after exactly
-/// `iterlim` pivots where a further one is due, and Refused with the first step that does not fit under the limit of the field.
-/// The turn bounds the pivots, and with a limit of at least the bound the end is not Interrupted. No contract states which of the
-/// variables that improve enters before the turn: no answer rests on it. The error is out of memory.
+/// Of the tied variables the least leaves. After as many successive pivots without gain as there
+/// are variables, Bland's rule takes over to the end of the phase. Optimal, Infeasible and
+/// Unbounded come with their certificates. Interrupted is the end after exactly `iterlim` pivots
+/// when a further one is required. Refused has the first step that does not fit under the limit of
+/// the field. The turn bounds the pivots, and with a limit of at least the bound the end is not
+/// Interrupted. No contract states which improving variable enters before the turn: no answer
+/// depends on it. The error is out of memory.
 pub fn solve_in<F: ExactField>(
     alloc: Global,
     lp: &Lp<F>,

@@ -1,7 +1,7 @@
 //! The variables with the greatest coefficients.
 use crate::size::Size;
 
-/// How many variables are kept at most.
+/// The greatest number of variables in the list.
 pub(crate) const MOST: usize = 128;
 
 /// A variable, and the size of its coefficient.
@@ -11,20 +11,22 @@ pub(crate) struct Leader {
     pub(crate) gain: Size,
 }
 
-/// The variables with the greatest coefficients of those that were added, and of equal ones the first.
+/// The variables with the greatest coefficients of those that were added, and of equal ones the
+/// first.
 #[derive(Drop)]
 pub(crate) struct Leaders {
     list: [Leader; MOST],
-    /// How many there are.
+    /// How many variables the list has.
     count: usize,
-    /// How many there may be.
+    /// How many variables the list may have.
     room: usize,
-    /// The place of the last one where there is no room: that with the least coefficient, and of equal ones with the greatest variable.
+    /// When the list is full, the place of the variable with the least coefficient, and of equal
+    /// ones the greatest.
     last: usize,
 }
 
 impl Leaders {
-    /// None yet, with room for so many.
+    /// An empty list that holds at most `room` variables.
     pub(crate) fn new(room: usize) -> Leaders {
         let none = Leader {
             variable: 0,
@@ -38,7 +40,7 @@ impl Leaders {
         }
     }
 
-    /// The variable at a place; none behind the last one.
+    /// The variable at a place; none past the end.
     pub(crate) fn at(&self, place: usize) -> Option<Leader> {
         if place < self.count && place < MOST {
             Some(self.list[place])
@@ -47,13 +49,14 @@ impl Leaders {
         }
     }
 
-    /// Whether the first comes after the second: its coefficient is less, or as great and its variable greater.
+    /// Whether the first comes after the second: its coefficient is less, or equal and its variable
+    /// greater.
     fn is_after(first: Leader, second: Leader) -> bool {
         let order = first.gain.compare(second.gain);
         order.is_lt() || (order.is_eq() && first.variable > second.variable)
     }
 
-    /// Finds the last one.
+    /// Finds the place of the last one.
     fn find_last(&mut self) {
         let mut last = 0;
         for place in 1..MOST {
@@ -64,8 +67,8 @@ impl Leaders {
         self.last = last;
     }
 
-    /// Adds a variable that is greater than those before; where there is no room, in the place of the last one, if its coefficient is
-    /// greater.
+    /// Adds a variable that is greater than those before it. If the list is full, it replaces the
+    /// last one, provided that its coefficient is greater.
     pub(crate) fn add(&mut self, other: Leader) {
         if self.count < self.room && self.count < MOST {
             self.list[self.count] = other;

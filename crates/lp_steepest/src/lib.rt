@@ -1,4 +1,5 @@
-//! Floor 4, linear programs. Rules that weigh the variables that improve, and steepest edge over the rows that limit them.
+//! Layer 4, linear programs. Rules that weigh the improving variables, and steepest edge over the
+//! rows that limit them.
 #![tactic(auto)]
 
 mod answer;

@@ -7,9 +7,10 @@ use gq_field::ExactField;
 use lp_dict::Dict;
 use lp_turn::Picking;
 
-/// The rule by which the variable enters along whose edge the objective grows most for the length, where the length counts the
-/// rows that limit the variable: Goldfarb and Reid, "A practicable steepest-edge simplex algorithm"; Chvatal, Linear
-/// Programming, chapter 2. It remembers nothing.
+/// Steepest edge over limiting rows: the variable enters along whose edge the objective grows most
+/// for its length, where the length counts the rows that limit the variable: Goldfarb and Reid, "A
+/// practicable steepest-edge simplex algorithm"; Chvatal, Linear Programming, chapter 2. It
+/// remembers nothing.
 #[derive(Drop)]
 pub(crate) struct Limiting;
 

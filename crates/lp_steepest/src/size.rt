@@ -7,15 +7,17 @@ const LEAST: i32 = -1_000_000;
 /// The least number of more than one word.
 const WORD: u128 = 1 << 64;
 
-/// A number by which that of one word is divided in one word, to at least 32 bits.
+/// A divisor for a number of one word in one word, to at least 32 bits.
 const HALF: u128 = 1 << 32;
 
-/// A number by which any is divided in two words, to at least 32 bits.
+/// A divisor for any number in two words, to at least 32 bits.
 const SHORT: u128 = 1 << 95;
 
-/// A number of at least 0, to its 32 leading bits: a word times a power of two. The steps are the same on every machine.
+/// A number of at least 0, to its 32 leading bits: a word times a power of two. The steps are the
+/// same on every machine.
 ///
-/// A size orders variables and nothing else: no contract states how near it is to the number, and no answer rests on it.
+/// A size only orders variables: no contract states how near it is to the number, and no answer
+/// depends on it.
 #[derive(Clone, Copy)]
 pub(crate) struct Size {
     /// The exponent of two.
@@ -46,8 +48,8 @@ fn leading_of_two(words: u128, exponent: i32) -> Size {
     leading(top, exponent.wrapping_add(64 - zeros as i32))
 }
 
-/// The leading 64 bits of a quotient and those before them, by its bits one by one: a number below a power of two times it, which
-/// fits in two words where the quotient is below 2 to the power of 64.
+/// A quotient to its leading 64 bits, found bit by bit: at most the quotient times a power of two.
+/// It fits in two words if the quotient is below 2^64.
 fn quotient_by_bits(numerator: u128, denominator: u128) -> u128 {
     let Some(mut quotient) = numerator.checked_div(denominator) else {
         return 0;
@@ -70,7 +72,7 @@ impl Size {
         leading_of_two(number, 0)
     }
 
-    /// The size of a fraction of two numbers below 2 to the power of 127; that of 0 where the denominator is 0.
+    /// The size of a fraction of two numbers below 2^127; 0 if the denominator is 0.
     pub(crate) fn of_ratio(numerator: u128, denominator: u128) -> Size {
         if denominator == 1 {
             return Size::of(numerator);
@@ -111,7 +113,7 @@ impl Size {
         )
     }
 
-    /// The size of the quotient; 0 where the other is 0.
+    /// The size of the quotient; 0 if the other is 0.
     pub(crate) fn over(self, other: Size) -> Size {
         let word = match self.word.wrapping_shl(32).checked_div(other.word) {
             Some(word) => word,

@@ -17,9 +17,9 @@ use lp_slot::{LpSolver, SolverRule};
 use std::alloc::{AllocError, Global};
 use std::marker::Model;
 
-/// The solver by steepest edge over the rows that limit a variable: Goldfarb and Reid, "A practicable steepest-edge simplex
-/// algorithm". Of the tied variables the least leaves; where pivots gain nothing for long it turns to Bland's rule, which does
-/// not cycle.
+/// The solver by steepest edge over the rows that limit a variable: Goldfarb and Reid, "A
+/// practicable steepest-edge simplex algorithm". Of the tied variables the least leaves. After long
+/// without gain it turns to Bland's rule, which does not cycle.
 #[derive(Drop)]
 pub struct Steepest {
     taken: Vec<Sequence<Pivot>>,
@@ -64,8 +64,9 @@ impl LpSolver for Steepest {
         self.taken.as_slice()
     }
 
-    /// An answer of a program by steepest edge with the turn to Bland's rule: its pivots are legal, and Bland's once the turn has
-    /// come. The turn bounds the pivots, and with a limit of at least the bound the end is not Interrupted.
+    /// An answer of a program by steepest edge with the turn to Bland's rule: its pivots are legal,
+    /// and Bland's after the turn. The turn bounds the pivots, and with a limit of at least the
+    /// bound the end is not Interrupted.
     fn solve(
         &mut self,
         alloc: Global,

@@ -1,4 +1,4 @@
-//! What it is worth that a variable enters, and the variable that is worth most.
+//! The worth of a variable's entering, and the variable that is worth most.
 ghost use Rattle.std.specs.Prelude.{◌≤◌, ◌+◌, ℕ, length, MatchOption};
 ghost use Rattle.lp_core.specs.Dictionary.{OpeningIsDue, Improves};
 ghost use Rattle.lp_dict.specs.Tableau.{dictionary};
@@ -8,13 +8,14 @@ use crate::size::Size;
 use gq_field::ExactField;
 use lp_dict::Dict;
 
-/// How many numbers of the dictionary are read to weigh variables: of larger dictionaries fewer variables are weighed.
+/// How many numbers of the dictionary are read to weigh variables: fewer variables are weighed in
+/// larger dictionaries.
 const NUMBERS: usize = 4_096;
 
-/// How many variables are weighed at least, where as many improve.
+/// How many variables are weighed at least, if as many improve.
 const LEAST: usize = 8;
 
-/// A variable, and what it is worth that it enters.
+/// A variable, and the worth of its entering.
 #[derive(Clone, Copy)]
 struct Candidate {
     variable: u32,
@@ -27,7 +28,8 @@ fn room_of<F: ExactField>(dict: &Dict<F>) -> usize {
     (NUMBERS / rows).max(LEAST).min(MOST)
 }
 
-/// The row by which pivots are chosen: that of variable 0 while it is basic, else the objective's behind the rows.
+/// The priced row: that of variable 0 while it is basic, else the objective's, which follows the
+/// rows.
 fn priced_row<F: ExactField>(dict: &Dict<F>) -> usize
     ensures { result ≤ length dict.now.basic }
 {
@@ -37,7 +39,7 @@ fn priced_row<F: ExactField>(dict: &Dict<F>) -> usize
     }
 }
 
-/// The size of a number of the dictionary where it is above 0.
+/// The size of a number of the dictionary if it is above 0.
 #[inline(always)]
 fn size_above<F: ExactField>(dict: &Dict<F>, row: usize, column: usize) -> Option<Size>
     requires row { row ≤ length dict.now.basic }
@@ -76,8 +78,8 @@ fn length_of<F: ExactField>(dict: &Dict<F>, column: usize) -> Size
     length
 }
 
-/// The better of the best variable so far and another: the one that is worth more, and of equal ones the lesser. Worth is the square
-/// of the coefficient over the length of the edge.
+/// The better of the best variable so far and another: the one that is worth more, and of equal
+/// ones the lesser. Worth is the square of the coefficient over the length of the edge.
 fn weighed<F: ExactField>(
     dict: &Dict<F>,
     best: Option<Candidate>,
@@ -101,8 +103,8 @@ fn weighed<F: ExactField>(
     }
 }
 
-/// The variable that is worth most of those with the greatest coefficients, and of equal ones the least; none exactly where none
-/// improves.
+/// The variable worth most of those with the greatest coefficients, and of equal ones the least.
+/// None exactly if no variable improves.
 pub(crate) fn worthiest<F: ExactField>(dict: &Dict<F>) -> Option<u32>
     requires { ¬ (OpeningIsDue (dictionary F.value dict.now)) }
     ensures { MatchOption result ((v : ℕ) → ¬ (Improves (dictionary F.value dict.now) v)) (Improves (dictionary F.value dict.now)) }

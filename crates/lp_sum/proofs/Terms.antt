@@ -87,7 +87,8 @@ all-absent now [] none = All-nil (λ q. now q ≡ whole (pos 0))
 all-absent now (q ∷ ks) none = All-cons (λ q. now q ≡ whole (pos 0)) q ks (none q) (all-absent now ks none)
 
 module _ {F : Type 0} (value : F → Number) (goal : Key → Number) where
-  -- the numbers so far and the entries that are left make the numbers of the goal; none of these is there yet
+  -- the numbers so far and the remaining entries make the numbers of the goal; so far none of these
+  -- keys has a number
   pub record Making (now : Key → Number) (es : List (Key × F)) : Type 0 where
     pub made : (key : Key) → number_or value (now key) (keys_of es) (values_of es) key ≡ goal key
     pub ordered : AreOrdered (keys_of es)

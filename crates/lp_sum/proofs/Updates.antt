@@ -1,4 +1,4 @@
--- Numbers put at keys one after another.
+-- Numbers put at keys in order.
 use Rattle.std.proofs.Common.{◌≡◌, ℕ, ◌+◌, ◌<◌, ◌≤◌, true, false, cond, if◌then◌else◌, pos, List, [], ◌∷◌, length, get_or, drop, refl, sym, ap, ◌∙◌, subst, arith}
 use Rattle.std.specs.declared.cmp.Ordering.TheVariants.{Less}
 use Rattle.std.specs.List.{All}
@@ -42,7 +42,8 @@ module _ {F : Type 0} (value : F → Number) where
       let moved : number_or value (number_at value none_keys none_numbers key) keys numbers key ≡ number_or value (whole (pos 0)) form_keys form_numbers key = λ i. number_or value (number_at value (none i) none_numbers key) (k_is i) (x_is i) key in
       moved ∙ or-zero form_keys form_numbers key
 
-  -- what the rest of the keys and numbers make of the numbers so far is what all make of the numbers at the start
+  -- the rest of the keys and numbers, put on the numbers so far, give what all of them give on the
+  -- numbers at the start
   abbrev pub Putting : (Key → Number) → (Key → Number) → List Key → List F → ℕ → Type 0
   Putting start now ks xs i = (key : Key) → number_or value (now key) (drop i ks) (drop i xs) key ≡ number_or value (start key) ks xs key
 

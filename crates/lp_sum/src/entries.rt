@@ -32,7 +32,7 @@ impl<F: ExactField> Model for Entries<F> {
 }
 
 impl<F: ExactField> Entries<F> {
-    /// A constant alone.
+    /// A constant without keys.
     fn new(alloc: Global, constant: F) -> Entries<F>
         ensures constant { result.constant ≡ constant }
         ensures keys { result.keys ≡ [] }
@@ -61,7 +61,7 @@ impl<F: ExactField> Entries<F> {
         self.constant
     }
 
-    /// The number of a key, which is 0 where the key is not there.
+    /// The number of a key, which is 0 if the map does not have the key.
     pub(crate) fn get(&self, k: &Key) -> F
         ensures { F.value result ≡ coefficient F.value self.now k.now }
     {
@@ -71,7 +71,7 @@ impl<F: ExactField> Entries<F> {
         }
     }
 
-    /// Puts another constant in the place of the one there.
+    /// Replaces the constant.
     pub(crate) fn set_offset(&mut self, constant: F)
         ensures constant { self.new.constant ≡ constant }
         ensures keys { self.new.keys ≡ self.old.keys }
@@ -81,7 +81,7 @@ impl<F: ExactField> Entries<F> {
         self.constant = constant;
     }
 
-    /// Puts a number at a key, which leaves the map where the number is 0.
+    /// Puts a number at a key; a key with the number 0 leaves the map.
     fn put(&mut self, k: Key, number: F) -> Result<(), AllocError>
         ensures constant { self.new.constant ≡ self.old.constant }
         ensures numbers { OnOk result ((key : Key) → coefficient F.value self.new key ≡ (if same_key k key then F.value number else coefficient F.value self.old key)) }

@@ -1,4 +1,5 @@
-//! Floor 4, linear programs. A sum of affine forms that grows: an entry is added in as many steps as the logarithm of how many are there.
+//! Layer 4, linear programs. A sum of affine forms that grows: adding an entry takes steps as the
+//! logarithm of the number of entries.
 #![tactic(auto)]
 
 mod entries;

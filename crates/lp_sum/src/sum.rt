@@ -16,22 +16,22 @@ use std::alloc::{AllocError, Global};
 use std::marker::Model;
 use std::mem;
 
-/// Up to how many entries a sum is kept as a form whatever is added.
+/// A sum with at most this many entries is stored as a form, whatever is added.
 const FEW: usize = 16;
 
-/// A sum of affine forms, seen as the form that it is.
+/// A sum of affine forms. Its view is the form that it equals.
 ///
-/// A form is added in as many steps as it has entries, each times the logarithm of how many are there; and in as many
-/// steps as it has entries, where all come behind those that are there.
+/// Adding a form takes steps as the number of its entries times the logarithm of the sum's. If all
+/// its entries follow those of the sum, it takes steps as the number of its entries.
 #[derive(Drop)]
 pub struct FormSum<F: ExactField> {
     kept: Kept<F>,
 }
 
-/// How a sum is kept.
+/// How a sum is stored.
 #[derive(Drop)]
 enum Kept<F: ExactField> {
-    /// As a form, while entries come behind those that are there.
+    /// As a form, while each added entry follows those before it.
     List(Form<F>),
     /// In a map from the keys.
     Map(Entries<F>),
@@ -57,7 +57,7 @@ impl<F: ExactField> FormSum<F> {
         }
     }
 
-    /// The number of a key, which is 0 where the key is not there.
+    /// The number of a key, which is 0 if the sum does not have the key.
     pub fn get(&self, k: &Key) -> F
         ensures { F.value result ≡ coefficient F.value self.now k.now }
     {
@@ -97,7 +97,7 @@ impl<F: ExactField> FormSum<F> {
         self.add_among(alloc, o)
     }
 
-    /// The form that the sum is: the same constant, and the same number at each key.
+    /// The form that the sum equals: the same constant, and the same number at each key.
     pub fn into_form(self, alloc: Global) -> Result<Form<F>, AllocError>
         ensures constant { IfOk result (λ form. F.value form.constant ≡ F.value self.constant) }
         ensures numbers { IfOk result (λ form. (key : Key) → coefficient F.value form key ≡ coefficient F.value self key) }
@@ -109,7 +109,7 @@ impl<F: ExactField> FormSum<F> {
         }
     }
 
-    /// Adds a form whose entries belong among those that are there.
+    /// Adds a form whose entries belong among those of the sum.
     fn add_among(&mut self, alloc: Global, o: &Form<F>) -> Result<(), FormFault>
         ensures value { Gives F.value (of_two (sum_step F.limit) F.value self.old o.now)
             (result_map_both (λ _. self.new) (λ fault. fault) result) }
@@ -128,7 +128,7 @@ impl<F: ExactField> FormSum<F> {
         Ok(())
     }
 
-    /// What the numbers of the sum at some keys are with these numbers added.
+    /// The numbers of the sum at some keys after adding these numbers.
     fn sums(&self, alloc: Global, keys: &[Key], numbers: &[F]) -> Result<Vec<F>, FormFault>
         requires ordered { AreOrdered keys.now }
         requires paired { length numbers.now ≡ length keys.now }
@@ -146,7 +146,8 @@ impl<F: ExactField> FormSum<F> {
     }
 }
 
-/// Whether a form is added to another in few steps: all its keys come behind, or few are there.
+/// Whether adding a form to another is cheap: all its keys follow the other's, or the other has
+/// few.
 fn is_cheap<F: ExactField>(form: &Form<F>, o: &Form<F>) -> bool {
     match (form.keys().last(), o.keys().first()) {
         (Some(last), Some(key)) => form.keys().len() < FEW || last.cmp(key).is_lt(),

@@ -1,4 +1,5 @@
--- A rule that always picks still does so with the turn: whether the turn has come is decided wherever legal pivots lead.
+-- A rule that always picks still does so with the turn: wherever legal pivots lead, it is decidable
+-- whether the search has turned.
 use Rattle.std.proofs.Common.{◌≡◌, ℕ, ◌⊎◌, inl, inr, Bool, true, false, pos, List, [], ◌∷◌, ◌++◌, append_assoc, append-nil, refl, sym, subst, subst₂}
 use Rattle.std.specs.Prelude.{◌==◌, ◌↔◌, IsTrue, not}
 use Rattle.gq_number.specs.Number.{Number, whole}

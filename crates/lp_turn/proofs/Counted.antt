@@ -157,7 +157,7 @@ module _ (first : Dictionary) (pivots : List Pivot) (d : Dictionary) (p : Pivot)
         | inr now ↦ let more = now.2 in other_phase d p k proper legal zero more.phase more.gains_nothing.0 more.now
       ])
 
-  -- ---- where it goes on
+  -- ---- where it continues
 
   module _ (goes_on : p.leave ≢ 0) where
     pub stays_turned : HasTurned first pivots d → HasTurned first All Next

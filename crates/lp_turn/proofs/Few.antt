@@ -1,4 +1,5 @@
--- That what is found by a rule with the turn to Bland's has few pivots, and with enough of them comes to an end.
+-- A result found by a rule with the turn to Bland's has few pivots, and with enough of them the
+-- search ends.
 use Rattle.std.proofs.Common.{ℕ, inl, inr}
 use Rattle.std.specs.Prelude.{Result, Ok, Err, IfOk}
 use Rattle.gq_number.specs.Number.{Number}

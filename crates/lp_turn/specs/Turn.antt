@@ -1,4 +1,5 @@
--- The turn to Bland's rule, over any rule of choice (Chvatal, Linear Programming, chapters 2 and 3).
+-- The turn to Bland's rule, over any rule of choice (Chvatal, Linear Programming, chapters 2 and
+-- 3).
 use Rattle.std.specs.Prelude.{ℕ, List, ◌⊎◌}
 use Rattle.gq_number.specs.Number.{Number}
 use Rattle.lp_core.specs.declared.answer.Answer.{Answer}
@@ -11,7 +12,8 @@ use Rattle.lp_core.specs.Answers.{IsAnswerByChoice}
 use Rattle.lp_core.specs.LargestCoefficient.{HasTurned}
 use Rattle.lp_exact.specs.Pivots.{IsProper}
 
--- the variable that enters next by a rule: one that the rule picks until the turn has come, and Bland's from then on
+-- the variable that enters next by a rule: one that the rule picks before the turn, and Bland's
+-- after it
 abbrev pub IsNextBy : (Dictionary → ℕ → Type 0) → Dictionary → List Pivot → Dictionary → ℕ → Type 0
 IsNextBy Picks first pivots d q = (¬ (HasTurned first pivots d) × Picks d q) ⊎ (HasTurned first pivots d × IsChosen Bland d q)
 

@@ -1,4 +1,5 @@
-//! Floor 4, linear programs. Any rule that chooses which variable enters, with the turn to Bland's rule where pivots gain nothing.
+//! Layer 4, linear programs. Any rule that chooses the entering variable, with a turn to Bland's
+//! rule after pivots without gain.
 #![tactic(auto)]
 
 mod answer;

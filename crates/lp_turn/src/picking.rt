@@ -1,4 +1,4 @@
-//! A rule of choice: which of the variables that improve enters, told by the dictionary alone.
+//! A rule of choice: which of the improving variables enters, by the dictionary alone.
 ghost use Rattle.std.specs.Prelude.{ℕ, MatchOption};
 ghost use Rattle.lp_core.specs.Dictionary.{Dictionary, OpeningIsDue, Improves};
 ghost use Rattle.lp_dict.specs.Tableau.{dictionary};
@@ -6,17 +6,17 @@ ghost use Rattle.lp_dict.specs.Tableau.{dictionary};
 use gq_field::ExactField;
 use lp_dict::Dict;
 
-/// A rule of choice: it picks the variable that enters, of those that improve, and looks at the dictionary alone: Chvatal,
-/// Linear Programming, chapters 2 and 3.
+/// A rule of choice: it picks the entering variable among those that improve, and depends on the
+/// dictionary alone: Chvatal, Linear Programming, chapters 2 and 3.
 pub trait Picking<F: ExactField>: Drop {
-    /// Of a dictionary and a variable: that the rule may pick this variable.
+    /// That the rule may pick a variable at a dictionary.
     ghost picks: { Dictionary → ℕ → Type 0 };
 
-    /// A variable that the rule picks; none exactly where none improves.
+    /// A variable that the rule picks. None exactly if no variable improves.
     fn pick(&self, dict: &Dict<F>) -> Option<u32>
         requires { ¬ (OpeningIsDue (dictionary F.value dict.now)) }
         ensures { MatchOption result ((v : ℕ) → ¬ (Improves (dictionary F.value dict.now) v)) (picks (dictionary F.value dict.now)) };
 
-    /// What is picked improves.
+    /// A picked variable improves.
     ghost improving: { (d : Dictionary) (q : ℕ) → picks d q → Improves d q };
 }

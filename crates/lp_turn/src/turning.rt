@@ -1,4 +1,4 @@
-//! A rule with the turn to Bland's: what is remembered of the pivots, and what enters.
+//! A rule with the turn to Bland's: what it remembers of the pivots, and what enters.
 ghost use Rattle.std.specs.Prelude.{◌≡◌, ◌↔◌, pos, IsTrue};
 ghost use Rattle.gq_number.specs.Number.{whole};
 ghost use Rattle.lp_turn.specs.declared.turning.Count.TheVariants.{Still};
@@ -14,18 +14,19 @@ use lp_walk::Choosing;
 
 /// What is remembered of the pivots of a phase.
 ///
-/// The rule is asked until as many pivots on end as there are variables gained nothing, and from then on, to the end of the
-/// phase, the least variable that improves enters: Chvatal, Linear Programming, chapters 2 and 3.
+/// The rule picks until as many successive pivots as there are variables gained nothing. From then
+/// on, to the end of the phase, the least improving variable enters: Chvatal, Linear Programming,
+/// chapters 2 and 3.
 #[derive(Clone, Copy)]
 pub(crate) enum Count {
-    /// So many pivots on end gained nothing, since the phase began or since the last gain.
+    /// This many successive pivots gained nothing, since the phase began or since the last gain.
     Still(u32),
-    /// The turn to Bland's rule has come.
+    /// The search has turned to Bland's rule.
     Turned,
 }
 
 impl Count {
-    /// What is remembered after a pivot more, which may end the phase, and may gain something.
+    /// What is remembered after one more pivot, which may end the phase, and may gain something.
     fn after(self, ends_phase: bool, gains: bool, variables: u32) -> Count
         ensures { result ≡ after self ends_phase gains variables }
     {

@@ -1,4 +1,4 @@
--- From the halt of a walk to the answer.
+-- From the place where a run of pivots halts to the answer.
 use Rattle.std.proofs.Common.{◌≡◌, ◌≢◌, ℕ, ◌≤◌, inl, inr, List, [], length, Option, None, Result, Ok, Err, refl, sym, ap, ◌∙◌, subst}
 use Rattle.std.specs.Prelude.{IfOk}
 use Rattle.std.specs.declared.alloc.AllocError.{AllocError}
@@ -32,12 +32,12 @@ use Rattle.lp_walk.proofs.Ending.{halted_so}
 use Rattle.lp_core.proofs.Rules.{legal_answer}
 use Rattle.lp_walk.proofs.Standing.{first_stands}
 
--- ---- the way back
+-- ---- the recovery
 
 pub never_crossed : {F : Type 0} (value : F → Number) (limit : ℕ) (lp : Lp F) (k : EndKind) (last : Last) (s : Stop) → HasNoWayBack value limit lp k last s → (j : ℕ) → s ≢ stops.Crossed j
 never_crossed value limit lp k last s h j e = subst (HasNoWayBack value limit lp k last) e h
 
--- what the way back gives from what is read there
+-- what the recovery gives from the numbers read there
 pub led_back_given : {F : Type 0} (value : F → Number) (limit : ℕ) (lp : Lp F) (d : Dictionary) (enter : Option ℕ) (k : EndKind) (last : Last) (end : End F) → IsReadAt d k (last_with d enter) → last ≡ last_with d enter → LeadsTo value lp k last end × AllFit (steps_back value limit lp k last) × IsProved value lp end → IsLedBack value limit lp d enter end
 led_back_given value limit lp d enter k last end read is given =
     record { kind = k; read = read; gives = inl (subst (λ l. LeadsTo value lp k l end × AllFit (steps_back value limit lp k l) × IsProved value lp end) is given) }

@@ -1,4 +1,4 @@
--- An end that is led back from a last dictionary is the end of the search.
+-- An end recovered from a final dictionary is the end of the search.
 use Rattle.std.proofs.Common.{◌≡◌, ℕ, ◌+◌, inl, inr, length, Option, Some, None, refl, sym, ap, ◌∙◌, subst, arith}
 use Rattle.std.proofs.lemmas.List.FromFn.{length-map-range_with_len}
 use Rattle.gq_number.specs.Number.{Number}
@@ -18,7 +18,7 @@ use Rattle.lp_walk.specs.declared.walk.Halt.TheVariants as halt
 use Rattle.lp_walk.specs.Walks.{NoneIsDue, HaltsAt}
 use Rattle.lp_walk.specs.Ends.{MayGoOn, CanEnd, IsLedBack, IsBrokenOff, EndsHalted}
 
--- ---- what is asked of the walk
+-- ---- what the run requires of a dictionary
 
 module _ (Chosen : ℕ → Type 0) (d : Dictionary) (improves : (q : ℕ) → Chosen q → Improves d q) where
   pub unlimited_legal : (q : ℕ) → IsUnlimitedBy Chosen d q → IsUnlimited Legal d q
@@ -38,7 +38,7 @@ can_end value limit Chosen s iterlim pivots last (halt.Interrupted d) improves o
     (subst (IsDictionaryOf s) (sym halts.0) of_form, subst MayGoOn (sym halts.0) (may_go_on Chosen last improves halts.2))
 can_end value limit Chosen s iterlim pivots last (halt.Refused step) improves of_form halts = tt
 
--- a walk that is broken off in phase 2 stands where something improves
+-- a run broken off in phase 2 is at a dictionary where something improves
 pub broken_off_done : (d : Dictionary) → MayGoOn d → IsPhase d 2 → IsDone d None
 broken_off_done d goes phase =
     elim phase [
@@ -57,7 +57,7 @@ has_ray d q same =
     omega (arith, some, none)
 
 module _ {F : Type 0} (value : F → Number) (limit : ℕ) (lp : Lp F) (iterlim : ℕ) (Chosen : ℕ → Type 0) (pivots : ℕ) (d : Dictionary) (improves : (q : ℕ) → Chosen q → Improves d q) where
-  -- the end where no pivot is due
+  -- the end at a dictionary where no pivot is required
   pub ended_so : (enter : Option ℕ) (end : End F) → NoneIsDue Chosen d enter → IsLedBack value limit lp d enter end → EndsSoBy value limit lp iterlim (IsAllowedBy Chosen d) Chosen pivots d end
   ended_so None end none led = by_kind led.kind led.read led.gives
     where
@@ -88,7 +88,7 @@ module _ {F : Type 0} (value : F → Number) (limit : ℕ) (lp : Lp F) (iterlim 
       by_kind kind.Unbounded read gives = absurd (has_ray d read.1.0 read.1.2)
       by_kind kind.Interrupted read gives = inl (kind.Interrupted, last_of d, (read.0, read.1, (most, goes), refl), gives)
 
--- the end of a walk that halted so
+-- the end of a run that halts so
 pub halted_so : {F : Type 0} (value : F → Number) (limit : ℕ) (lp : Lp F) (iterlim : ℕ) (Chosen : ℕ → Type 0) (pivots : ℕ) (last : Dictionary) (h : Halt F) (end : End F) → ((q : ℕ) → Chosen q → Improves last q) → HaltsAt limit value Chosen iterlim pivots last h → EndsHalted value limit lp h end → EndsSoBy value limit lp iterlim (IsAllowedBy Chosen last) Chosen pivots last end
 halted_so value limit lp iterlim Chosen pivots last (halt.Ended d enter) end improves halts ends =
     ended_so value limit lp iterlim Chosen pivots last improves enter end halts.1 (subst (λ e. IsLedBack value limit lp e enter end) halts.0 ends)

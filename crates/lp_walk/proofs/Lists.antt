@@ -12,7 +12,8 @@ module _ {X : Type 0} where
         | inr found ↦ inr (x ∷ found.0, found.1, ap (λ l. x ∷ l) found.2)
       ]
 
-  -- a list with one element more, split before a rest: the rest is empty, or it ends with that element
+  -- a list with one element appended, split before a rest: the rest is empty, or ends with that
+  -- element
   pub split_more : (xs before rest : List X) (x : X) → xs ++ x ∷ [] ≡ before ++ rest → (rest ≡ []) ⊎ ((front : List X) × (rest ≡ front ++ x ∷ []) × (xs ≡ before ++ front))
   split_more xs before rest x e =
       elim (ends_with rest) [

@@ -17,7 +17,7 @@ use Rattle.lp_exact.proofs.OfForm.{of_form_after}
 use Rattle.lp_exact.proofs.InForm.{form_in_order}
 use Rattle.lp_exact.proofs.Begins.{first_proper, first_of_form}
 
--- A dictionary of a standard form in which each basic variable stands in its own row alone.
+-- A dictionary of a standard form in which each basic variable occurs in its own row alone.
 pub record Stands (s : Standard) (d : Dictionary) : Type 0 where
   pub proper : IsProper d
   pub of_form : IsDictionaryOf s d

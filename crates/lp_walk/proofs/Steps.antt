@@ -1,4 +1,4 @@
--- What the pieces of a walk answer is what their definitions say.
+-- The functions of the pivot loop compute what their definitions state.
 use Rattle.std.proofs.Common.{◌≡◌, ℕ, ◌+◌, ◌-◌, ◌^◌, ◌<◌, ◌≤◌, inr, List, [], ◌∷◌, ◌++◌, length, Option, Some, None, sym, ap, ◌∙◌, subst, arith, min}
 use Rattle.std.specs.Prelude.{slice_get}
 use Rattle.std.proofs.lemmas.List.{length-append}
@@ -21,7 +21,7 @@ use Rattle.lp_walk.specs.declared.walk.Walk.{Walk}
 use Rattle.lp_walk.specs.Walks.{due_with, IsDue, IsAfter, IsSoFar, StopsBy, StepsTo, HaltsAtLimit, HaltsAt, IsWalk}
 use Rattle.lp_walk.proofs.Walking.{step_is_due, none_is_due, leaves_row, way_more}
 
--- what is due where this variable leaves, if any does
+-- what is required if this variable leaves, or if none does
 pub due_by : (limit : ℕ) (Chosen : ℕ → Type 0) (n : ℕ) (d : Dictionary) (q : ℕ) (leave : Option ℕ) (r : Due) → ¬ (OpeningIsDue d) → Improves d q → Chosen q → IsLeaving d q leave → AllFit (ratio_steps limit n d q) → r ≡ due_with q leave → IsDue limit Chosen n d r
 due_by limit Chosen n d q None r none improves chosen leaving fit is = subst (IsDue limit Chosen n d) (sym is) (none_is_due Chosen d q none improves chosen leaving)
 due_by limit Chosen n d q (Some v) r none improves chosen leaving fit is = subst (IsDue limit Chosen n d) (sym is) (step_is_due Chosen limit n d q v none improves chosen leaving fit)
@@ -50,7 +50,7 @@ module _ {F : Type 0} (value : F → Number) (limit : ℕ) (before : Tableau F) 
   pub pivot_stops : (Chosen : ℕ → Type 0) (name : StepName) → IsTaken Chosen (dictionary value before) p → ((k : ℕ) → slice_get before.basic k ≡ Some p.leave → FirstStop (exchange_steps limit before.upcoming (dictionary value before) p.enter k) name) → StopsBy Chosen limit before.upcoming (dictionary value before) name
   pivot_stops Chosen name taken stop = inr (p, legal.0, (legal.1, taken), legal.2, stop legal.0 row_leaves)
 
--- ---- the walk so far
+-- ---- the run so far
 
 module _ {F : Type 0} (value : F → Number) (limit : ℕ) (choice : Dictionary → List Pivot → Dictionary → ℕ → Type 0) (Known : List Pivot → Dictionary → Type 0) (first : Dictionary) where
   pub begins : (at : Tableau F) → dictionary value at ≡ first → at.upcoming ≡ 1 → IsProper first → Known [] first → IsSoFar limit value choice Known first [] at
@@ -98,7 +98,7 @@ module _ {F : Type 0} (value : F → Number) (limit : ℕ) (Chosen : ℕ → Typ
   halts_at_limit (halt.Interrupted d) most h = (ap (dictionary value) h.0, most, h.1)
   halts_at_limit (halt.Refused name) most h = absurd h
 
--- a walk that halted
+-- a run that halted
 pub walk_is : {F : Type 0} (value : F → Number) (limit : ℕ) (choice : Dictionary → List Pivot → Dictionary → ℕ → Type 0) (Known : List Pivot → Dictionary → Type 0) (first : Dictionary) (iterlim : ℕ) (walk : Walk F) (at : Tableau F) → length walk.pivots.items ≤ iterlim → IsSoFar limit value choice Known first walk.pivots.items at → HaltsAt limit value (choice first walk.pivots.items (dictionary value at)) iterlim (length walk.pivots.items) (dictionary value at) walk.halt → IsWalk limit value choice first iterlim walk
 walk_is value limit choice Known first iterlim walk at few so_far halts =
     record { last = dictionary value at; few = few; leads = so_far.leads; of_form = so_far.of_form; halts = halts }

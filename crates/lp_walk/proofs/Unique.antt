@@ -130,7 +130,7 @@ phase_once d a b (inl one) (inr two) = absurd (elim one.1 [ inl due ↦ two.1 du
 phase_once d a b (inr one) (inl two) = absurd (elim two.1 [ inl due ↦ one.1 due | inr phase ↦ one.2 phase ])
 
 module _ {F : Type 0} (value : F → Number) (inj : (x y : F) → value x ≡ value y → x ≡ y) (limit : ℕ) (lp : Lp F) where
-  -- what the way back of a kind tells, with the end that it is
+  -- what the recovery of each kind computes, with the end that has it
   abbrev Told : EndKind → Last → End F → Type 0
   Told kind.Optimal last end =
       (x s y r : List F) × (end ≡ Optimal x s y r) × (map value x ≡ levels_back value lp last) × (map value s ≡ row_sums value lp (levels_back value lp last))
@@ -205,7 +205,8 @@ module _ {F : Type 0} (value : F → Number) (inj : (x y : F) → value x ≡ va
   less_or_same : pivots < iterlim → pivots ≡ iterlim → ⊥
   less_or_same less same = omega arith
 
-  -- a search does not end by a kind where a further pivot is due, before the limit, or in phase 1
+  -- a search does not end with a kind if a further pivot is required and the limit is not met, or
+  -- in phase 1
   at_or_more : (how : EndKind) (last : Last) → At how last → pivots < iterlim → IsGoingOnBy Chosen d → ⊥
   at_or_more kind.Optimal last at less goes = nothing_or_goes d Chosen improves once at.1 goes
   at_or_more kind.Infeasible last at less goes = nothing_or_goes d Chosen improves once at.1 goes
@@ -241,21 +242,22 @@ module _ {F : Type 0} (value : F → Number) (inj : (x y : F) → value x ≡ va
   ends_or_pivots end p k less allowed tested fit (inr (inl h)) = less_or_same less h.0
   ends_or_pivots end p k less allowed tested fit (inr (inr h)) = stop_or_pivot d Chosen improves once limit (pivots + 1) p k h.1.0 proper allowed tested fit h.1.2
 
--- ---- the walk
+-- ---- the run of pivots
 
 module _ {F : Type 0} (value : F → Number) (inj : (x y : F) → value x ≡ value y → x ≡ y) (limit : ℕ) (lp : Lp F) (iterlim : ℕ) (choice : Dictionary → List Pivot → Dictionary → ℕ → Type 0) (improves : (first : Dictionary) (pivots : List Pivot) (d : Dictionary) (q : ℕ) → choice first pivots d q → Improves d q) (once : (first : Dictionary) (pivots : List Pivot) (d : Dictionary) (q r : ℕ) → choice first pivots d q → choice first pivots d r → q ≡ r) where
   -- all pivots, how many they are, the dictionary that they lead to, and the end there
   abbrev EndsAfter : Dictionary → List Pivot → ℕ → Dictionary → End F → Type 0
   EndsAfter first all count last end = EndsSoBy value limit lp iterlim (IsAllowedBy (choice first all last) last) (choice first all last) count last end
 
-  -- where the search ends no pivot goes on
+  -- where the search ends no further pivot follows
   ends_or_goes : (first : Dictionary) (done : List Pivot) (n a : ℕ) (d : Dictionary) (p : Pivot) (k : ℕ) (last : Dictionary) (end : End F) → IsProper d → n ≡ a + 1 → a < iterlim → last ≡ d → IsAllowedBy (choice first done d) d p k → TestFits limit n d p → AllFit (exchange_steps limit n d p.enter k) → EndsAfter first (done ++ []) a last end → ⊥
   ends_or_goes first done n a d p k last end proper next less here allowed tested fit ends =
       ends_or_pivots value inj limit lp iterlim a d proper (choice first done d) (improves first done d) (once first done d) end p k less allowed
       (subst (λ c. TestFits limit c d p) next tested) (subst (λ c. AllFit (exchange_steps limit c d p.enter k)) next fit)
       (subst₂ (λ l e. EndsAfter first l a e end) (append-nil done) here ends)
 
-  -- n is the number of the next pivot, those of done lead to d, and a and b are how many pivots there are in all
+  -- n is the number of the next pivot, the pivots `done` lead to d, and a and b count all pivots of
+  -- the two runs
   same_walk : (first : Dictionary) (done : List Pivot) (n m a b : ℕ) (d : Dictionary) (ps qs : List Pivot) (one two : Dictionary) (e f : End F) → IsProper d → n ≡ m + 1 → a ≡ m + length ps → b ≡ m + length qs → a ≤ iterlim → b ≤ iterlim
       → LeadsWithin (ByChoice choice first) limit n done d ps one → LeadsWithin (ByChoice choice first) limit n done d qs two → EndsAfter first (done ++ ps) a one e → EndsAfter first (done ++ qs) b two f → (ps ≡ qs) × (e ≡ f)
   same_walk first done n m a b d [] [] one two e f proper next a_is b_is few less way also ends ending =

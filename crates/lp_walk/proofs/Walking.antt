@@ -1,4 +1,4 @@
--- What is due at a dictionary, and where pivots lead.
+-- What is required at a dictionary, and where pivots lead.
 use Rattle.std.proofs.Common.{◌≡◌, ℕ, zero, suc, ◌+◌, ◌<◌, ◌≤◌, ◌⊎◌, inl, inr, pos, List, [], ◌∷◌, ◌++◌, append_assoc, append-nil, length, Some, None, refl, sym, ap, ◌∙◌, subst, subst₂, arith}
 use Rattle.std.specs.Prelude.{slice_get, unwrap_or}
 use Rattle.std.proofs.lemmas.Bool.{cases_lt}
@@ -26,7 +26,7 @@ use Rattle.lp_walk.proofs.Stops.{fit_or_stop}
 pub leaves_row : (d : Dictionary) (p : Pivot) (k : ℕ) → IsLegal d p k → slice_get d.basic k ≡ Some p.leave
 leaves_row d p k legal = elim legal [ inl opening ↦ opening.leaves | inr step ↦ step.leaves ]
 
--- ---- what is due
+-- ---- what is required
 
 pub opening_is_due : (Chosen : ℕ → Type 0) (limit n : ℕ) (d : Dictionary) (p : Pivot) → ((k : ℕ) × IsOpening d p k) → ((i : ℕ) → IsLeast d i → p.leave ≤ basic_at d i) → (k : ℕ) × IsAllowedBy Chosen d p k × TestFits limit n d p
 opening_is_due Chosen limit n d p opening fewest =
@@ -96,7 +96,7 @@ ratio_stops Chosen limit n d q name none chosen stop =
     let row = some_limits limit n d q name stop in
     inl (none, (q, row.0, chosen, row.1, stop))
 
--- ---- a further pivot is due
+-- ---- a further pivot is required
 
 pub goes_on_by_pivot : (Chosen : ℕ → Type 0) (d : Dictionary) (p : Pivot) (k : ℕ) → IsAllowedBy Chosen d p k → IsGoingOnBy Chosen d
 goes_on_by_pivot Chosen d p k allowed =

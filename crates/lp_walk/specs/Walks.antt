@@ -1,4 +1,5 @@
--- What the pieces of a walk over dictionaries promise each other (Chvatal, Linear Programming, chapters 2, 3 and 8).
+-- What the functions of the pivot loop promise each other (Chvatal, Linear Programming, chapters 2,
+-- 3 and 8).
 use Rattle.std.specs.Prelude.{◌≡◌, ℕ, ◌+◌, ◌<◌, ◌≤◌, List, [], ◌∷◌, ◌++◌, length, Option, Some, None}
 use Rattle.gq_number.specs.Number.{Number}
 use Rattle.lp_core.specs.Counts.{counted}
@@ -20,30 +21,33 @@ use Rattle.lp_walk.specs.declared.walk.Step.{Step}
 use Rattle.lp_walk.specs.declared.walk.Step.TheVariants as step
 use Rattle.lp_walk.specs.declared.walk.Walk.{Walk}
 
--- what is due where this variable enters and that leaves, if any does
+-- what follows when this variable enters: a pivot with the variable that leaves, or an end if none
+-- leaves
 abbrev pub due_with : ℕ → Option ℕ → Due
 due_with enter None = due.End (Some enter)
 due_with enter (Some leave) = due.Pivot (record { enter = enter; leave = leave })
 
--- no pivot is due: nothing improves; or this variable, which is chosen, improves in phase 2 and no row limits it
+-- no pivot is required: nothing improves; or this chosen variable improves in phase 2 and no row
+-- limits it
 abbrev pub NoneIsDue : (ℕ → Type 0) → Dictionary → Option ℕ → Type 0
 NoneIsDue Chosen d None = NothingImproves d
 NoneIsDue Chosen d (Some q) = ¬ (InPhaseOne d) × IsUnlimitedBy Chosen d q
 
--- a step of a further pivot, the n-th, by what is chosen, that does not fit
+-- a step of the n-th pivot that does not fit, where `Chosen` are the variables that may enter
 abbrev pub StopsBy : (ℕ → Type 0) → ℕ → ℕ → Dictionary → StepName → Type 0
 StopsBy Chosen limit n d name = PivotStopsBy (IsAllowedBy Chosen d) Chosen limit n d name
 
 module _ (limit : ℕ) where
-  -- what is due at a dictionary before the n-th pivot, by what is chosen
+  -- what follows at a dictionary before the n-th pivot, where `Chosen` are the variables that may
+  -- enter
   abbrev pub IsDue : (ℕ → Type 0) → ℕ → Dictionary → Due → Type 0
   IsDue Chosen n d (due.Pivot p) = (k : ℕ) × IsAllowedBy Chosen d p k × TestFits limit n d p
   IsDue Chosen n d (due.Stop name) = StopsBy Chosen limit n d name
   IsDue Chosen n d (due.End enter) = NoneIsDue Chosen d enter
 
   module _ {F : Type 0} (value : F → Number) where
-    -- A pivot leads from one dictionary to the next: it is by what is chosen, all its steps fit, and what is after it is the
-    -- exchange, of which something is known.
+    -- A pivot leads from one dictionary to the next: the choice allows it, all its steps fit, and
+    -- the result is the exchange, of which `Known` holds.
     pub record IsAfter (Chosen : ℕ → Type 0) (Known : Dictionary → Type 0) (before : Tableau F) (p : Pivot) (after : Tableau F) : Type 0 where
       pub row : ℕ
       pub allowed : IsAllowedBy Chosen (dictionary value before) p row
@@ -54,7 +58,8 @@ module _ (limit : ℕ) where
       pub upcoming : after.upcoming ≡ counted (before.upcoming + 1)
       pub known : Known (dictionary value after)
 
-    -- A walk so far: pivots by the choice lead from a first dictionary to the one that it stands at, and all their steps fit.
+    -- A run so far: the pivots of the choice lead from a first dictionary to the present one, and
+    -- all their steps fit.
     pub record IsSoFar (choice : Dictionary → List Pivot → Dictionary → ℕ → Type 0) (Known : List Pivot → Dictionary → Type 0) (first : Dictionary) (pivots : List Pivot) (at : Tableau F) : Type 0 where
       pub leads : LeadsWithin (ByChoice choice first) limit 1 [] first pivots (dictionary value at)
       pub proper : IsProper (dictionary value at)
@@ -62,26 +67,28 @@ module _ (limit : ℕ) where
       pub upcoming : at.upcoming ≡ counted (length pivots + 1)
       pub known : Known pivots (dictionary value at)
 
-    -- what comes of one pivot after others, by what is chosen, and what is known of the pivots then
+    -- the result of one pivot after others, by the choice, and what is then known of all the pivots
     abbrev pub StepsTo : (ℕ → Type 0) → (List Pivot → Dictionary → Type 0) → List Pivot → Tableau F → Step F → Type 0
     StepsTo Chosen Known pivots before (step.Pivoted p after) = IsAfter Chosen (Known (pivots ++ p ∷ [])) before p after
     StepsTo Chosen Known pivots before (step.Halted (halt.Ended d enter)) = (d ≡ before) × NoneIsDue Chosen (dictionary value before) enter
     StepsTo Chosen Known pivots before (step.Halted (halt.Interrupted d)) = ⊥
     StepsTo Chosen Known pivots before (step.Halted (halt.Refused name)) = StopsBy Chosen limit before.upcoming (dictionary value before) name
 
-    -- where the walk halts that may take no further pivot
+    -- where a run halts that may make no further pivot
     abbrev pub HaltsAtLimit : (ℕ → Type 0) → Tableau F → Halt F → Type 0
     HaltsAtLimit Chosen before (halt.Ended d enter) = (d ≡ before) × NoneIsDue Chosen (dictionary value before) enter
     HaltsAtLimit Chosen before (halt.Interrupted d) = (d ≡ before) × IsGoingOnBy Chosen (dictionary value before)
     HaltsAtLimit Chosen before (halt.Refused name) = ⊥
 
-    -- where a walk halted whose last dictionary is this, after so many pivots of at most iterlim
+    -- where a run halted, by its final dictionary and the number of its pivots, of at most
+    -- `iterlim`
     abbrev pub HaltsAt : (ℕ → Type 0) → ℕ → ℕ → Dictionary → Halt F → Type 0
     HaltsAt Chosen iterlim pivots last (halt.Ended d enter) = (dictionary value d ≡ last) × NoneIsDue Chosen last enter
     HaltsAt Chosen iterlim pivots last (halt.Interrupted d) = (dictionary value d ≡ last) × (pivots ≡ iterlim) × IsGoingOnBy Chosen last
     HaltsAt Chosen iterlim pivots last (halt.Refused name) = (pivots < iterlim) × StopsBy Chosen limit (pivots + 1) last name
 
-    -- A walk from a first dictionary: pivots by the choice lead to the dictionary at which it halts, and all their steps fit.
+    -- A run from a first dictionary: the pivots of the choice lead to the dictionary at which it
+    -- halts, and all their steps fit.
     pub record IsWalk (choice : Dictionary → List Pivot → Dictionary → ℕ → Type 0) (first : Dictionary) (iterlim : ℕ) (walk : Walk F) : Type 0 where
       pub last : Dictionary
       pub few : length walk.pivots.items ≤ iterlim

@@ -25,7 +25,7 @@ use lp_dict::Dict;
 use lp_std::{Standard, Stop, recover, standard};
 use std::alloc::{AllocError, Global};
 
-/// The end where this step does not fit; want of memory is handed on.
+/// The end if this step does not fit. Out of memory is passed on.
 fn refused<F>(stop: Stop) -> Result<End<F>, AllocError>
     requires { (j : ℕ) → stop ≢ stops.Crossed j }
     ensures { IfOk result (λ end. (step : StepName) × (stop ≡ stops.Limit step) × (end ≡ Refused step)) }
@@ -37,7 +37,7 @@ fn refused<F>(stop: Stop) -> Result<End<F>, AllocError>
     }
 }
 
-/// The end that a last dictionary leads back to, or the first step on that way that does not fit.
+/// The end recovered from a final dictionary, or the first step of the recovery that does not fit.
 fn led_back<F: ExactField>(
     alloc: Global,
     lp: &Lp<F>,
@@ -58,7 +58,8 @@ fn led_back<F: ExactField>(
     }
 }
 
-/// The end where the limit of pivots is met: in phase 1 nothing is told, in phase 2 the point that the walk stands at.
+/// The end when the limit of pivots is met: it shows nothing in phase 1, and the run's point in
+/// phase 2.
 fn interrupted<F: ExactField>(
     alloc: Global,
     lp: &Lp<F>,
@@ -81,7 +82,7 @@ fn interrupted<F: ExactField>(
     })
 }
 
-/// The end of a walk that halted so.
+/// The end of a run that halted so.
 fn end_of<F: ExactField>(
     alloc: Global,
     lp: &Lp<F>,
@@ -123,7 +124,7 @@ fn searched<C: Choosing<F>, F: ExactField>(
     })
 }
 
-/// So many zeros.
+/// A list of zeros.
 fn zeros<F: ExactField>(alloc: Global, count: usize) -> Result<Vec<F>, AllocError>
     ensures { IfOk result (λ list. map F.value list.items ≡ replicate count (whole (pos 0))) }
 {
@@ -134,7 +135,8 @@ fn zeros<F: ExactField>(alloc: Global, count: usize) -> Result<Vec<F>, AllocErro
     Ok(list)
 }
 
-/// The end of a program in which the bounds of this column cross, and those of no earlier one: all factors of rows are 0.
+/// The end of a program in which the bounds of this column cross, and those of no earlier one: all
+/// factors of rows are 0.
 fn crossed<F: ExactField>(alloc: Global, lp: &Lp<F>, column: u32) -> Result<End<F>, AllocError>
     requires { FirstCrossed F.value lp.now.columns (Some column) }
     ensures { IfOk result (EndsCrossed F.value lp.now) }
@@ -158,12 +160,14 @@ fn formless<F: ExactField>(alloc: Global, lp: &Lp<F>, stop: Stop) -> Result<End<
     }
 }
 
-/// An answer of a program, found by at most `iterlim` pivots; the variable that enters is the one that is chosen, and of the
-/// tied ones the least leaves: Chvatal, Linear Programming, chapters 2, 3 and 8.
+/// An answer of a program, found by at most `iterlim` pivots. The choice gives the entering
+/// variable, and of the tied variables the least leaves: Chvatal, Linear Programming, chapters 2, 3
+/// and 8.
 ///
-/// Where the bounds of a column cross the answer is Infeasible with the first such column, and no step is taken. Where a step of
-/// the standard form does not fit it is Refused with the first such step. Then pivots are taken until none is due, the limit
-/// is met, or a step does not fit; the end is read off the last dictionary. The error is want of memory.
+/// If the bounds of a column cross, the answer is Infeasible with the first such column, and no
+/// step is made. If a step of the standard form does not fit, it is Refused with the first such
+/// step. Else pivots are made until none is required, the limit is met, or a step does not fit; the
+/// end is read from the final dictionary. The only error is out of memory.
 pub fn solve_by<C: Choosing<F>, F: ExactField>(
     alloc: Global,
     lp: &Lp<F>,

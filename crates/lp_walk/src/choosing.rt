@@ -9,17 +9,18 @@ use gq_field::ExactField;
 use lp_core::Pivot;
 use lp_dict::Dict;
 
-/// A way to choose the variable that enters, of those that improve: Chvatal, Linear Programming, chapters 2 and 3. It may
-/// remember the pivots so far.
+/// A way to choose the entering variable among those that improve: Chvatal, Linear Programming,
+/// chapters 2 and 3. It may remember the pivots so far.
 pub trait Choosing<F: ExactField> {
-    /// Of a first dictionary, the pivots so far, the dictionary that they lead to and a variable: that this variable is chosen.
+    /// That a variable may be chosen, given the first dictionary, the pivots so far, and the
+    /// dictionary they lead to.
     ghost chooses: { Dictionary → List Pivot → Dictionary → ℕ → Type 0 };
 
-    /// Of a first dictionary, the pivots so far and the dictionary that they lead to: that the chooser knows of them what it
-    /// has to.
+    /// That the chooser remembers what it needs, given the first dictionary, the pivots so far, and
+    /// the dictionary they lead to.
     ghost remembers: { Self → Dictionary → List Pivot → Dictionary → Type 0 };
 
-    /// The variable that enters, of those that improve; none exactly where there is none.
+    /// The entering variable among those that improve. None exactly if no variable improves.
     fn entering(&self, dict: &Dict<F>) -> Option<u32>
         requires { ¬ (OpeningIsDue (dictionary F.value dict.now)) }
         ensures { MatchOption result ((v : ℕ) → ¬ (Improves (dictionary F.value dict.now) v))
@@ -34,6 +35,6 @@ pub trait Choosing<F: ExactField> {
             remembers self.old first pivots (dictionary F.value dict.now) →
             remembers self.new first (pivots ++ pivot ∷ []) (exchanged (dictionary F.value dict.now) pivot.enter k) };
 
-    /// What is chosen improves.
+    /// A chosen variable improves.
     ghost improving: { (first : Dictionary) (pivots : List Pivot) (d : Dictionary) (q : ℕ) → chooses first pivots d q → Improves d q };
 }

@@ -1,4 +1,5 @@
-//! Floor 4, linear programs. From a linear program to its answer, whichever of the improving variables is chosen to enter.
+//! Layer 4, linear programs. From a linear program to its answer, whichever of the improving
+//! variables is chosen to enter.
 #![tactic(auto)]
 
 mod answer;

@@ -1,4 +1,4 @@
-//! The walk over dictionaries, pivot by pivot, from the first to the last.
+//! The pivot loop, from the first dictionary to the final one.
 ghost use Rattle.std.specs.Prelude.{◌≡◌, ℕ, List, [], IfOk};
 ghost use Rattle.lp_core.specs.declared.answer.Pivot.{Pivot};
 ghost use Rattle.lp_core.specs.Dictionary.{Dictionary, Improves, IsLegal};
@@ -14,45 +14,46 @@ use lp_dict::Dict;
 use lp_std::Stop;
 use std::alloc::{AllocError, Global};
 
-/// What is due at a dictionary.
+/// What follows at a dictionary.
 #[derive(Clone, Copy)]
 enum Due {
     /// This pivot.
     Pivot(Pivot),
-    /// A pivot of whose ratio test this step does not fit.
+    /// This step of a pivot's ratio test does not fit.
     Stop(StepName),
     /// No pivot: nothing improves, or this variable improves and no row limits it.
     End(Option<u32>),
 }
 
-/// Where a walk halts.
+/// Where a run of pivots halts.
 #[derive(Drop)]
 pub(crate) enum Halt<F: ExactField> {
-    /// No pivot is due: nothing improves, or this variable improves and no row limits it.
+    /// No pivot is required: nothing improves, or this variable improves and no row limits it.
     Ended(Dict<F>, Option<u32>),
-    /// The limit of pivots is met, and a further pivot is due.
+    /// The limit of pivots is met, and a further pivot is required.
     Interrupted(Dict<F>),
     /// This step of a further pivot does not fit.
     Refused(StepName),
 }
 
-/// What comes of one pivot.
+/// The result of one pivot.
 #[derive(Drop)]
 enum Step<F: ExactField> {
-    /// The pivot was taken, and this is the dictionary after it.
+    /// The pivot was made, and this is the dictionary after it.
     Pivoted(Pivot, Dict<F>),
-    /// None was taken.
+    /// No pivot was made.
     Halted(Halt<F>),
 }
 
-/// A walk: the pivots that were taken, and where it halted.
+/// A run of pivots: the pivots it made, and where it halted.
 #[derive(Drop)]
 pub(crate) struct Walk<F: ExactField> {
     pub(crate) pivots: Vec<Pivot>,
     pub(crate) halt: Halt<F>,
 }
 
-/// What is due where this variable enters and that leaves, if any does.
+/// What follows when this variable enters: a pivot with the variable that leaves, or an end if none
+/// leaves.
 fn due_with(enter: u32, leave: Option<u32>) -> Due
     ensures { result ≡ walks.due_with enter leave }
 {
@@ -62,7 +63,7 @@ fn due_with(enter: u32, leave: Option<u32>) -> Due
     }
 }
 
-/// What is due at a dictionary.
+/// What follows at a dictionary.
 fn due_at<C: Choosing<F>, F: ExactField>(dict: &Dict<F>, choice: &C) -> Due
     ensures legal { walks.IsDue F.limit (Improves (dictionary F.value dict.now)) dict.now.upcoming (dictionary F.value dict.now) result }
     ensures chosen { (first : Dictionary) (pivots : List Pivot) → C.remembers choice.now first pivots (dictionary F.value dict.now) →
@@ -82,7 +83,7 @@ fn due_at<C: Choosing<F>, F: ExactField>(dict: &Dict<F>, choice: &C) -> Due
     }
 }
 
-/// The dictionary after this pivot, or where the walk halts before it.
+/// The dictionary after this pivot, or where the run halts before it.
 fn pivoted<C: Choosing<F>, F: ExactField>(
     alloc: Global,
     dict: Dict<F>,
@@ -104,7 +105,7 @@ fn pivoted<C: Choosing<F>, F: ExactField>(
     }
 }
 
-/// What comes after a dictionary by one pivot.
+/// The result of one pivot at a dictionary.
 fn stepped<C: Choosing<F>, F: ExactField>(
     alloc: Global,
     dict: Dict<F>,
@@ -121,7 +122,7 @@ fn stepped<C: Choosing<F>, F: ExactField>(
     }
 }
 
-/// Where a walk halts that may take no further pivot.
+/// Where a run halts that may make no further pivot.
 fn halted<C: Choosing<F>, F: ExactField>(dict: Dict<F>, choice: &C) -> Halt<F>
     ensures { (first : Dictionary) (pivots : List Pivot) → C.remembers choice.now first pivots (dictionary F.value dict) →
         walks.HaltsAtLimit F.limit F.value (C.chooses first pivots (dictionary F.value dict)) dict result }
@@ -133,7 +134,7 @@ fn halted<C: Choosing<F>, F: ExactField>(dict: Dict<F>, choice: &C) -> Halt<F>
     }
 }
 
-/// The walk of at most so many pivots from a first dictionary.
+/// The run of at most `iterlim` pivots from a first dictionary.
 pub(crate) fn walked<C: Choosing<F>, F: ExactField>(
     alloc: Global,
     first: Dict<F>,

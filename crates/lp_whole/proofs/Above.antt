@@ -1,4 +1,5 @@
--- A dictionary with variable 0 put off, read off the lines that are kept; and when all its parts are below a bound.
+-- A dictionary with variable 0 deferred, read from the stored rows; and when all its integers are
+-- within a bound.
 use Rattle.std.proofs.Common.{◌≡◌, ◌≢◌, ℕ, ◌+◌, ◌*◌, ◌<◌, ◌≤◌, ◌==◌, inl, inr, ℤ, pos, ◌-ℤ◌, ◌*ℤ◌, nat_abs, cond, refl, sym, ap, ap₂, ◌∙◌, subst, arith, mul-pos, mul_comm, mul-one}
 use Rattle.std.proofs.lemmas.Int.{ints}
 use Rattle.std.proofs.lemmas.Bool.{cases_eq, eq-eqb, ne_eqb}

@@ -1,4 +1,5 @@
--- When the steps on whole numbers fit: those of a ratio test by one bound, those of an exchange by one for each two rows.
+-- When the steps on integers fit: those of a ratio test by one bound, those of an exchange by a
+-- bound for each two rows.
 use Rattle.std.proofs.Common.{◌≡◌, ◌≢◌, ℕ, zero, suc, ◌+◌, ◌*◌, ◌/◌, ◌<◌, ◌≤◌, inl, inr, true, ℤ, pos, negsuc, ◌+ℤ◌, ◌*ℤ◌, neg_ℤ, nat_abs, refl, sym, ap, ap₂, ◌∙◌, subst, subst₂, arith, mul_comm, mul_assoc, mul-pos, eq-zero-or-pos}
 use Rattle.std.specs.Int.{◌∣◌}
 use Rattle.std.proofs.lemmas.Int.{ints}

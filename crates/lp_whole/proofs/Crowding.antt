@@ -90,7 +90,7 @@ module _ (t : WholeTableau) (w : IsWhole t) (p : Pivot) (k : ℕ) (legal : IsLeg
   abbrev kept : ℕ → ℕ → Number
   kept i c = lines_number t.lines (row_of (length t.basic) i) c
 
-  -- nothing is put off before it
+  -- nothing is deferred before it
   none_off : (o : Option ℕ) → t.deferred ≡ o → o ≡ None
   none_off None is = refl
   none_off (Some z) is = absurd (enters_new d p k w.proper legal z 0 (subst (λ x. IsPlace t.basic 0 x) is w.put_off) (sym opens))

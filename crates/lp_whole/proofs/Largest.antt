@@ -15,9 +15,9 @@ use Rattle.lp_whole.specs.Form.{wholes}
 use Rattle.lp_whole.specs.Choice.{IsBetter, IsBest, IsGreatestAbove}
 use Rattle.lp_numbers.proofs.Lines.{whole_past}
 
--- ---- the walk of a line
+-- ---- the loop over a row
 
--- the columns from 2 up to n have no number above 0, or of these this is the greatest and stands first
+-- the columns from 2 up to n have no number above 0, or b is the first of those with the greatest
 abbrev Greatest : Line → ℕ → Option ℕ → Type 0
 Greatest l n None = (c : ℕ) → 2 ≤ c → c < n → ¬ (pos 0 <ℤ whole_at (wholes l) c)
 Greatest l n (Some b) =

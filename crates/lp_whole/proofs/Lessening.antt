@@ -1,4 +1,4 @@
--- Whole numbers over one denominator: what a line becomes in an exchange, and how two ratios compare.
+-- Integers over one denominator: what a row becomes in an exchange, and how two ratios compare.
 use Rattle.std.proofs.Common.{◌≡◌, ◌≢◌, ◌↔◌, ℕ, zero, suc, ◌*◌, ◌<◌, ℤ, pos, negsuc, ◌-ℤ◌, ◌*ℤ◌, neg_ℤ, nat_abs, ◌≤ℤ◌, ◌<ℤ◌, refl, sym, ap, ap₂, ◌∙◌, subst, subst₂, arith, mul-pos}
 use Rattle.gq_number.specs.Number.{Number, whole, ratio, ◌+ℚ◌, ◌-ℚ◌, ◌*ℚ◌, ◌/ℚ◌, neg_ℚ}
 use Rattle.gq_number.specs.Order.{◌≤ℚ◌, ◌<ℚ◌, number_cmp}
@@ -25,14 +25,16 @@ pub ratios_divided : (x p : ℤ) (e : ℕ) → 0 < e → whole p ≢ whole (pos 
 ratios_divided x p e above some =
     ap₂ (λ a b. a /ℚ b) (ratio_is x e) (ratio_is p e) ∙ over_same (whole x) (whole p) (whole (pos e)) some (whole-≢-zero e above)
 
--- the line of the variable that leaves: its numbers stay, and its number of the variable that enters is the new denominator
+-- the row of the leaving variable: its integers stay, and the one of the entering variable is the
+-- new denominator
 pub divided_line : (x : ℤ) (p e : ℕ) → 0 < e → 0 < p → ratio x e /ℚ ratio (pos p) e ≡ ratio x p
 divided_line x p e above_e above_p = ratios_divided x (pos p) e above_e (whole-≢-zero p above_p) ∙ sym (ratio_is x p)
 
 lessened_numbers : (n x d a b g : Number) → d ≢ whole (pos 0) → a ≢ whole (pos 0) → g ≢ whole (pos 0) → (a *ℚ n -ℚ b *ℚ x) /ℚ (a *ℚ d) ≡ n /ℚ d -ℚ (b *ℚ g) /ℚ d *ℚ (x /ℚ (a *ℚ g))
 lessened_numbers n x d a b g some_d some_a some_g = simp field_ℚ
 
--- another line: n over d, f its number of the variable that enters; x and p those of the line of the variable that leaves, over e
+-- another row: n over d, and f for the entering variable; the row of the leaving variable: x and p
+-- over e
 pub lessened : (n x f b : ℤ) (d e p a g : ℕ) → 0 < d → 0 < e → 0 < a → 0 < g → p ≡ a * g → f ≡ b *ℤ pos g → ratio (pos a *ℤ n -ℤ b *ℤ x) (a * d) ≡ ratio n d -ℚ ratio f d *ℚ (ratio x e /ℚ ratio (pos p) e)
 lessened n x f b d e p a g above_d above_e above_a above_g p_is f_is =
     let some_d = whole-≢-zero d above_d in

@@ -1,4 +1,5 @@
--- Each step of an exchange fits where each row has room together with that of the variable that leaves.
+-- Each step of an exchange fits if each row, together with the leaving variable's, stays within the
+-- bound.
 use Rattle.std.proofs.Common.{◌≡◌, ◌≢◌, ℕ, zero, suc, ◌+◌, ◌*◌, ◌<◌, ◌≤◌, inl, inr, true, false, true≢false, ℤ, pos, ◌-ℤ◌, ◌*ℤ◌, nat_abs, cond, List, length, Option, Some, None, refl, sym, ap, ap₂, ◌∙◌, subst, subst₂, arith, mul-pos}
 use Rattle.std.specs.Prelude.{slice_get, MatchOption, IfSome, IsTrue, is_some}
 use Rattle.std.specs.Ordering.{nat_cmp, ord_max}
@@ -37,7 +38,7 @@ pub record IsRow (lines : List Line) (o : Option ℕ) (bound i : ℕ) : Type 0 w
   pub named : (c : ℕ) → number c ≡ row_number o lines i c
   pub within : (c : ℕ) → nat_abs (number c) ≤ row_most o lines i
 
--- nothing is put off
+-- nothing is deferred
 plain_row : (lines : List Line) (width bound i : ℕ) → AreWhole lines None width bound → i < length lines → IsRow lines None bound i
 plain_row lines width bound i w less =
     let l = some_at lines i less in
@@ -182,7 +183,7 @@ fit_more lines o leaving column bound n h here i less other = elim (cases_eq i n
   | inr apart ↦ h i (omega arith) other
 ]
 
--- room as the numbers are, and without a factor that they share
+-- two rows stay within the bound by their integers as they are, without a common factor
 pub room_plain : (f p : ℤ) (most other bound : ℕ) → nat_abs p * most + nat_abs f * other ≤ bound → HasPairRoom f p most other bound
 room_plain f p most other bound room =
     record { of_row = p; of_leaving = f; shared = 1; positive = omega arith; first = times_one p; second = times_one f; room = room }

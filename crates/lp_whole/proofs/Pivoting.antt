@@ -1,4 +1,4 @@
--- A pivot: what the lines after it stand for, and that there is room for it.
+-- A pivot: what the stored rows mean after it, and that they stay within the bound.
 use Rattle.std.proofs.Common.{◌≡◌, ◌≢◌, ℕ, ◌+◌, ◌*◌, ◌<◌, ◌≤◌, ◌==◌, ◌&&◌, inl, inr, pos, nat_abs, cond, List, length, length-set, Option, Some, None, refl, sym, ap, ◌∙◌, subst, subst₂, arith}
 use mathlib.Core.Path.{fun_ext}
 use Rattle.std.specs.Prelude.{slice_get, slice_set, Contains}
@@ -108,7 +108,7 @@ module _ (t : WholeTableau) (w : IsWhole t) (p : Pivot) (k : ℕ) (legal : IsLeg
       let none : ¬ (Contains t.basic 0) = subst (λ o. IsPlace t.basic 0 o) is w.put_off in
       none (contains_get t.basic k 0 (basic_there ∙ ap Some zero_is))
 
-  -- ---- a pivot with nothing put off
+  -- ---- a pivot with nothing deferred
 
   module _ (is : t.deferred ≡ None) (lines : List Line) (h : AreTurnedInRoom t.bound (p.enter + 1) k k t.lines lines) where
     plain_same : (i c : ℕ) → numbers_above None (lines_number lines) (row_of (length t.basic) i) c ≡ (exchanged d p.enter k).numbers i c
@@ -138,7 +138,7 @@ module _ (t : WholeTableau) (w : IsWhole t) (p : Pivot) (k : ℕ) (legal : IsLeg
     pub after_plain : p.enter ≢ 0 → IsAfter lines None
     after_plain other = after_is lines None (turned_sized t.bound (p.enter + 1) k k (length t.basic) t.lines lines w.paired k_in h) plain_whole (plain_place other) plain_same
 
-  -- ---- variable 0 is put off in the row z
+  -- ---- variable 0 is deferred in the row z
 
   module _ (z : ℕ) (is : t.deferred ≡ Some z) where
     abbrev wz : AreWhole t.lines (Some z) (t.variables + 2) t.bound
@@ -297,7 +297,7 @@ module _ (t : WholeTableau) (w : IsWhole t) (p : Pivot) (k : ℕ) (legal : IsLeg
           ]
           ∙ sym ((above d kept p.enter z off_above enters k apart other_stays pivot_there).numbers i c)
 
-      -- the room after it
+      -- the rows after it stay within the bound
       abbrev first : Line
       first = raised_there.0
 

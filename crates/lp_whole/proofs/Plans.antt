@@ -1,4 +1,4 @@
--- The factors of all lines, one after another.
+-- The factors of all stored rows.
 use Rattle.std.proofs.Common.{◌≡◌, ◌≢◌, ◌⊎◌, ℕ, zero, suc, ◌+◌, ◌<◌, ◌≤◌, nat_abs, inl, inr, List, [], ◌∷◌, ◌++◌, length, Some, None, refl, sym, ap, ap₂, ◌∙◌, subst, subst₂, arith, length-append, length-set}
 use Rattle.std.proofs.lemmas.Bool.{cases_eq}
 use Rattle.std.specs.Prelude.{slice_get, slice_set, slice_index_or}
@@ -50,7 +50,7 @@ planned_more bound column place lines pivot plans n f h here own =
           ];
     }
 
--- ---- the lines, one after another
+-- ---- the rows in order
 
 pub set_same : {X : Type 0} (xs : List X) (k : ℕ) (x : X) → k < length xs → slice_get (slice_set xs k x) k ≡ Some x
 set_same [] k x less = absurd (omega arith)
@@ -92,7 +92,7 @@ exchanged_past column place pivot plans before after n h same =
       kept = h.kept;
     }
 
--- past the end stands nothing
+-- past the end there is nothing
 pub get_past : {X : Type 0} (xs : List X) (i : ℕ) → length xs ≤ i → slice_get xs i ≡ None
 get_past [] i past = refl
 get_past (x ∷ xs) zero past = absurd (omega arith)
@@ -196,7 +196,7 @@ module _ (column place : ℕ) (plans : List Factors) (before after : List Line) 
   turned_lines =
       record { sized = length-set after place divided ∙ sized_after; are_lines = lines_turned; numbers = numbers_turned; within = within_plans }
 
--- ---- lines that are divided one after another
+-- ---- dividing the rows in order
 
 -- the first n lines are divided, the others as before
 pub record AreReduced (before after : List Line) (n : ℕ) : Type 0 where

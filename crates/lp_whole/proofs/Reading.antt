@@ -1,4 +1,4 @@
--- What lines stand for where variable 0 is put off, number by number.
+-- The numbers that stored rows mean when variable 0 is deferred.
 use Rattle.std.proofs.Common.{◌≡◌, ◌≢◌, ℕ, ◌+◌, ◌*◌, ◌<◌, ◌≤◌, ◌^◌, ℤ, pos, ◌-ℤ◌, ◌*ℤ◌, ◌<ℤ◌, nat_abs, inl, inr, cond, List, length, Some, None, refl, sym, ap, ap₂, ◌∙◌, subst, subst₂, arith, mul_comm, mul-pos, mul-one}
 use Rattle.std.specs.Prelude.{slice_get, slice_index_or, Option}
 use Rattle.std.proofs.lemmas.Int.{ints}
@@ -168,7 +168,7 @@ pub record IsRead (lines : List Line) (deferred : Option ℕ) (place column : �
   pub shared : d ≡ row_denominator deferred lines place
   pub within : (bound : ℕ) → HasRoom deferred lines bound → (nat_abs n ≤ bound) × (d ≤ bound)
 
--- What the reading of a line beside the pivot line asks for.
+-- What reading a row beside the pivot row requires.
 pub record IsReady (l p : Line) (column : ℕ) : Type 0 where
   pub line : IsLine l
   pub pivot : IsLine p

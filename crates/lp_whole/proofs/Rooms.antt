@@ -1,4 +1,4 @@
--- The room of all lines after an exchange, line by line.
+-- All rows stay within the bound after an exchange, row by row.
 use Rattle.std.proofs.Common.{◌≡◌, ◌≢◌, ℕ, ℤ, ◌+◌, ◌*◌, ◌<◌, ◌≤◌, ◌^◌, ◌-◌, nat_abs, inl, inr, List, length, Some, pos, sym, ◌∙◌, subst, subst₂, arith}
 use Rattle.std.specs.Prelude.{slice_get, slice_index_or}
 use Rattle.std.proofs.lemmas.Bool.{cases_eq}
@@ -88,7 +88,7 @@ module _ (width bound column place : ℕ) (lines : List Line) (plans : List Fact
       let second : zero_after x p f * g.most ≤ top * top = mul-le-mul (omega arith) high_leaving in
       omega arith
 
--- the first n lines have room
+-- the first n rows stay within the bound
 abbrev pub RoomBelow : ℕ → ℕ → Line → Factors → ℕ → List Line → List Factors → ℕ → Type 0
 RoomBelow n leaving p g u lines plans bound =
     (i : ℕ) (x : Line) (f : Factors) → i < n → i ≢ leaving → slice_get lines i ≡ Some x → slice_get plans i ≡ Some f → f.most * u + zero_after x p f * g.most ≤ bound

@@ -1,4 +1,4 @@
--- Lines made apart, one after another.
+-- Rows made apart, in order.
 use Rattle.std.proofs.Common.{◌≡◌, ℕ, ◌+◌, ◌<◌, inl, inr, List, length, Some, refl, sym, ◌∙◌, subst, arith}
 use Rattle.std.specs.Prelude.{slice_get, slice_set, IfOk, Result}
 use Rattle.std.proofs.Common.{Ok, Err}

@@ -123,7 +123,7 @@ module _ (variables : ℕ) (basic : List ℕ) (lines : List Line) (deferred : Op
   number_here i c = at_line lines (row_of (length basic) i) (line_of i).0 (line_of i).1 c
 
 module _ (variables : ℕ) (basic : List ℕ) (lines : List Line) (bound : ℕ) where
-  -- nothing is put off
+  -- nothing is deferred
   bounded_plain : (w : IsWhole (record { variables = variables; basic = basic; lines = lines; deferred = None; bound = bound })) → IsBounded (whole_dictionary variables basic lines None) bound
   bounded_plain w =
       record {

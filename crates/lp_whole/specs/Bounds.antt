@@ -1,9 +1,11 @@
--- Dictionaries whose rows are whole numbers over one denominator each, below one bound (Edmonds, and Bareiss, on integer pivoting).
+-- Dictionaries whose rows are integers over a common denominator, within one bound (Edmonds, and
+-- Bareiss, on integer pivoting).
 use Rattle.std.specs.Prelude.{◌≡◌, ◌≢◌, ℕ, ◌+◌, ◌*◌, ◌<◌, ◌≤◌, ℤ, pos, nat_abs}
 use Rattle.gq_number.specs.Number.{Number, ratio}
 use Rattle.lp_core.specs.Dictionary.{Dictionary}
 
--- Each row and the objective are whole numbers over one denominator, and no magnitude and no denominator passes the bound.
+-- Each row and the objective are integers over a common denominator; no magnitude and no
+-- denominator exceeds the bound.
 pub record IsBounded (d : Dictionary) (bound : ℕ) : Type 0 where
   pub number : ℕ → ℕ → ℤ
   pub denominator : ℕ → ℕ
@@ -12,12 +14,12 @@ pub record IsBounded (d : Dictionary) (bound : ℕ) : Type 0 where
   pub number_within : (i c : ℕ) → nat_abs (number i c) ≤ bound
   pub denominator_within : (i : ℕ) → denominator i ≤ bound
 
--- the numbers of lines: whole numbers, each line over its denominator
+-- the numbers of rows: integers, each row over its denominator
 abbrev pub over_denominators : (ℕ → ℕ → ℤ) → (ℕ → ℕ) → ℕ → ℕ → Number
 over_denominators n d i c = ratio (n i c) (d i)
 
--- Lines with the greatest magnitude of each, and room under a bound for what the exchange of variable 0 into row k makes of
--- them; u is the number of variable 0 there.
+-- Stored rows with the greatest magnitude of each, such that the exchange of variable 0 into row k
+-- stays within a bound; u is the coefficient of variable 0 in row k.
 pub record HasRoomAbove (n : ℕ → ℕ → ℤ) (d most : ℕ → ℕ) (bound k u : ℕ) : Type 0 where
   pub pivot : n k 1 ≡ pos u
   pub above : 0 < u

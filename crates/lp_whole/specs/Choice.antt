@@ -1,4 +1,5 @@
--- The least of several rows by a number, and of equal ones by a variable (Bland's choice: Chvatal, Linear Programming, chapter 3).
+-- The least of several rows by a number, and of equal ones by a variable (Bland's choice: Chvatal,
+-- Linear Programming, chapter 3).
 use Rattle.std.specs.Prelude.{◌≡◌, ◌⊎◌, ℕ, ◌+◌, ◌<◌, ◌≤◌, ◌^◌, pos, ◌<ℤ◌, List, slice_index_or, Option, Some, None}
 use Rattle.gq_number.specs.Number.{Number, whole, ratio, ◌/ℚ◌}
 use Rattle.gq_number.specs.Order.{◌<ℚ◌}
@@ -8,15 +9,16 @@ use Rattle.lp_whole.specs.declared.choice.Candidate.{Candidate}
 use Rattle.lp_numbers.specs.Lines.{whole_at}
 use Rattle.lp_whole.specs.Form.{wholes}
 
--- the number that a fraction is
+-- the number of a fraction
 abbrev pub fraction : Fraction → Number
 fraction f = ratio f.numerator f.denominator
 
--- what a fraction is over is above 0, and below 2 to the 127th
+-- the denominator of a fraction is above 0, and below 2^127
 abbrev pub IsFraction : Fraction → Type 0
 IsFraction f = (0 < f.denominator) × (f.denominator < 2 ^ 127)
 
--- a number and a variable come first before others: the number is less, or it is the same and the variable is at most the other
+-- a number and a variable come before others: the number is less, or it is equal and the variable
+-- is at most the other
 abbrev pub ComesFirst : Number → ℕ → Number → ℕ → Type 0
 ComesFirst x v y w = (x <ℚ y) ⊎ ((x ≡ y) × (v ≤ w))
 
@@ -27,7 +29,8 @@ IsLesser (Some best) other r =
     ((r ≡ other) × ComesFirst (fraction other.measure) other.variable (fraction best.measure) best.variable)
     ⊎ ((r ≡ best) × ComesFirst (fraction best.measure) best.variable (fraction other.measure) other.variable)
 
--- Of the places below n where P holds one comes first, by its number and its variable; or there is none.
+-- The place below n at which P holds that comes first, by its number and its variable; or P holds
+-- at none.
 abbrev pub IsFirstOf : (ℕ → Type 0) → (ℕ → Number) → (ℕ → ℕ) → ℕ → Option Candidate → Type 0
 IsFirstOf P number variable n None = (i : ℕ) → i < n → ¬ (P i)
 IsFirstOf P number variable n (Some c) =
@@ -42,7 +45,7 @@ abbrev pub IsLeastRatio : (ℕ → ℕ → Number) → List ℕ → ℕ → ℕ 
 IsLeastRatio numbers basic column n best =
     IsFirstOf (λ i. whole (pos 0) <ℚ numbers i column) (λ i. numbers i 0 /ℚ numbers i column) (λ i. slice_index_or basic i 0) n best
 
--- the least variable from 1 on whose number in the line is above 0; none where there is none
+-- the least variable from 1 on whose number in the row is above 0, if any
 abbrev pub IsFirstAbove : Line → Option ℕ → Type 0
 IsFirstAbove l None = (v : ℕ) → 1 ≤ v → ¬ (pos 0 <ℤ whole_at (wholes l) (v + 1))
 IsFirstAbove l (Some q) =
@@ -57,7 +60,8 @@ IsBetter l column (Some best) = whole_at (wholes l) best <ℤ whole_at (wholes l
 abbrev pub IsBest : Line → Option ℕ → ℕ → Option ℕ → Type 0
 IsBest l best column r = ((r ≡ Some column) × IsBetter l column best) ⊎ ((r ≡ best) × ¬ (IsBetter l column best))
 
--- the variable from 1 on whose number in the line is greatest of those above 0, and of equal ones the least; none where there is none
+-- the variable from 1 on with the greatest integer above 0 in a row, and of equal ones the least;
+-- none if no integer is above 0
 abbrev pub IsGreatestAbove : Line → Option ℕ → Type 0
 IsGreatestAbove l None = (v : ℕ) → 1 ≤ v → ¬ (pos 0 <ℤ whole_at (wholes l) (v + 1))
 IsGreatestAbove l (Some q) =

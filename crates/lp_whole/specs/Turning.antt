@@ -1,10 +1,11 @@
--- The exchange on a matrix of numbers, and a dictionary in which variable 0 is put off (Chvatal, Linear Programming, chapters 2 and 3).
+-- The exchange on a matrix of numbers, and a dictionary in which variable 0 is deferred (Chvatal,
+-- Linear Programming, chapters 2 and 3).
 use Rattle.std.specs.Prelude.{◌≡◌, ◌≢◌, ℕ, ◌==◌, pos, if◌then◌else◌}
 use Rattle.gq_number.specs.Number.{Number, whole, ◌-ℚ◌, ◌*ℚ◌, ◌/ℚ◌, neg_ℚ}
 use Rattle.lp_core.specs.Dictionary.{Dictionary}
 
--- the numbers after an exchange at row k and column q: the row is divided by its number there, and every other loses the
--- multiple of it that takes its own number there
+-- the numbers after an exchange at row k and column q: row k is divided by its number at q, and
+-- each other row loses the multiple of it that makes its number at q 0
 abbrev pub turned_at : (ℕ → ℕ → Number) → ℕ → ℕ → ℕ → ℕ → Number
 turned_at n q k i c = if i == k then n k c /ℚ n k q else n i c -ℚ n i q *ℚ (n k c /ℚ n k q)
 
@@ -16,7 +17,8 @@ swapped n k l i c = n (if i == k then l else (if i == l then k else i)) c
 abbrev pub negated : (ℕ → ℕ → Number) → ℕ → ℕ → ℕ → Number
 negated n k i c = if i == k then neg_ℚ (n i c) else n i c
 
--- A dictionary is above the numbers that are kept: it is what the exchange of variable 0 into row k makes of them.
+-- A dictionary is above the stored numbers: it is the result of the exchange of variable 0 into row
+-- k.
 pub record IsAbove (d : Dictionary) (kept : ℕ → ℕ → Number) (k : ℕ) : Type 0 where
   pub some : kept k 1 ≢ whole (pos 0)
   pub numbers : (i c : ℕ) → d.numbers i c ≡ turned_at kept 1 k i c

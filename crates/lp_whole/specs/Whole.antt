@@ -1,4 +1,5 @@
--- A dictionary by whole numbers, as contracts see it, and how it is kept (Chvatal, Linear Programming, chapters 2 and 3).
+-- A dictionary by integers, as contracts view it, and how it is stored (Chvatal, Linear
+-- Programming, chapters 2 and 3).
 use Rattle.std.specs.Prelude.{◌≡◌, ◌≢◌, ◌⊎◌, ℕ, ◌+◌, ◌<◌, ◌^◌, nat_lt, List, length, Option, Some, None, Result, IfOk, IfErr, if◌then◌else◌}
 use Rattle.lp_core.specs.declared.answer.Pivot.{Pivot}
 use Rattle.lp_core.specs.Dictionary.{Dictionary, exchanged}
@@ -13,7 +14,8 @@ use Rattle.lp_whole.specs.Pairs.{IsSomePairCrowded}
 abbrev pub row_of : ℕ → ℕ → ℕ
 row_of rows i = if nat_lt i rows then i else rows
 
--- the dictionary that lines stand for, the objective behind the rows; in the row that is deferred variable 0 is put off
+-- the dictionary that stored rows mean, with the objective after the rows; variable 0 is deferred
+-- in the row `deferred`
 abbrev pub whole_dictionary : ℕ → List ℕ → List Line → Option ℕ → Dictionary
 whole_dictionary variables basic lines deferred =
     record {
@@ -22,7 +24,8 @@ whole_dictionary variables basic lines deferred =
       numbers = λ i c. numbers_above deferred (lines_number lines) (row_of (length basic) i) c;
     }
 
--- What is kept: the basic variables, the lines, the row in which variable 0 is put off, and a bound that no part passes.
+-- What is stored: the basic variables, the rows, the row in which variable 0 is deferred, and a
+-- bound of all integers.
 pub record WholeTableau : Type 0 where
   -- the greatest number of a variable
   pub variables : ℕ
@@ -31,12 +34,13 @@ pub record WholeTableau : Type 0 where
   pub deferred : Option ℕ
   pub bound : ℕ
 
--- the dictionary that is kept
+-- the dictionary that is stored
 abbrev pub dictionary : WholeTableau → Dictionary
 dictionary t = whole_dictionary t.variables t.basic t.lines t.deferred
 
--- There is a line for each basic variable and one for the objective, with room below the bound; variable 0 is put off just where
--- it is basic; and the dictionary is one of a program.
+-- The invariant: there is a stored row for each basic variable and one for the objective, and they
+-- stay within the bound; variable 0 is deferred exactly if it is basic; and the dictionary is one
+-- of a program.
 pub record IsWhole (t : WholeTableau) : Type 0 where
   pub sized : t.variables + 2 < 2 ^ 32
   pub paired : length t.lines ≡ length t.basic + 1
@@ -44,22 +48,24 @@ pub record IsWhole (t : WholeTableau) : Type 0 where
   pub put_off : IsPlace t.basic 0 t.deferred
   pub proper : IsProper (dictionary t)
 
--- the row in which the lines are exchanged where the variable of row k leaves: that in which variable 0 is put off, if there is one
+-- the place of the exchange of stored rows when the variable of row k leaves: the row in which
+-- variable 0 is deferred, if it is
 abbrev pub kept_place : Option ℕ → ℕ → ℕ
 kept_place None k = k
 kept_place (Some z) k = z
 
--- the lines have no room for a pivot by row k
+-- the stored rows exceed the bound in a pivot by row k
 abbrev pub AreCrowded : WholeTableau → Pivot → ℕ → Type 0
 AreCrowded t p k =
     ((p.enter ≡ 0) × HasNoRoomFor k t.lines t.bound)
     ⊎ ((p.enter ≢ 0) × LinesHaveNoRoom t.bound (p.enter + 1) (kept_place t.deferred k) k t.lines)
 
--- there is no room for a pivot by row k: some row has none together with that row, or the lines have none
+-- a pivot by row k exceeds the bound: some row together with that row, or the stored rows
 abbrev pub IsPivotCrowded : WholeTableau → Pivot → ℕ → Type 0
 IsPivotCrowded t p k = IsSomePairCrowded t.lines t.deferred k (p.enter + 1) t.bound ⊎ AreCrowded t p k
 
--- what a pivot by row k answers: the dictionary exchanged, or the same where its lines are crowded; and the bound stays
+-- the result of a pivot by row k: the exchanged dictionary, or the same one if its rows would
+-- exceed the bound; the bound stays
 abbrev pub IsPivoted : WholeTableau → Pivot → ℕ → Result WholeTableau WholeTableau → Type 0
 IsPivoted t p k r =
     IfOk r (λ after. (dictionary after ≡ exchanged (dictionary t) p.enter k) × (after.bound ≡ t.bound))

@@ -1,4 +1,4 @@
-//! The exchange of lines made apart, and kept where there is room for what it makes.
+//! The exchange of rows made apart, and kept if the result stays within the bound.
 ghost use Rattle.std.specs.Prelude.{◌≡◌, ℕ, ◌<◌, ◌^◌, pos, true, false, length, IfOk, IsTrue, ◌↔◌, MatchOption};
 ghost use Rattle.gq_number.specs.Number.{whole};
 ghost use Rattle.gq_number.specs.Order.{◌<ℚ◌};
@@ -10,10 +10,10 @@ use crate::line::{Line, copied_line, settle};
 use crate::room::{all_within, has_room};
 use std::alloc::{AllocError, Global};
 
-/// The greatest magnitude of a part on the way.
+/// The greatest magnitude of an intermediate integer.
 const MOST: u128 = (1 << 127) - 1;
 
-/// The same lines in a list of their own. The error is out of memory.
+/// A copy of the rows. The error is out of memory.
 fn copied_lines(alloc: Global, lines: &[Line]) -> Result<Vec<Line>, AllocError>
     ensures { IfOk result (λ copies. copies.items ≡ lines.now) }
 {
@@ -25,7 +25,7 @@ fn copied_lines(alloc: Global, lines: &[Line]) -> Result<Vec<Line>, AllocError>
     Ok(copies)
 }
 
-/// Brings each line to lowest terms, and measures it. The error is out of memory.
+/// Brings each row to lowest terms, and measures it. The error is out of memory.
 fn settle_lines(alloc: Global, lines: &mut Vec<Line>) -> Result<(), AllocError>
     requires { (width : ℕ) × AreLines width lines.old.items }
     ensures same { IfOk result (λ _. AreSameLines lines.old.items lines.new.items) }
@@ -38,7 +38,7 @@ fn settle_lines(alloc: Global, lines: &mut Vec<Line>) -> Result<(), AllocError>
     Ok(())
 }
 
-/// Whether lines have room after an exchange at a place.
+/// Whether rows stay within the bound after an exchange at a place.
 fn have_room(lines: &[Line], place: usize, leaving: usize, bound: u128) -> bool
     requires small { bound < 2 ^ 127 }
     requires lines { (width : ℕ) × AreLines width lines.now × (1 < width) }
@@ -54,8 +54,9 @@ fn have_room(lines: &[Line], place: usize, leaving: usize, bound: u128) -> bool
     has_room(lines, leaving, bound)
 }
 
-/// The lines after an exchange at a place and a column, made apart and brought to lowest terms; none where on the way to them some
-/// part might have more than 127 bits, or where there is no room for them. The error is out of memory.
+/// The rows after an exchange at a place and a column, made apart and in lowest terms. None if on
+/// the way an integer might have more than 127 bits, or the result exceeds the bound. The error is
+/// out of memory.
 fn made_apart(
     alloc: Global,
     lines: &[Line],
@@ -83,8 +84,8 @@ fn made_apart(
     Ok(Some(made))
 }
 
-/// Exchanges the lines at a place and a column, where there is room for what that makes; else they stay, and the answer is
-/// `false`. The error is out of memory.
+/// Exchanges the rows at a place and a column, if the result stays within the bound; else they
+/// stay, and the answer is `false`. The error is out of memory.
 pub(crate) fn turn_apart(
     alloc: Global,
     lines: &mut Vec<Line>,

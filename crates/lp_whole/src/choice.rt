@@ -1,4 +1,5 @@
-//! The row that comes first, by the least constant or the least ratio; and the first variable whose number is above 0.
+//! The row that comes first, by the least constant or the least ratio; and the first variable whose
+//! number is above 0.
 ghost use Rattle.std.specs.Prelude.{◌≡◌, ℕ, ◌+◌, ◌*◌, ◌<◌, ◌^◌, pos, length, MatchOption};
 ghost use Rattle.gq_number.specs.Number.{whole, ◌/ℚ◌};
 ghost use Rattle.gq_number.specs.Order.{◌<ℚ◌, number_cmp};
@@ -28,7 +29,7 @@ fn compare(x: Fraction, y: Fraction) -> Ordering
     compare_ratios(x.numerator, x.denominator, y.numerator, y.denominator)
 }
 
-/// The one with the lesser number, and of equal ones the one with the lesser variable.
+/// The candidate with the lesser number, and of equal ones the one with the lesser variable.
 #[inline(always)]
 fn lesser(best: Option<Candidate>, other: Candidate) -> Candidate
     requires best { MatchOption best (Unit {0}) (λ b. IsFraction b.measure) }
@@ -51,7 +52,7 @@ fn lesser(best: Option<Candidate>, other: Candidate) -> Candidate
     }
 }
 
-/// The constant of a row where it is below 0.
+/// The constant of a row, if it is below 0.
 fn constant_below(lines: &[Line], deferred: Option<usize>, place: usize) -> Option<Fraction>
     requires lines { (width bound : ℕ) × AreWhole lines.now deferred width bound }
     requires within { place < length lines.now }
@@ -66,7 +67,7 @@ fn constant_below(lines: &[Line], deferred: Option<usize>, place: usize) -> Opti
     }
 }
 
-/// How far a row lets a variable rise, where its number in the row is above 0.
+/// How far a row lets a variable rise, if its number in the row is above 0.
 #[inline(always)]
 fn ratio_of(
     lines: &[Line],
@@ -91,8 +92,8 @@ fn ratio_of(
     })
 }
 
-/// The basic variable of a row with the least constant below 0, and of several such the least; none where no constant is
-/// below 0.
+/// The basic variable of a row with the least constant below 0, and of several such the least. None
+/// if no constant is below 0.
 pub(crate) fn least_constant(
     lines: &[Line],
     deferred: Option<usize>,
@@ -113,8 +114,9 @@ pub(crate) fn least_constant(
     best
 }
 
-/// The basic variable of a row with the least ratio of its constant and its number at a column, among rows where that number is
-/// above 0, and of several such the least; none where there is no such row.
+/// The basic variable of a row with the least ratio of its constant to its number at a column,
+/// among rows where that number is above 0, and of several such the least. None if there is no such
+/// row.
 pub(crate) fn least_ratio(
     lines: &[Line],
     deferred: Option<usize>,
@@ -136,7 +138,7 @@ pub(crate) fn least_ratio(
     best
 }
 
-/// The least variable from 1 on whose number in a line is above 0.
+/// The least variable from 1 on whose number in a row is above 0.
 pub(crate) fn first_above(line: &Line) -> Option<u32>
     requires { length (wholes line.now) < 2 ^ 32 }
     ensures { IsFirstAbove line.now result }

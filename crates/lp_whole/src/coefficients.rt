@@ -1,4 +1,4 @@
-//! The variable whose number in a line is greatest.
+//! The variable whose number in a row is greatest.
 ghost use Rattle.std.specs.Prelude.{◌↔◌, ◌<◌, ◌^◌, length, IsTrue, MatchOption};
 ghost use Rattle.lp_whole.specs.Form.{wholes};
 ghost use Rattle.lp_whole.specs.Choice.{IsBetter, IsBest, IsGreatestAbove};
@@ -30,7 +30,7 @@ fn better(line: &Line, best: Option<usize>, column: usize) -> Option<usize>
     }
 }
 
-/// The variable from variable 1 on whose number in a line is greatest of those above 0, and of equal ones the least.
+/// The variable from 1 on with the greatest integer above 0 in a row, and of equal ones the least.
 pub(crate) fn greatest_above(line: &Line) -> Option<u32>
     requires { length (wholes line.now) < 2 ^ 32 }
     ensures { IsGreatestAbove line.now result }

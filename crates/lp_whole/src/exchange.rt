@@ -1,4 +1,4 @@
-//! The exchange of all lines: the rows, and the objective behind them.
+//! The exchange of all rows: those of the basic variables, and the objective after them.
 ghost use Rattle.std.specs.Prelude.{◌≡◌, ℕ, ◌<◌, ◌≤◌, ◌^◌, pos, ◌<ℤ◌, length, slice_get, slice_set, Some, IfOk, MatchOption};
 ghost use Rattle.lp_whole.specs.declared.line.Line.{Line};
 ghost use Rattle.lp_numbers.specs.Lines.{whole_at, ArePlaces};
@@ -10,8 +10,9 @@ use lp_numbers::Numbers;
 use std::alloc::{AllocError, Global};
 use std::mem;
 
-/// The factors of each line in an exchange at a place and a column; none where some part might pass the bound. The line of the
-/// place gets factors that leave it as it is. The error is want of memory.
+/// The factors of each row in an exchange at a place and a column. None if an integer might exceed
+/// the bound. The row of the place gets factors that leave it as it is. The only error is out of
+/// memory.
 pub(crate) fn plan_lines(
     alloc: Global,
     lines: &[Line],
@@ -42,8 +43,9 @@ pub(crate) fn plan_lines(
     Ok(Some(plans))
 }
 
-/// Takes from each line but that of the place the multiple of the pivot line for which its factors are, and divides those where it
-/// is due. The places are those at which the pivot line has a number other than 0. The error is want of memory.
+/// Subtracts from each row, except that of the place, its multiple of the pivot row, and divides
+/// rows with great or scaled integers. `places` are the places at which the pivot row is not 0. The
+/// only error is out of memory.
 fn apply_plans(
     alloc: Global,
     lines: &mut Vec<Line>,
@@ -68,7 +70,7 @@ fn apply_plans(
     Ok(())
 }
 
-/// Puts a line at a place, and gives the one that was there.
+/// Puts a row at a place, and returns the one that it replaces.
 pub(crate) fn put_line(lines: &mut Vec<Line>, place: usize, line: Line) -> Line
     requires { place < length lines.old.items }
     ensures given { slice_get lines.old.items place ≡ Some result }
@@ -78,7 +80,8 @@ pub(crate) fn put_line(lines: &mut Vec<Line>, place: usize, line: Line) -> Line
     mem::replace(old, line)
 }
 
-/// Divides the pivot line by its number at a column, and by what its parts then have in common. The error is want of memory.
+/// Divides the pivot row by its number at a column, and by the common divisor of the result. The
+/// only error is out of memory.
 fn turn_pivot(alloc: Global, line: &mut Line, column: usize) -> Result<(), AllocError>
     requires line { IsLine line.old }
     requires within { column < length (wholes line.old) }
@@ -89,7 +92,7 @@ fn turn_pivot(alloc: Global, line: &mut Line, column: usize) -> Result<(), Alloc
     reduce(alloc, line)
 }
 
-/// A line without numbers.
+/// A row without numbers.
 pub(crate) fn no_line(alloc: Global) -> Line {
     Line {
         numbers: Numbers::empty(alloc),
@@ -99,7 +102,8 @@ pub(crate) fn no_line(alloc: Global) -> Line {
     }
 }
 
-/// The exchange of all lines at a place and a column, by their factors; divides those where it is due. The error is want of memory.
+/// The exchange of all rows at a place and a column, by their factors; it divides rows with great
+/// or scaled integers. The only error is out of memory.
 pub(crate) fn exchange_lines(
     alloc: Global,
     lines: &mut Vec<Line>,
@@ -120,7 +124,8 @@ pub(crate) fn exchange_lines(
     Ok(())
 }
 
-/// Divides each line by what its parts have in common. The error is want of memory.
+/// Divides each row by the common divisor of its integers and denominator. The only error is out of
+/// memory.
 pub(crate) fn reduce_lines(alloc: Global, lines: &mut Vec<Line>) -> Result<(), AllocError>
     requires { (width : ℕ) × AreLines width lines.old.items }
     ensures { IfOk result (λ _. AreSameLines lines.old.items lines.new.items) }

@@ -1,4 +1,4 @@
-//! What the exchange with variable 0 put off means, for any numbers: laws on functions with empty bodies.
+//! The exchange with variable 0 deferred, for any numbers: laws on functions with empty bodies.
 ghost use Rattle.std.specs.Prelude.{◌≡◌, ◌≢◌, ◌↔◌, ℕ, ◌+◌, ◌*◌, ◌<◌, ◌≤◌, ℤ, pos, ◌-ℤ◌, ◌*ℤ◌, ◌≤ℤ◌, ◌<ℤ◌, nat_abs, IsTrue, ◌==◌, if◌then◌else◌};
 ghost use Rattle.gq_number.specs.Number.{Number, whole, ratio, ◌-ℚ◌, ◌*ℚ◌, ◌/ℚ◌};
 ghost use Rattle.gq_number.specs.Order.{◌≤ℚ◌, ◌<ℚ◌};
@@ -8,11 +8,12 @@ ghost use Rattle.lp_whole.specs.Bounds.{IsBounded, HasRoomAbove, over_denominato
 ghost use Rattle.lp_whole.specs.Pairs.{HasPairRoom};
 ghost use Rattle.lp_whole.specs.Turning.{turned_at, swapped, negated, IsAbove};
 
-/// Two exchanges in one row are the second alone; and an exchange of a dictionary with variable 0 put off is an exchange
-/// of what is kept: Chvatal, Linear Programming, chapter 3.
+/// Two exchanges in one row equal the second alone; and an exchange of a dictionary with variable 0
+/// deferred is an exchange of the stored rows: Chvatal, Linear Programming, chapter 3.
 ///
-/// Where another variable than 0 leaves, by row `l`, the kept rows are exchanged in the row `k` of variable 0, and then
-/// the rows `k` and `l` change places; where variable 0 leaves, nothing is put off any more, and its column is 0.
+/// If a variable other than 0 leaves, by row `l`, the stored rows are exchanged in the row `k` of
+/// variable 0, and then the rows `k` and `l` change places. If variable 0 leaves, nothing is
+/// deferred any longer, and its column is 0.
 pub fn turning_laws()
     ensures own { (n : ℕ → ℕ → Number) (z q k i c : ℕ) → n k z ≢ whole (pos 0) → n k q ≢ whole (pos 0) →
         turned_at (turned_at n z k) q k i c ≡ turned_at n q k i c }
@@ -28,12 +29,13 @@ pub fn turning_laws()
         (exchanged d q k).numbers i c ≡ (if c == 1 then whole (pos 0) else turned_at kept (q + 1) k i c) }
 {}
 
-/// A line of whole numbers over one denominator stays one in an exchange, and two ratios compare as the cross products of
-/// their whole numbers: Edmonds, Systems of distinct representatives and linear algebra; Bareiss, Sylvester's identity and
-/// multistep integer-preserving Gaussian elimination.
+/// A row of integers over one denominator remains one in an exchange, and two ratios compare as the
+/// cross products of their integers: Edmonds, Systems of distinct representatives and linear
+/// algebra; Bareiss, Sylvester's identity and multistep integer-preserving Gaussian elimination.
 ///
-/// A line has `n` over `d`, and `f` for the variable that enters; the line of the variable that leaves has `x` over `e`, and
-/// `p` for the variable that enters; `a` and `b` are `p` and `f` without their common factor `g`.
+/// A row has `n` over `d`, and `f` for the entering variable. The row of the leaving variable has
+/// `x` over `e`, and `p` for the entering variable. `a` and `b` are `p` and `f` without their
+/// common factor `g`.
 pub fn line_laws()
     ensures divided { (x : ℤ) (p e : ℕ) → 0 < e → 0 < p → ratio x e /ℚ ratio (pos p) e ≡ ratio x p }
     ensures lessened { (n x f b : ℤ) (d e p a g : ℕ) → 0 < d → 0 < e → 0 < a → 0 < g → p ≡ a * g → f ≡ b *ℤ pos g →
@@ -44,9 +46,10 @@ pub fn line_laws()
         (ratio r d /ℚ ratio (pos a) d <ℚ ratio s e /ℚ ratio (pos b) e) ↔ ((r *ℤ pos b) <ℤ (s *ℤ pos a)) }
 {}
 
-/// When steps on rows of whole numbers over one denominator each fit. In a ratio test all do where no part of a row passes the
-/// limit. In an exchange all do where each row has room together with the row of the variable that leaves: if that row has `nk`
-/// and `p` at two columns over `dk`, where the other has `ni` and `f` over `di`, both steps at the first column fit.
+/// When steps on integer rows over common denominators fit. In a ratio test all do if no integer of
+/// a row exceeds the limit. In an exchange all do if each row, together with the row of the leaving
+/// variable, stays within the limit: if that row has `nk` and `p` at two columns over `dk`, and the
+/// other has `ni` and `f` over `di`, both steps at the first column fit.
 pub fn bound_laws()
     ensures ratios { (limit bound : ℕ) (d : Dictionary) (pivot q : ℕ) → bound ≤ limit → IsBounded d bound →
         AllFit (ratio_steps limit pivot d q) }
@@ -58,8 +61,9 @@ pub fn bound_laws()
         HasRoomAbove n d most bound k u → IsAbove above (over_denominators n d) k → IsBounded above bound }
 {}
 
-/// How a dictionary with variable 0 put off is read off the lines that are kept, where the number `u` of variable 0 in the
-/// row `k` is above 0: in row `k` the whole numbers stay and `u` is the denominator, and another row is exchanged.
+/// How a dictionary with variable 0 deferred is read from the stored rows, if the coefficient `u`
+/// of variable 0 in row `k` is above 0: in row `k` the integers stay and `u` is the denominator,
+/// and another row is exchanged.
 pub fn reading_laws()
     ensures own { (n : ℕ → ℕ → ℤ) (d : ℕ → ℕ) (z k u c : ℕ) → n k z ≡ pos u → 0 < u → ((i : ℕ) → 0 < d i) →
         turned_at (over_denominators n d) z k k c ≡ ratio (n k c) u }

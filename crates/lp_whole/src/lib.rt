@@ -1,4 +1,5 @@
-//! Floor 4, linear programs. A dictionary as lines of whole numbers, each over one denominator, with variable 0 put off.
+//! Layer 4, linear programs. A dictionary as integer rows, each over one denominator, with variable
+//! 0 deferred.
 #![tactic(auto)]
 
 mod apart;

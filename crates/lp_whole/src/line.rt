@@ -1,4 +1,4 @@
-//! A line of a dictionary: whole numbers, one for each column, over one denominator.
+//! A row of a dictionary: integers, one for each column, over one denominator.
 ghost use Rattle.std.specs.Prelude.{◌≡◌, ◌⊎◌, ℕ, ◌+◌, ◌*◌, ◌<◌, ◌≤◌, ◌^◌, ◌-◌, pos, ◌<ℤ◌, nat_abs, length, true, false, IfOk, MatchOption};
 ghost use Rattle.lp_numbers.specs.Lines.{whole_at, AreWithin, ArePlaces};
 ghost use Rattle.lp_whole.specs.Marks.{AreMarked};
@@ -8,7 +8,7 @@ use crate::marks::Marks;
 use lp_numbers::{Numbers, gcd, greatest, sum_within};
 use std::alloc::{AllocError, Global};
 
-/// A line: whole numbers over one denominator, a magnitude that none of them passes, and marks on their columns.
+/// A row: integers over one denominator, a bound of their magnitudes, and marks on their columns.
 #[derive(Drop)]
 pub struct Line {
     pub(crate) numbers: Numbers,
@@ -18,7 +18,8 @@ pub struct Line {
 }
 
 impl Line {
-    /// The line of these whole numbers, one for each column, over this denominator. The error is want of memory.
+    /// The row of these integers, one for each column, over this denominator. The only error is out
+    /// of memory.
     pub fn new(alloc: Global, numbers: Vec<i128>, denominator: u128) -> Result<Line, AllocError>
         requires positive { 0 < denominator }
         requires small { denominator < 2 ^ 127 }
@@ -38,7 +39,8 @@ impl Line {
         })
     }
 
-    /// The line of these whole numbers of one word each, one for each column, over this denominator, with these marks.
+    /// The row of these integers of one word each, one for each column, over this denominator, with
+    /// these marks.
     pub(crate) fn of_words(words: Vec<i64>, denominator: u128, marks: Marks) -> Line
         requires positive { 0 < denominator }
         requires small { denominator < 2 ^ 127 }
@@ -59,7 +61,7 @@ impl Line {
     }
 }
 
-/// The same line in a list of its own. The error is out of memory.
+/// A copy of the row. The error is out of memory.
 pub(crate) fn copied_line(alloc: Global, line: &Line) -> Result<Line, AllocError>
     ensures { IfOk result (λ copy. copy ≡ line.now) }
 {
@@ -72,7 +74,8 @@ pub(crate) fn copied_line(alloc: Global, line: &Line) -> Result<Line, AllocError
     })
 }
 
-/// What a line, and what the pivot line is multiplied by in an exchange; and a magnitude that no new part of the line passes.
+/// What a row and the pivot row are multiplied by in an exchange; and a magnitude that no result in
+/// the row exceeds.
 #[derive(Clone, Copy)]
 pub(crate) struct Factors {
     pub(crate) line: i128,
@@ -81,7 +84,7 @@ pub(crate) struct Factors {
 }
 
 impl Factors {
-    /// Those that leave a line as it is.
+    /// The factors that leave a row as it is.
     pub(crate) fn of_own(line: &Line) -> Factors
         ensures { result ≡ own_factors line.now }
     {
@@ -93,7 +96,7 @@ impl Factors {
     }
 }
 
-/// The whole number of a line at a column.
+/// The integer of a row at a column.
 #[inline(always)]
 pub(crate) fn number_at(line: &Line, column: usize) -> i128
     requires { column < length (wholes line.now) }
@@ -102,7 +105,7 @@ pub(crate) fn number_at(line: &Line, column: usize) -> i128
     line.numbers.at(column)
 }
 
-/// The same; the number is read only where a mark is on the column.
+/// The integer of a row at a column; it is read only if the column has a mark.
 #[inline(always)]
 pub(crate) fn marked_number_at(line: &Line, column: usize) -> i128
     requires line { IsLine line.now }
@@ -115,7 +118,7 @@ pub(crate) fn marked_number_at(line: &Line, column: usize) -> i128
     0
 }
 
-/// The magnitude of the whole number of a line at a column.
+/// The magnitude of the integer of a row at a column.
 #[inline(always)]
 pub(crate) fn magnitude_at(line: &Line, column: usize) -> u128
     requires line { IsLine line.now }
@@ -126,7 +129,8 @@ pub(crate) fn magnitude_at(line: &Line, column: usize) -> u128
     line.numbers.at(column).unsigned_abs()
 }
 
-/// The number `p` of the pivot line and the number `f` of another, without their greatest common divisor.
+/// The integer `p` of the pivot row and the integer `f` of another, without their greatest common
+/// divisor.
 pub(crate) fn reduced_pair(f: i128, p: i128) -> (i128, i128)
     requires { pos 0 <ℤ p }
     ensures { AreFactors f p result.0 result.1 }
@@ -139,8 +143,8 @@ pub(crate) fn reduced_pair(f: i128, p: i128) -> (i128, i128)
     (p / divisor, f / divisor)
 }
 
-/// A magnitude that no part of a line times `a`, less another times `b`, passes, by the greatest magnitudes of both; none where
-/// that is above the bound.
+/// A bound of the magnitudes of a row times `a` less another times `b`, from the greatest
+/// magnitudes of both. None if it exceeds `bound`.
 pub(crate) fn room(a: i128, most: u128, b: i128, other: u128, bound: u128) -> Option<u128>
     requires { bound < 2 ^ 127 }
     ensures { MatchOption result (bound < nat_abs a * most + nat_abs b * other) (λ m. (m ≡ nat_abs a * most + nat_abs b * other) × (m ≤ bound)) }
@@ -148,7 +152,8 @@ pub(crate) fn room(a: i128, most: u128, b: i128, other: u128, bound: u128) -> Op
     sum_within(bound, a.unsigned_abs(), most, b.unsigned_abs(), other)
 }
 
-/// The factors of a line with a number other than 0 at the column; none where some part might pass the bound.
+/// The factors of a row whose number at the column is not 0. None if an integer might exceed the
+/// bound.
 fn plan_some(line: &Line, column: usize, pivot: &Line, bound: u128) -> Option<Factors>
     requires small { bound < 2 ^ 127 }
     requires line { IsLine line.now }
@@ -169,7 +174,7 @@ fn plan_some(line: &Line, column: usize, pivot: &Line, bound: u128) -> Option<Fa
     }
 }
 
-/// The factors of a line in an exchange at a column; none where some part might pass the bound.
+/// The factors of a row in an exchange at a column. None if an integer might exceed the bound.
 pub(crate) fn plan(line: &Line, column: usize, pivot: &Line, bound: u128) -> Option<Factors>
     requires small { bound < 2 ^ 127 }
     requires line { IsLine line.now }
@@ -186,8 +191,8 @@ pub(crate) fn plan(line: &Line, column: usize, pivot: &Line, bound: u128) -> Opt
     plan_some(line, column, pivot, bound)
 }
 
-/// Takes from a line the multiple of the pivot line that takes its number at the column for which the factors are. The error is
-/// want of memory.
+/// Subtracts from a row the multiple of the pivot row that makes its number at the column 0, by
+/// these factors. The only error is out of memory.
 fn lessen_line(
     alloc: Global,
     line: &mut Line,
@@ -213,8 +218,8 @@ fn lessen_line(
     Ok(())
 }
 
-/// The same, where the line itself is taken once: at the places at which the pivot line has a number other than 0, where that is
-/// quick; else the line stays, and the answer is `false`.
+/// Subtracts from a row, whose factor is 1, a multiple of the pivot row, at the places at which the
+/// pivot row is not 0, if that is quick; else the row stays, and the answer is `false`.
 fn lessen_once(line: &mut Line, factors: Factors, pivot: &Line, places: &[usize]) -> bool
     requires line { IsLine line.old }
     requires pivot { IsLine pivot.now }
@@ -237,7 +242,8 @@ fn lessen_once(line: &mut Line, factors: Factors, pivot: &Line, places: &[usize]
     true
 }
 
-/// The same for any factors.
+/// Subtracts a multiple of the pivot row from a row by any factors, if that is quick; else the row
+/// stays, and the answer is `false`.
 fn lessen_quickly(line: &mut Line, factors: Factors, pivot: &Line, places: &[usize]) -> bool
     requires line { IsLine line.old }
     requires pivot { IsLine pivot.now }
@@ -253,8 +259,8 @@ fn lessen_quickly(line: &mut Line, factors: Factors, pivot: &Line, places: &[usi
     false
 }
 
-/// Takes from a line the multiple of the pivot line for which the factors are, in the way that is quicker. The error is want of
-/// memory.
+/// Subtracts from a row the multiple of the pivot row by these factors, in the quicker way. The
+/// only error is out of memory.
 fn lessen(
     alloc: Global,
     line: &mut Line,
@@ -275,11 +281,13 @@ fn lessen(
     lessen_line(alloc, line, factors, pivot)
 }
 
-/// The magnitude past which a line is divided by what its parts have in common: half the bits of a word, and a little less.
+/// The magnitude above which a row is divided by its common divisor: somewhat less than half the
+/// bits of a word.
 const DUE: u128 = 1 << 30;
 
-/// Divides a line by what its numbers and its denominator have in common, where it is due: where it was multiplied by a
-/// factor other than 1, which then divides many of its parts, and where its parts are great. The error is out of memory.
+/// Divides a row by the common divisor of its integers and denominator, if that is likely to help:
+/// if the row was multiplied by a factor other than 1, which then divides many of its integers, or
+/// if its integers are great. The error is out of memory.
 fn reduce_due(alloc: Global, line: &mut Line, factor: i128) -> Result<(), AllocError>
     requires { IsLine line.old }
     ensures { IfOk result (λ _. IsSameLine line.old line.new) }
@@ -290,8 +298,9 @@ fn reduce_due(alloc: Global, line: &mut Line, factor: i128) -> Result<(), AllocE
     reduce(alloc, line)
 }
 
-/// Takes from a line the multiple of the pivot line for which the factors are, and divides it where it is due. The places are those
-/// at which the pivot line has a number other than 0. The error is want of memory.
+/// Subtracts from a row the multiple of the pivot row by these factors, and divides the row if its
+/// integers are great or were multiplied. `places` are the places at which the pivot row is not 0.
+/// The only error is out of memory.
 pub(crate) fn apply(
     alloc: Global,
     line: &mut Line,
@@ -313,7 +322,8 @@ pub(crate) fn apply(
     reduce_due(alloc, line, factors.line)
 }
 
-/// Divides a line by all that its numbers and its denominator have in common. The error is out of memory.
+/// Divides a row by the greatest common divisor of its integers and denominator. The error is out
+/// of memory.
 pub(crate) fn reduce(alloc: Global, line: &mut Line) -> Result<(), AllocError>
     requires { IsLine line.old }
     ensures same { IfOk result (λ _. IsSameLine line.old line.new) }
@@ -329,7 +339,7 @@ pub(crate) fn reduce(alloc: Global, line: &mut Line) -> Result<(), AllocError>
     Ok(())
 }
 
-/// Brings a line to lowest terms, and measures it. The error is out of memory.
+/// Brings a row to lowest terms, and measures it. The error is out of memory.
 pub(crate) fn settle(alloc: Global, line: &mut Line) -> Result<(), AllocError>
     requires { IsLine line.old }
     ensures same { IfOk result (λ _. IsSameLine line.old line.new) }
@@ -341,7 +351,8 @@ pub(crate) fn settle(alloc: Global, line: &mut Line) -> Result<(), AllocError>
     Ok(())
 }
 
-/// Divides a line by its number at a column, which is above 0: the whole numbers stay.
+/// Divides a row by its number at a column, which is above 0: the integers stay, and the one at the
+/// column becomes the denominator.
 pub(crate) fn divide_pivot(line: &mut Line, column: usize)
     requires line { IsLine line.old }
     requires within { column < length (wholes line.old) }

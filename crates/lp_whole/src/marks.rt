@@ -1,8 +1,9 @@
-//! Marks on the columns of a line, by which a column without a number is known unread.
+//! Marks on the columns of a row: a column without a mark is known to be 0 without reading it.
 ghost use Rattle.std.specs.Prelude.{◌≡◌, ◌≢◌, ℕ, false};
 ghost use Rattle.lp_whole.specs.Marks.{IsClear};
 
-/// Which columns of a line may have a number other than 0: one mark for all columns with one remainder by 64.
+/// Which columns of a row may have a number other than 0: one mark for all columns with the same
+/// remainder by 64.
 #[derive(Clone, Copy)]
 pub(crate) struct Marks {
     pub(crate) bits: u64,

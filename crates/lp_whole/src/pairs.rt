@@ -9,14 +9,15 @@ use crate::line::{Line, magnitude_at, reduced_pair, room};
 use crate::read::read;
 use lp_numbers::{gcd, sum_within};
 
-/// A row in an exchange: its whole number for the variable that enters, and a magnitude that none of its parts passes.
+/// A row in an exchange: its integer for the entering variable, and a bound of the magnitudes of
+/// its integers and denominator.
 #[derive(Clone, Copy)]
 pub(crate) struct Measure {
     pub(crate) number: i128,
     pub(crate) most: u128,
 }
 
-/// A magnitude that no part of a row passes.
+/// A bound of the magnitudes of a row.
 #[inline(always)]
 fn most_of(lines: &[Line], deferred: Option<usize>, place: usize) -> u128
     requires lines { (width bound : ℕ) × AreWhole lines.now deferred width bound }
@@ -47,7 +48,7 @@ fn measured(lines: &[Line], deferred: Option<usize>, place: usize, column: usize
     }
 }
 
-/// The greatest divisor of all parts of a row with so many columns.
+/// The greatest common divisor of the integers and the denominator of a row with `width` columns.
 fn divisor_of_row(lines: &[Line], deferred: Option<usize>, place: usize, width: usize) -> u128
     requires lines { (bound : ℕ) × AreWhole lines.now deferred width bound }
     requires within { place < length lines.now }
@@ -64,7 +65,7 @@ fn divisor_of_row(lines: &[Line], deferred: Option<usize>, place: usize, width: 
     divisor
 }
 
-/// The greatest magnitude of all parts of a row with so many columns.
+/// The greatest magnitude of the integers and the denominator of a row with `width` columns.
 fn most_of_row(lines: &[Line], deferred: Option<usize>, place: usize, width: usize) -> u128
     requires lines { (bound : ℕ) × AreWhole lines.now deferred width bound }
     requires within { place < length lines.now }
@@ -80,7 +81,7 @@ fn most_of_row(lines: &[Line], deferred: Option<usize>, place: usize, width: usi
     most
 }
 
-/// A whole number over a divisor of it.
+/// An integer divided by a divisor of it.
 fn quotient(n: i128, divisor: u128) -> i128
     requires positive { 0 < divisor }
     requires small { divisor < 2 ^ 127 }
@@ -106,7 +107,8 @@ fn measured_lowest(lines: &[Line], deferred: Option<usize>, place: usize, column
     }
 }
 
-/// Whether two rows have room together: first as they are, then without a factor that their numbers share.
+/// Whether two rows together stay within the bound: first as they are, then without a common factor
+/// of their integers.
 fn has_pair_room(row: Measure, leaving: Measure, bound: u128) -> bool
     requires { bound < 2 ^ 127 }
     ensures fits { IsTrue result → HasPairRoom row.number leaving.number row.most leaving.most bound }
@@ -122,7 +124,7 @@ fn has_pair_room(row: Measure, leaving: Measure, bound: u128) -> bool
     room(a, row.most, b, leaving.most, bound).is_some()
 }
 
-/// A magnitude that no part of any line passes.
+/// A bound of the magnitudes of all stored rows.
 fn top_of(lines: &[Line]) -> u128
     ensures { AreBounded result lines.now }
 {
@@ -133,7 +135,7 @@ fn top_of(lines: &[Line]) -> u128
     top
 }
 
-/// A magnitude that no part of any row passes, by one that no part of any line passes; none where it is above the bound.
+/// A bound of the magnitudes of all rows, by one of all stored rows. None if it exceeds `bound`.
 fn top_of_rows(top: u128, deferred: Option<usize>, bound: u128) -> Option<u128>
     requires { bound < 2 ^ 127 }
     ensures { IfSome result (λ rows. rows ≡ rows_top deferred top) }
@@ -144,7 +146,8 @@ fn top_of_rows(top: u128, deferred: Option<usize>, bound: u128) -> Option<u128>
     }
 }
 
-/// Whether all rows have room together, by a magnitude that no part of any line passes. It reads no numbers.
+/// Whether all rows together stay within the bound, by the greatest magnitude of the stored rows.
+/// It reads no numbers.
 fn lines_are_roomy(lines: &[Line], deferred: Option<usize>, bound: u128) -> bool
     requires lines { (width most : ℕ) × AreWhole lines.now deferred width most }
     requires small { bound < 2 ^ 127 }
@@ -156,7 +159,8 @@ fn lines_are_roomy(lines: &[Line], deferred: Option<usize>, bound: u128) -> bool
     sum_within(bound, top, top, top, top).is_some()
 }
 
-/// Whether all rows have room together: twice the square of a magnitude that no part of them passes is at most the bound.
+/// Whether all rows together stay within the bound: twice the square of their greatest magnitude is
+/// at most the bound.
 fn rows_are_roomy(lines: &[Line], deferred: Option<usize>, bound: u128) -> bool
     requires lines { (width most : ℕ) × AreWhole lines.now deferred width most }
     requires small { bound < 2 ^ 127 }
@@ -169,7 +173,7 @@ fn rows_are_roomy(lines: &[Line], deferred: Option<usize>, bound: u128) -> bool
     sum_within(bound, top, top, top, top).is_some()
 }
 
-/// Whether all rows have room together: first by their lines, then row by row.
+/// Whether all rows together stay within the bound: first by the stored rows, then row by row.
 fn is_roomy(lines: &[Line], deferred: Option<usize>, bound: u128) -> bool
     requires lines { (width most : ℕ) × AreWhole lines.now deferred width most }
     requires small { bound < 2 ^ 127 }
@@ -181,8 +185,8 @@ fn is_roomy(lines: &[Line], deferred: Option<usize>, bound: u128) -> bool
     rows_are_roomy(lines, deferred, bound)
 }
 
-/// Whether a row has room together with that of the variable that leaves: first by the measures of both as their lines are, then
-/// with both in lowest terms.
+/// Whether a row, together with that of the leaving variable, stays within the bound: first by the
+/// measures of both as stored, then with both in lowest terms.
 fn pair_fits(
     lines: &[Line],
     deferred: Option<usize>,
@@ -208,7 +212,7 @@ fn pair_fits(
     has_pair_room(lowest, lowest_leaving, bound)
 }
 
-/// Whether each row has room together with that of the variable that leaves.
+/// Whether each row, together with that of the leaving variable, stays within the bound.
 pub(crate) fn pairs_fit(
     lines: &[Line],
     deferred: Option<usize>,

@@ -1,4 +1,4 @@
-//! A line of a row that is given by fractions.
+//! An integer row from a row that is given by fractions.
 ghost use Rattle.std.specs.Prelude.{◌≡◌, ◌≢◌, ℕ, ◌*◌, ◌/◌, ◌<◌, ◌≤◌, ◌^◌, ◌-◌, nat_abs, length, slice_get, Some, IfOk, IfSome, MatchOption};
 ghost use Rattle.std.specs.Int.{◌∣◌};
 ghost use Rattle.gq_number.specs.Number.{ratio};
@@ -18,19 +18,19 @@ use std::alloc::{AllocError, Global};
 pub struct Part {
     /// The column.
     pub column: u32,
-    /// The whole number.
+    /// The integer above.
     pub numerator: i128,
-    /// What it is over.
+    /// The denominator.
     pub denominator: u128,
 }
 
-/// The greatest magnitude of a part.
+/// The greatest magnitude of an integer.
 const MOST: u128 = (1 << 127) - 1;
 
 /// The least magnitude that does not fit in one word with a sign.
 const WORD: u128 = 1 << 63;
 
-/// The least common multiple of both; none where it has more than 127 bits.
+/// The least common multiple of both. None if it has more than 127 bits.
 fn multiple_of(m: u128, d: u128) -> Option<u128>
     requires first { 0 < m }
     requires second { 0 < d }
@@ -40,7 +40,7 @@ fn multiple_of(m: u128, d: u128) -> Option<u128>
     product_within(MOST, m / shared, d)
 }
 
-/// The least common multiple of all denominators; none where it has more than 127 bits.
+/// The least common multiple of all denominators. None if it has more than 127 bits.
 fn common_multiple(parts: &[Part]) -> Option<u128>
     requires { (i : ℕ) (p : Part) → slice_get parts.now i ≡ Some p → 0 < p.denominator }
     ensures { MatchOption result (HaveNoCommonMultiple parts.now) (IsMultiple parts.now (length parts.now)) }
@@ -55,7 +55,7 @@ fn common_multiple(parts: &[Part]) -> Option<u128>
     Some(multiple)
 }
 
-/// The whole number of a part over a multiple of its denominator; none where it has more than 127 bits.
+/// The integer of a part over a multiple of its denominator. None if it has more than 127 bits.
 fn scaled(part: Part, multiple: u128) -> Option<i128>
     requires positive { 0 < part.denominator }
     requires some { 0 < multiple }
@@ -70,7 +70,8 @@ fn scaled(part: Part, multiple: u128) -> Option<i128>
     Some(part.numerator * factor as i128)
 }
 
-/// The same, where it has one word; none where it has more.
+/// The integer of a part over a multiple of its denominator, in one word. None if it exceeds a
+/// word.
 fn scaled_word(part: Part, multiple: u128) -> Option<i64>
     requires positive { 0 < part.denominator }
     requires some { 0 < multiple }
@@ -87,7 +88,8 @@ fn scaled_word(part: Part, multiple: u128) -> Option<i64>
     Some(number as i64)
 }
 
-/// The whole numbers of a row over a multiple of all denominators, in one word each; none where one has more.
+/// The integers of a row over a common multiple of all denominators, in one word each. None if one
+/// exceeds a word.
 fn fill_words(
     alloc: Global,
     width: usize,
@@ -110,7 +112,7 @@ fn fill_words(
     Ok(Some(words))
 }
 
-/// So many zeros.
+/// A list of `count` zeros.
 fn zeros(alloc: Global, count: usize) -> Result<Vec<i128>, AllocError>
     ensures { IfOk result (λ list. AreZeros count list.items) }
 {
@@ -119,7 +121,8 @@ fn zeros(alloc: Global, count: usize) -> Result<Vec<i128>, AllocError>
     Ok(list)
 }
 
-/// The whole numbers of a row over a multiple of all denominators; none where one has more than 127 bits.
+/// The integers of a row over a common multiple of all denominators. None if one has more than 127
+/// bits.
 fn fill(
     alloc: Global,
     width: usize,
@@ -153,8 +156,9 @@ fn marks_of(parts: &[Part]) -> Marks
     marks
 }
 
-/// The line of so many columns that has these parts, and 0 elsewhere; or none, and then over each common multiple of the
-/// denominators that has at most 127 bits the whole number of some part has more. The error is want of memory.
+/// The row with `width` columns that has these parts, and 0 elsewhere. None if, over each common
+/// multiple of the denominators that has at most 127 bits, the integer of some part has more. The
+/// only error is out of memory.
 pub fn line_of_parts(
     alloc: Global,
     width: usize,

@@ -1,4 +1,5 @@
-//! What putting variable 0 off does to lines: the line in which it is has its number above 0, and where it has left there is none.
+//! What deferring variable 0 means for the stored rows: its row has its coefficient above 0, and
+//! once it has left there is none.
 ghost use Rattle.std.specs.Prelude.{◌≡◌, ◌≢◌, ℕ, ◌<◌, pos, length, slice_get, Some};
 ghost use Rattle.lp_whole.specs.declared.line.Line.{Line};
 ghost use Rattle.lp_numbers.specs.Lines.{whole_at};
@@ -8,7 +9,7 @@ use crate::exchange::{no_line, put_line};
 use crate::line::{Line, number_at};
 use std::alloc::Global;
 
-/// Takes the number of variable 0 from a line.
+/// Sets a row's coefficient of variable 0 to 0.
 fn forget(line: &mut Line)
     requires line { IsLine line.old }
     requires within { 1 < length (wholes line.old) }
@@ -17,7 +18,7 @@ fn forget(line: &mut Line)
     line.numbers.clear(1);
 }
 
-/// Takes the number of variable 0 from each line.
+/// Sets each row's coefficient of variable 0 to 0.
 pub(crate) fn forget_zero(lines: &mut Vec<Line>)
     requires { (width : ℕ) × AreLines width lines.old.items × (1 < width) }
     ensures { AreForgotten lines.old.items lines.new.items }
@@ -28,7 +29,7 @@ pub(crate) fn forget_zero(lines: &mut Vec<Line>)
     }
 }
 
-/// Negates a line where its number of variable 0 is below 0.
+/// Negates a row if its coefficient of variable 0 is below 0.
 fn raise(line: &mut Line)
     requires line { IsLine line.old }
     requires within { 1 < length (wholes line.old) }
@@ -41,7 +42,7 @@ fn raise(line: &mut Line)
     }
 }
 
-/// The same at a place.
+/// Negates the row at a place if its coefficient of variable 0 is below 0.
 pub(crate) fn raise_at(lines: &mut Vec<Line>, k: usize)
     requires lines { (width : ℕ) × AreLines width lines.old.items × (1 < width) }
     requires within { k < length lines.old.items }
@@ -52,7 +53,7 @@ pub(crate) fn raise_at(lines: &mut Vec<Line>, k: usize)
     raise(line);
 }
 
-/// Exchanges two lines.
+/// Exchanges two rows.
 pub(crate) fn swap_lines(alloc: Global, lines: &mut Vec<Line>, k: usize, l: usize)
     requires first { k < length lines.old.items }
     requires second { l < length lines.old.items }

@@ -1,4 +1,4 @@
-//! The numbers that lines stand for.
+//! The numbers that stored rows mean.
 ghost use Rattle.std.specs.Prelude.{◌≡◌, ℕ, ◌+◌, ◌*◌, ◌<◌, ◌≤◌, ◌^◌, pos, ◌<ℤ◌, ◌-ℤ◌, ◌*ℤ◌, nat_abs, length};
 ghost use Rattle.gq_number.specs.Number.{ratio};
 ghost use Rattle.lp_numbers.specs.Lines.{whole_at};
@@ -8,16 +8,16 @@ ghost use Rattle.lp_whole.specs.Room.{AreWhole, HasRoom, row_denominator, row_nu
 use crate::line::{Line, magnitude_at, marked_number_at, number_at};
 use lp_numbers::cross_difference;
 
-/// A number: a whole number over another that is above 0.
+/// A number: an integer over a denominator above 0.
 #[derive(Clone, Copy)]
 pub struct Fraction {
-    /// The whole number.
+    /// The integer above.
     pub numerator: i128,
-    /// What it is over.
+    /// The denominator.
     pub denominator: u128,
 }
 
-/// The number of a line at a column.
+/// The number of a row at a column.
 #[inline(always)]
 fn read_own(line: &Line, column: usize) -> Fraction
     requires line { IsLine line.now }
@@ -31,7 +31,7 @@ fn read_own(line: &Line, column: usize) -> Fraction
     }
 }
 
-/// The number of the line of variable 0, which is put off there, at a column.
+/// The number at a column of the row in which variable 0 is deferred.
 #[inline(always)]
 fn read_pivot(pivot: &Line, column: usize) -> Fraction
     requires line { IsLine pivot.now }
@@ -45,8 +45,8 @@ fn read_pivot(pivot: &Line, column: usize) -> Fraction
     }
 }
 
-/// The whole number of a line at a column in the dictionary that the exchange of variable 0 into the pivot line makes; the line's own
-/// number there is read only where a mark is on the column.
+/// The integer of a row at a column, in the dictionary that the exchange of variable 0 into the
+/// pivot row makes. The row's stored integer is read only if the column has a mark.
 #[inline(always)]
 fn number_above(line: &Line, pivot: &Line, column: usize) -> i128
     requires line { IsLine line.now }
@@ -68,7 +68,8 @@ fn number_above(line: &Line, pivot: &Line, column: usize) -> i128
     )
 }
 
-/// The number of a line at a column in the dictionary that the exchange of variable 0 into the pivot line makes.
+/// The number of a row at a column, in the dictionary that the exchange of variable 0 into the
+/// pivot row makes.
 #[inline(always)]
 fn read_above(line: &Line, pivot: &Line, column: usize) -> Fraction
     requires line { IsLine line.now }
@@ -88,7 +89,7 @@ fn read_above(line: &Line, pivot: &Line, column: usize) -> Fraction
     }
 }
 
-/// The number of a row, or behind the rows of the objective, at a column.
+/// The number at a column of a row, or of the objective, which follows the rows.
 #[inline(always)]
 pub(crate) fn read(lines: &[Line], deferred: Option<usize>, place: usize, column: usize) -> Fraction
     requires lines { (width bound : ℕ) × AreWhole lines.now deferred width bound × (column < width) }

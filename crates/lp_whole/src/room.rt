@@ -1,4 +1,4 @@
-//! Whether there is room below the bound for what lines stand for where variable 0 is put off.
+//! Whether the meaning of stored rows stays within the bound when variable 0 is deferred.
 ghost use Rattle.std.specs.Prelude.{◌≡◌, ℕ, ◌+◌, ◌-◌, ◌*◌, ◌<◌, ◌≤◌, ◌^◌, ◌-ℤ◌, ◌*ℤ◌, nat_abs, length, slice_get, Some, false, IsTrue, ◌↔◌};
 ghost use Rattle.lp_whole.specs.declared.line.Line.{Line};
 ghost use Rattle.lp_whole.specs.declared.line.Factors.{Factors};
@@ -9,7 +9,7 @@ ghost use Rattle.lp_whole.specs.Room.{HasRoomFor, KeepsRoom, AreFactorsWithin, I
 use crate::line::{Factors, Line, magnitude_at, number_at};
 use lp_numbers::{cross_difference, sum_within};
 
-/// Whether `most` times `u` and `zero` times `other` together are at most a bound.
+/// Whether `most` times `u` plus `zero` times `other` is at most a bound.
 #[inline(always)]
 fn fits(most: u128, u: u128, zero: u128, other: u128, bound: u128) -> bool
     requires { bound < 2 ^ 127 }
@@ -18,7 +18,7 @@ fn fits(most: u128, u: u128, zero: u128, other: u128, bound: u128) -> bool
     sum_within(bound, most, u, zero, other).is_some()
 }
 
-/// The magnitude of the number of variable 0 of a line after an exchange by its factors.
+/// The magnitude of a row's integer for variable 0 after an exchange by its factors.
 fn magnitude_after(line: &Line, pivot: &Line, factors: Factors) -> u128
     requires line { IsLine line.now }
     requires pivot { IsLine pivot.now }
@@ -37,7 +37,7 @@ fn magnitude_after(line: &Line, pivot: &Line, factors: Factors) -> u128
     left.unsigned_abs()
 }
 
-/// Whether there is room for the exchange of variable 0 into row `k`.
+/// Whether the exchange of variable 0 into row `k` stays within the bound.
 pub(crate) fn has_room(lines: &[Line], k: usize, bound: u128) -> bool
     requires small { bound < 2 ^ 127 }
     requires lines { (width : ℕ) × AreLines width lines.now × (1 < width) }
@@ -56,7 +56,7 @@ pub(crate) fn has_room(lines: &[Line], k: usize, bound: u128) -> bool
     pivot.most <= bound
 }
 
-/// A magnitude that no part of any line passes after an exchange by these factors.
+/// A bound of the magnitudes of all rows after an exchange by these factors.
 fn top_after(plans: &[Factors]) -> u128
     ensures { AreFactorsWithin result plans.now }
 {
@@ -67,7 +67,8 @@ fn top_after(plans: &[Factors]) -> u128
     top
 }
 
-/// Whether twice the square of a magnitude that no part of any line passes after an exchange by these factors is at most the bound.
+/// Whether twice the square of the greatest magnitude after an exchange by these factors is at most
+/// the bound.
 fn is_small_after(plans: &[Factors], bound: u128) -> bool
     requires { bound < 2 ^ 127 }
     ensures { IsTrue result → (top : ℕ) × AreFactorsWithin top plans.now × (top * top + top * top ≤ bound) }
@@ -76,8 +77,8 @@ fn is_small_after(plans: &[Factors], bound: u128) -> bool
     fits(top, top, top, top, bound)
 }
 
-/// Whether after an exchange by these factors there is room, row by row, for that of variable 0 into the row of the variable that
-/// leaves.
+/// Whether after an exchange by these factors the exchange of variable 0 into the leaving
+/// variable's row stays within the bound, row by row.
 fn keeps_each(lines: &[Line], plans: &[Factors], place: usize, leaving: usize, bound: u128) -> bool
     requires small { bound < 2 ^ 127 }
     requires lines { (width : ℕ) × AreLines width lines.now × (1 < width) }
@@ -98,8 +99,8 @@ fn keeps_each(lines: &[Line], plans: &[Factors], place: usize, leaving: usize, b
     true
 }
 
-/// Whether after an exchange by these factors there is room for that of variable 0 into the row of the variable that leaves: first
-/// by one magnitude, then row by row.
+/// Whether after an exchange by these factors the exchange of variable 0 into the leaving
+/// variable's row stays within the bound: first by one magnitude, then row by row.
 pub(crate) fn keeps_room(
     lines: &[Line],
     plans: &[Factors],
@@ -119,7 +120,7 @@ pub(crate) fn keeps_room(
     keeps_each(lines, plans, place, leaving, bound)
 }
 
-/// Whether no part of these lines passes a bound.
+/// Whether no integer of these rows exceeds a bound.
 pub(crate) fn all_within(lines: &[Line], bound: u128) -> bool
     ensures within { IsTrue result → AreBounded bound lines.now }
     ensures great { result ≡ false → IsSomeGreat bound lines.now }

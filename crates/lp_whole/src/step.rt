@@ -1,4 +1,4 @@
-//! The exchange of lines where there is room for it.
+//! The exchange of rows if it stays within the bound.
 ghost use Rattle.std.specs.Prelude.{◌≡◌, ℕ, ◌<◌, ◌^◌, pos, true, false, length, IfOk, MatchOption};
 ghost use Rattle.gq_number.specs.Number.{whole};
 ghost use Rattle.gq_number.specs.Order.{◌<ℚ◌};
@@ -11,7 +11,8 @@ use crate::line::{Factors, Line};
 use crate::room::keeps_room;
 use std::alloc::{AllocError, Global};
 
-/// The factors of an exchange at a place and a column, where there is room for it and for what comes after it.
+/// The factors of an exchange at a place and a column, if it and what follows it stay within the
+/// bound.
 fn plan_once(
     alloc: Global,
     lines: &[Line],
@@ -40,7 +41,7 @@ fn plan_once(
     Ok(Some(plans))
 }
 
-/// The same, where need be after all lines were divided by what their parts have in common.
+/// The factors of an exchange, if need be after all rows were divided by their common divisors.
 fn plan_exchange(
     alloc: Global,
     lines: &mut Vec<Line>,
@@ -65,8 +66,9 @@ fn plan_exchange(
     plan_once(alloc, lines.as_slice(), place, leaving, column, bound)
 }
 
-/// Exchanges the lines at a place and a column, where by their factors there is room for it and for what comes after it; else they
-/// stand for the same numbers as before, and the answer is `false`. The error is out of memory.
+/// Exchanges the rows at a place and a column, if by their factors it and what follows it stay
+/// within the bound; else the rows mean the same numbers as before, and the answer is `false`. The
+/// error is out of memory.
 fn turn_planned(
     alloc: Global,
     lines: &mut Vec<Line>,
@@ -92,9 +94,9 @@ fn turn_planned(
     Ok(true)
 }
 
-/// Exchanges the lines at a place and a column, where there is room for it and for what comes after it: first by their factors,
-/// then by the lines that it makes. Else they stand for the same numbers as before, and the answer is `false`. The error is out of
-/// memory.
+/// Exchanges the rows at a place and a column, if it and what follows it stay within the bound:
+/// first by their factors, then by the rows that it makes. Else the rows mean the same numbers as
+/// before, and the answer is `false`. The error is out of memory.
 pub(crate) fn turn_lines(
     alloc: Global,
     lines: &mut Vec<Line>,

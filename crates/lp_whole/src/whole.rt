@@ -1,4 +1,4 @@
-//! The dictionary by whole numbers.
+//! The dictionary by integers.
 ghost use Rattle.std.specs.Prelude.{◌≡◌, ◌≢◌, ℕ, ◌+◌, ◌<◌, ◌≤◌, ◌^◌, pos, nat_abs, length, slice_get, Some, None, false, IfOk, IfErr, IsTrue, MatchOption, Contains};
 ghost use Rattle.gq_number.specs.Number.{whole, ratio};
 ghost use Rattle.lp_core.specs.Dictionary.{basic_at, OpeningIsDue, IsLeast, IsOpening, IsLegal, Improves, exchanged};
@@ -24,11 +24,12 @@ use lp_core::Pivot;
 use std::alloc::{AllocError, Global};
 use std::marker::Model;
 
-/// A dictionary: an equation for each basic variable, and the objective, each as whole numbers over one denominator that pass no
-/// bound (Chvatal, Linear Programming, chapters 2 and 3; Edmonds, Systems of distinct representatives and linear algebra).
+/// A dictionary: an equation for each basic variable, and the objective, each as integers over one
+/// denominator within a bound (Chvatal, Linear Programming, chapters 2 and 3; Edmonds, Systems of
+/// distinct representatives and linear algebra).
 ///
-/// Variable 0 is the one of phase 1. While it is basic the lines are those of the dictionary in which it is not: its exchange is
-/// put off.
+/// Variable 0 is the artificial variable of phase 1. While it is basic, the stored rows are those
+/// of the dictionary in which it is not: its exchange is deferred.
 #[derive(Drop)]
 pub struct Whole {
     variables: u32,
@@ -61,8 +62,9 @@ fn place_among(basic: &[u32], variable: u32) -> Option<usize>
 }
 
 impl Whole {
-    /// The dictionary of these lines: one for each basic variable, and behind them that of the objective. None exactly where the
-    /// greatest magnitude of some line passes the bound. Variable 0 is not basic.
+    /// The dictionary of these rows: one for each basic variable, and after them the objective.
+    /// None exactly if the greatest magnitude of some row exceeds the bound. Variable 0 is not
+    /// basic.
     pub fn of_lines(variables: u32, basic: Vec<u32>, lines: Vec<Line>, bound: u128) -> Option<Whole>
         requires sized { variables + 2 < 2 ^ 32 }
         requires small { bound < 2 ^ 127 }
@@ -87,7 +89,7 @@ impl Whole {
         Some(whole)
     }
 
-    /// The greatest number of a variable: there are as many and variable 0.
+    /// The greatest number of a variable: the variables are 0 and those up to it.
     pub fn variables(&self) -> u32
         ensures { result ≡ self.now.variables }
     {
@@ -101,15 +103,15 @@ impl Whole {
         self.basic.as_slice()
     }
 
-    /// The place of a variable's row; none where it is not basic.
+    /// The place of a variable's row; none if it is not basic.
     pub fn place_of(&self, v: u32) -> Option<usize>
         ensures { IsPlace self.now.basic v result }
     {
         place_among(self.basic.as_slice(), v)
     }
 
-    /// The number of a row, or behind the rows of the objective, at a column: column 0 is the constant, and variable v is column
-    /// v + 1.
+    /// The number at a column of a row, or of the objective, which follows the rows. Column 0 is
+    /// the constant, and variable v has column v + 1.
     pub fn number(&self, row: usize, column: usize) -> Fraction
         requires row { row ≤ length self.now.basic }
         requires column { column ≤ self.now.variables + 1 }
@@ -120,8 +122,8 @@ impl Whole {
         read(self.lines.as_slice(), self.deferred, row, column)
     }
 
-    /// The opening pivot of Bland's choice, where one is due: variable 0 enters, and of the variables with the least constant,
-    /// which is below 0, the least leaves.
+    /// The opening pivot of Bland's choice, if one is required: variable 0 enters, and of the
+    /// variables with the least constant, which is below 0, the least leaves.
     pub fn opening(&self) -> Option<Pivot>
         ensures { MatchOption result (¬ (OpeningIsDue (dictionary self.now)))
             (λ p. ((k : ℕ) × IsOpening (dictionary self.now) p k) × ((i : ℕ) → IsLeast (dictionary self.now) i → p.leave ≤ basic_at (dictionary self.now) i)) }
@@ -135,7 +137,7 @@ impl Whole {
         }
     }
 
-    /// The least variable that improves; none exactly where there is none.
+    /// The least variable that improves. None exactly if no variable improves.
     pub fn entering(&self) -> Option<u32>
         requires { ¬ (OpeningIsDue (dictionary self.now)) }
         ensures { MatchOption result ((v : ℕ) → ¬ (Improves (dictionary self.now) v))
@@ -147,8 +149,8 @@ impl Whole {
         }
     }
 
-    /// The variable that improves with the greatest coefficient in the row by which pivots are chosen, and of several such the
-    /// least; none exactly where nothing improves. It walks that row once.
+    /// The variable that improves with the greatest coefficient in the priced row, and of several
+    /// such the least. None exactly if nothing improves. It passes over that row once.
     pub fn greatest(&self) -> Option<u32>
         requires { ¬ (OpeningIsDue (dictionary self.now)) }
         ensures { MatchOption result ((v : ℕ) → ¬ (Improves (dictionary self.now) v)) (HasGreatest (dictionary self.now)) }
@@ -159,7 +161,8 @@ impl Whole {
         }
     }
 
-    /// The least of the variables that tie for leaving where `enter` enters; none exactly where no row limits that.
+    /// The least of the variables that tie for leaving when `enter` enters. None exactly if no row
+    /// limits it.
     pub fn leaving(&self, enter: u32) -> Option<u32>
         requires { Improves (dictionary self.now) enter }
         ensures choice { IsLeaving (dictionary self.now) enter result }
@@ -176,7 +179,8 @@ impl Whole {
         }
     }
 
-    /// The opening pivot: variable 0 enters in this row, and is put off there; or the same, where there is no room for it.
+    /// The opening pivot: variable 0 enters in this row and is deferred there. `Err` with the same
+    /// dictionary if that exceeds the bound.
     fn open(self, p: Pivot, place: usize) -> Result<Whole, Whole>
         requires legal { IsLegal (dictionary self) p place }
         requires opens { p.enter ≡ 0 }
@@ -211,7 +215,7 @@ impl Whole {
         Ok(after)
     }
 
-    /// A pivot where nothing is put off.
+    /// A pivot with nothing deferred.
     fn step_plain(
         self,
         alloc: Global,
@@ -253,7 +257,7 @@ impl Whole {
         Ok(Ok(after))
     }
 
-    /// A pivot by which variable 0 leaves: nothing is put off any more.
+    /// A pivot by which variable 0 leaves: nothing is deferred any longer.
     fn step_out(
         self,
         alloc: Global,
@@ -296,8 +300,8 @@ impl Whole {
         Ok(Ok(after))
     }
 
-    /// A pivot by which another variable leaves than 0, which stays put off in row `k`: the kept lines are exchanged there, and
-    /// the two lines change places.
+    /// A pivot by which a variable other than 0 leaves. Variable 0 stays deferred in row `k`: the
+    /// stored rows are exchanged there, and the two rows change places.
     fn step_other(
         self,
         alloc: Global,
@@ -343,8 +347,8 @@ impl Whole {
         Ok(Ok(after))
     }
 
-    /// The dictionary after a legal pivot, as the inner `Ok`; or the same one, where its whole numbers might pass the bound. The
-    /// error is want of memory.
+    /// The dictionary after a legal pivot, as the inner `Ok`; or the same one, if its integers
+    /// might exceed the bound. The only error is out of memory.
     fn turned(self, alloc: Global, p: Pivot) -> Result<Result<Whole, Whole>, AllocError>
         requires { (k : ℕ) × IsLegal (dictionary self) p k }
         ensures exchanged { IfOk result (λ r. IfOk r (λ after. (k : ℕ) → slice_get self.basic k ≡ Some p.leave →
@@ -368,7 +372,7 @@ impl Whole {
         self.step_other(alloc, p, place, k)
     }
 
-    /// Whether each step of a legal pivot stays within the bound, by the parts of each two rows.
+    /// Whether each step of a legal pivot stays within the bound, by the integers of each two rows.
     fn fits(&self, p: Pivot) -> bool
         requires { (k : ℕ) × IsLegal (dictionary self.now) p k }
         ensures fits { IsTrue result → (limit pivot k : ℕ) → self.now.bound ≤ limit → slice_get self.now.basic k ≡ Some p.leave →
@@ -389,7 +393,8 @@ impl Whole {
         )
     }
 
-    /// The same dictionary, each line divided by what its parts have in common. The error is want of memory.
+    /// The same dictionary, each row divided by the common divisor of its integers and denominator.
+    /// The only error is out of memory.
     fn reduced(self, alloc: Global) -> Result<Whole, AllocError>
         ensures same { IfOk result (λ same. dictionary same ≡ dictionary self) }
         ensures bound { IfOk result (λ same. same.bound ≡ self.bound) }
@@ -412,11 +417,12 @@ impl Whole {
         Ok(same)
     }
 
-    /// The dictionary after a legal pivot, in which `p.enter` stands in the row of `p.leave`, as the inner `Ok`; variable 0 is
-    /// dropped where it leaves. The inner `Err` is the same dictionary, where some row has no room together with that of `p.leave`,
-    /// or the lines have none: their numbers, or those of a step on the way, might pass the bound.
+    /// The dictionary after a legal pivot, in which `p.enter` is basic in the row of `p.leave`, as
+    /// the inner `Ok`. Variable 0 is dropped when it leaves. The inner `Err` is the same
+    /// dictionary, if some row together with that of `p.leave`, or the stored rows, exceed the
+    /// bound: their integers, or those of a step on the way, might.
     ///
-    /// The error is want of memory; after it the dictionary is gone.
+    /// The error is out of memory; the dictionary is then lost.
     pub fn pivot(self, alloc: Global, p: Pivot) -> Result<Result<Whole, Whole>, AllocError>
         requires { (k : ℕ) × IsLegal (dictionary self) p k }
         ensures exchanged { IfOk result (λ r. IfOk r (λ after. (k : ℕ) → slice_get self.basic k ≡ Some p.leave →
@@ -437,7 +443,7 @@ impl Whole {
         Ok(Err(same))
     }
 
-    /// What each of them keeps: a law, which does nothing.
+    /// The invariant of each such dictionary: a law, which does nothing.
     pub fn keeps(&self)
         ensures proper { IsProper (dictionary self.now) }
         ensures sized { self.now.variables + 2 < 2 ^ 32 }

@@ -1,4 +1,4 @@
--- A power is the square of the power to half the exponent, and once more the base where the exponent is odd.
+-- A power is the square of the power to half the exponent, times the base if the exponent is odd.
 use Rattle.std.proofs.Common.{sym, ap, ◌∙◌, arith}
 use Rattle.gq_extended.proofs.PowerParts.{one_where_none, square_is, even_power, odd_power, err_answers, same_answers}
 use Rattle.gq_field.specs.Fits.{fits}

@@ -1,4 +1,4 @@
--- A power is the product of so many factors, and below 0 that of the reciprocal.
+-- A power is a product of equal factors, and below 0 that of the reciprocal.
 use Rattle.std.proofs.Common.{◌∙◌, arith}
 use Rattle.gq_extended.proofs.Tables.{limit_told, number_told}
 use Rattle.gq_extended.proofs.Raised.{raised_up, zero_down, raised_down, reciprocal_found}

@@ -1,4 +1,4 @@
--- So many times the rest are so many times the divisor and the sum.
+-- A multiple of the rest is the same multiple of the divisor plus the sum.
 use Rattle.std.proofs.Common.{◌≡◌, ◌+◌, ◌*◌, ◌<◌, ◌≤◌}
 use Rattle.gq_text.proofs.division.divided_by_sums.Given as goal
 

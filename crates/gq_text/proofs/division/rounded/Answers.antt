@@ -1,4 +1,4 @@
--- What is left decides which of two is nearest.
+-- The remainder decides which of two is nearest.
 use Rattle.std.proofs.Common.{◌≡◌, ◌+◌, ◌^◌, arith}
 use Rattle.gq_text.proofs.Divisions.{nearest_low, nearest_high}
 use Rattle.gq_text.proofs.division.rounded.Goals as goal

@@ -1,4 +1,4 @@
--- A front of the digits spells no more than all of them.
+-- A prefix of the digits spells at most the number that all of them spell.
 use Rattle.std.proofs.Common.{◌≡◌, ◌+◌, ◌*◌, ◌^◌, length, take, ap, ◌∙◌, arith}
 use Rattle.std.proofs.Math.Seq.{take-length}
 use Rattle.gq_text.specs.Numeral.{spelled}

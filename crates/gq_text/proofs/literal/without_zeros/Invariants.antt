@@ -1,4 +1,4 @@
--- What is left has lost zeros alone.
+-- Only zeros are removed from what remains.
 use Rattle.std.proofs.Common.{◌≡◌, ◌-◌, ◌≤◌, ◌++◌, length, replicate}
 use Rattle.gq_text.proofs.literal.without_zeros.Given as goal
 

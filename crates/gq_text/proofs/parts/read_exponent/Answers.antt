@@ -1,4 +1,4 @@
--- Without digits, or with more behind them, no exponent is there.
+-- Without digits, or with more after them, there is no exponent.
 use Rattle.std.proofs.Common.{arith}
 use Rattle.std.proofs.lemmas.Bool.Decides.{nat_tests}
 use Rattle.gq_text.proofs.Splits.{no_exponent}

@@ -1,4 +1,4 @@
--- What was counted are the digits in front.
+-- The count is the number of digits at the start.
 use Rattle.std.proofs.Common.{ℕ, ◌≤◌, List, length, take, drop, sym, ap, ◌∙◌, subst, subst₂}
 use Rattle.std.specs.Char.{is_ascii_digit}
 use Rattle.std.proofs.lemmas.List.Sums.{prefix_len-le-length}

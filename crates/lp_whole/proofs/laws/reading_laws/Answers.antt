@@ -1,4 +1,4 @@
--- How a dictionary with variable 0 put off is read.
+-- How a dictionary with variable 0 deferred is read.
 use Rattle.lp_whole.proofs.Above.{read_own, read_other}
 use Rattle.lp_whole.proofs.laws.reading_laws.Goals as goal
 

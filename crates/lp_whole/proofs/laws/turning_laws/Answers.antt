@@ -1,4 +1,4 @@
--- The laws of the exchange with variable 0 put off.
+-- The laws of the exchange with variable 0 deferred.
 use Rattle.lp_whole.proofs.Turning.{own, other, turned_negated, above, leaves}
 use Rattle.lp_whole.proofs.laws.turning_laws.Goals as goal
 

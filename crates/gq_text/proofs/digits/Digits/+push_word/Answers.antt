@@ -1,4 +1,4 @@
--- The digits of a tenth, and behind them the last one.
+-- The digits of a tenth, and the last one after them.
 use Rattle.std.proofs.Common.{◌<◌, sym, subst, arith}
 use Rattle.gq_text.specs.Appends.{AppendsDigits}
 use Rattle.gq_text.proofs.Pushes.{tenth_small, digit_behind}
