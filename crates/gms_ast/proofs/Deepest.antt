@@ -1,4 +1,4 @@
--- The greatest nesting of parts, one after another, and of a node's parts and indices.
+-- The greatest nesting of parts in a list, and of a node's parts and indices.
 use Rattle.std.proofs.Common.{◌≡◌, ℕ, ◌+◌, ◌<◌, max, List, [], ◌∷◌, ◌++◌, map, take, get_or, length, Some, None, refl, sym, ap, ◌∙◌, arith}
 use Rattle.std.proofs.lemmas.List.{map_more}
 use Rattle.gms_ast.specs.declared.expression.Index.{Index}
@@ -25,7 +25,7 @@ pub deepest-parts_of : {F X : Type 0} (mark : X → Mark) (tree : X → Tree F) 
 deepest-parts_of mark tree [] = refl
 deepest-parts_of mark tree (x ∷ xs) = ap (max (nesting (tree x))) (deepest-parts_of mark tree xs)
 
--- an index adds the nesting of its amount to what stands behind it
+-- the nesting of indices is the greater of an index's amount and the indices after it
 step-more : {F : Type 0} (index : Index-F F (Tree F) (Indices F → Indices F) (Control F)) (rest : Indices F) → deepest_amount (index_step index rest) ≡ max (deepest_amount (index_step index no_index)) (deepest_amount rest)
 step-more (Index-F.Label n) rest = omega arith
 step-more (Index-F.Set name None) rest = omega arith

@@ -2,12 +2,13 @@
 use Rattle.std.specs.Prelude.{ℕ, ◌+◌, max, min}
 use Rattle.gms_ast.specs.Trees.{Tree, number, plus_infinity, not_available, yes, no, reference, place_in_set, size_of_set, call, fold_over, negated, sum, product, power, relation, not_so, all_of, one_of, guarded, Parts, no_part, part, Indices, no_index, label, set, lagged, Control, over, over_where}
 
--- a number, or the greatest of a `u32` where it passes it
+-- a number, capped at the greatest `u32`
 abbrev pub capped : ℕ → ℕ
 capped n = min n 4294967295
 
 abbrev mutual
-  -- the nesting of a tree: one more than the greatest nesting of its direct parts, so 1 without direct parts. The amounts of lags and the conditions of controls are direct parts too
+  -- the nesting of a tree: one more than the greatest nesting of its direct parts, so 1 without
+  -- direct parts; the amounts of lags and the conditions of controls are direct parts too
   pub nesting : {N : Type 0} → Tree N → ℕ
   nesting (number n) = 1
   nesting plus_infinity = 1

@@ -1,4 +1,5 @@
--- Trees of statements as contracts compare them: what a statement does, wherever its parts are kept in memory.
+-- Trees of statements as contracts compare them: what a statement does, wherever its parts are
+-- stored.
 use Rattle.std.specs.Prelude.{ℕ, Bool, List, Option}
 use Rattle.gms_labels.specs.declared.place.Place.{Place}
 use Rattle.gms_ast.specs.declared.word.Named.{Named}
@@ -56,7 +57,7 @@ mutual
     no_statement : Statements N
     statement : Place → Act N → Statements N → Statements N
 
--- statements, and others behind them
+-- statements, followed by others
 abbrev pub followed_by : {N : Type 0} → Statements N → Statements N → Statements N
 followed_by no_statement others = others
 followed_by (statement at act rest) others = statement at act (followed_by rest others)

@@ -1,4 +1,4 @@
--- The trees that the statements of a program show.
+-- The trees of the statements of a program: their view.
 use Rattle.std.specs.Prelude.{List, [], ◌∷◌, map, option_map}
 use Rattle.gq_extended.specs.declared.extended.Ext.{Ext}
 use Rattle.gq_extended.specs.declared.extended.Ext.TheVariants.{Number, PlusInf, MinusInf, Na}
@@ -57,12 +57,12 @@ module _ {F N : Type 0} (value : F → N) where
   abbrev pub shown_right : Right F → Tree N
   shown_right (right.Value e) = shown_tree e
 
-  -- statements, of which each is given as what it puts before the others
+  -- statements in order, of which each is given as what it puts before the others
   abbrev pub in_order : List (Statements N → Statements N) → Statements N
   in_order [] = no_statement
   in_order (put ∷ puts) = put (in_order puts)
 
-  -- what a statement does, with each statement in it already seen as what it puts before others
+  -- the view of an act, given for each statement in it what it puts before others
   abbrev pub act_step : Act-F F (Act N) (Statements N → Statements N) → Act N
   act_step (Act-F.Declare kind items) = declares kind (map declared_in items)
   act_step (Act-F.Alias first second) = aliases first second
@@ -85,6 +85,6 @@ module _ {F N : Type 0} (value : F → N) where
   abbrev pub statement_view : Stmt F → Statements N → Statements N
   statement_view = fold-Stmt F (Act N) (Statements N → Statements N) act_step statement_step
 
-  -- the statements that those of a program show
+  -- the view of a program's statements
   abbrev pub statements_view : List (Stmt F) → Statements N
   statements_view statements = in_order (map statement_view statements)

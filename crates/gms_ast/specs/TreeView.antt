@@ -1,4 +1,4 @@
--- The tree that an expression of a program shows.
+-- The tree of an expression of a program: its view.
 use Rattle.std.specs.Prelude.{ℕ, List, [], ◌∷◌, map, Bool, Option, Some, None, Box}
 use Rattle.std.specs.declared.alloc.Global.{Global}
 use Rattle.gms_labels.specs.declared.place.Place.{Place}
@@ -29,17 +29,17 @@ module _ {F : Type 0} where
   indices_of [] = no_index
   indices_of (put ∷ puts) = put (indices_of puts)
 
-  -- an index by a set, with its lag where there is one, before the others
+  -- an index by a set, with its lag if any, before the others
   abbrev pub set_index : ℕ → Option (LagOp × Place × Box (Tree F) Global) → Indices F → Indices F
   set_index name None rest = set name rest
   set_index name (Some lag) rest = lagged name lag.0 lag.1 lag.2.value rest
 
-  -- sets, with a condition where there is one
+  -- sets, with a condition if any
   abbrev pub control_of : List ℕ → Option (Box (Tree F) Global) → Control F
   control_of sets None = over sets
   control_of sets (Some condition) = over_where sets condition.value
 
-  -- one node, with each part already seen as its tree
+  -- the tree of one node, given the trees of its parts
   abbrev pub tree_step : Expr-F F (Tree F) (Indices F → Indices F) (Control F) → Tree F
   tree_step (Expr-F.Number n) = number n
   tree_step Expr-F.PlusInf = plus_infinity
@@ -61,12 +61,12 @@ module _ {F : Type 0} where
   tree_step (Expr-F.Or parts) = one_of (parts_of (map (λ p. (chosen p.0, p.1)) parts.items))
   tree_step (Expr-F.Guard operand guards) = guarded operand.value (plain_parts guards.items)
 
-  -- one index, with its lag's amount already seen as its tree
+  -- one index, given the tree of its lag's amount
   abbrev pub index_step : Index-F F (Tree F) (Indices F → Indices F) (Control F) → Indices F → Indices F
   index_step (Index-F.Label n) = label n
   index_step (Index-F.Set name lag) = set_index name lag
 
-  -- one control, with its condition already seen as its tree
+  -- one control, given the tree of its condition
   abbrev pub control_step : Control-F F (Tree F) (Indices F → Indices F) (Control F) → Control F
   control_step control = control_of control.sets control.condition
 
@@ -78,6 +78,6 @@ module _ {F : Type 0} where
   abbrev pub index_tree : Index F → Indices F → Indices F
   index_tree = fold-Index F (Tree F) (Indices F → Indices F) (Control F) tree_step index_step control_step
 
-  -- the control that a control of the program shows
+  -- the view of a control
   abbrev pub control_tree : ControlNode F → Control F
   control_tree = fold-Control F (Tree F) (Indices F → Indices F) (Control F) tree_step index_step control_step

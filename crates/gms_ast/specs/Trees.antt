@@ -1,4 +1,5 @@
--- Trees of expressions as contracts compare them: what an expression is, wherever its parts are kept in memory.
+-- Trees of expressions as contracts compare them: what an expression is, wherever its parts are
+-- stored.
 use Rattle.std.specs.Prelude.{ℕ, Bool, List}
 use Rattle.gms_labels.specs.declared.place.Place.{Place}
 use Rattle.gms_ast.specs.declared.expression.Suffix.{Suffix}
@@ -7,7 +8,7 @@ use Rattle.gms_ast.specs.declared.expression.LagOp.{LagOp}
 use Rattle.gms_ast.specs.declared.expression.Function.{Function}
 use Rattle.gms_ast.specs.declared.expression.RelOp.{RelOp}
 
--- What stands with a part of a node.
+-- What accompanies a part of a node.
 pub data Mark : Type 0 where
   -- nothing
   plain : Mark
@@ -48,7 +49,8 @@ mutual
     no_part : Parts N
     part : Mark → Tree N → Parts N → Parts N
 
-  -- Indices of a reference in order: a label, a set, or a set with a lag, the place of its amount and the amount.
+  -- Indices of a reference in order: a label, a set, or a set with a lag, the place of its amount
+  -- and the amount.
   pub data Indices (N : Type 0) : Type 0 where
     no_index : Indices N
     label : ℕ → Indices N → Indices N

@@ -1,4 +1,5 @@
-//! What declarations say: names with their domains and their data, and models with their equations.
+//! What declarations declare: names with their domains and their data, and models with their
+//! equations.
 use crate::sequence::Sequence;
 use crate::word::Named;
 use gms_labels::Place;
@@ -29,8 +30,8 @@ pub enum DeclKind {
 
 /// One name that is declared, with its domain and its data.
 ///
-/// In `parameter p(i,*) "a text" /a.x 5/;` the name is `p`, the domain is `i` and any label, and the data are one
-/// item.
+/// In `parameter p(i,*) "a text" /a.x 5/;` the name is `p`, the domain is `i` and any label, and
+/// the data are one item.
 #[derive(Debug)]
 pub struct Decl<F> {
     /// The name.
@@ -59,11 +60,11 @@ impl<F: Drop> Drop for Decl<F> {
 pub struct Item<F> {
     /// The place of its first character.
     pub at: Place,
-    /// For each position the labels that stand there, by their numbers.
+    /// For each position its labels, by their numbers.
     pub parts: Sequence<Sequence<u32>>,
-    /// The value, where the item has one: a number, an infinity or NA.
+    /// The value, if the item has one: a number, an infinity or NA.
     pub value: Option<Ext<F>>,
-    /// Whether the item has a range that is none, as in `/a3*a1/`.
+    /// Whether the item has an invalid range, such as `/a3*a1/`.
     pub bad_range: bool,
 }
 
@@ -81,7 +82,8 @@ impl<F: Drop> Drop for Item<F> {
 
 /// One model that is declared.
 ///
-/// In `model m /cost, supply/;` it is `m` of two equations, and in `model m /all/;` of all that are declared.
+/// In `model m /cost, supply/;` it is `m` of two equations, and in `model m /all/;` of all that are
+/// declared.
 #[derive(Debug)]
 pub struct ModelDecl {
     /// The name of the model.

@@ -74,7 +74,7 @@ pub enum Function {
     Trunc,
     /// `sign(x)`
     Sign,
-    /// One that this language leaves out, as `exp(x)`.
+    /// One that this language leaves out, such as `exp(x)`.
     NotInProfile,
 }
 
@@ -97,12 +97,12 @@ pub enum RelOp {
 
 /// An expression over the numbers of a field.
 ///
-/// Parentheses and a sign `+` leave no trace, and a production without an operator adds no node. The place of a part
-/// of a sum, a product or a power is that of its first character, its own sign included. The mark of a first part says
-/// nothing: it is false, or `Eq`.
+/// Parentheses and a sign `+` leave no trace, and a production without an operator adds no node.
+/// The place of a part of a sum, a product or a power is that of its first character, its own sign
+/// included. The mark of a first part has no meaning: it is false, or `Eq`.
 #[cycle(expression)]
 pub enum Expr<F> {
-    /// A number, as `2.5`.
+    /// A number, such as `2.5`.
     Number(F),
     /// `inf`
     PlusInf,
@@ -112,7 +112,7 @@ pub enum Expr<F> {
     Yes,
     /// `no`
     No,
-    /// A reference to a symbol, as `x.l(i,"a")`.
+    /// A reference to a symbol, such as `x.l(i,"a")`.
     Ref {
         /// The place of its first character.
         at: Place,
@@ -123,21 +123,21 @@ pub enum Expr<F> {
         /// The indices, in order.
         indices: Vec<Index<F>>,
     },
-    /// The place of an element in its set, as `ord(i)`.
+    /// The place of an element in its set, such as `ord(i)`.
     Ord {
         /// The place of its first character.
         at: Place,
         /// The set, by the number of its name.
         set: u32,
     },
-    /// How many elements a set has, as `card(i)`.
+    /// How many elements a set has, such as `card(i)`.
     Card {
         /// The place of its first character.
         at: Place,
         /// The set, by the number of its name.
         set: u32,
     },
-    /// A call of a function, as `max(x,y)`.
+    /// A call of a function, such as `max(x,y)`.
     Call {
         /// The place of its first character.
         at: Place,
@@ -146,7 +146,7 @@ pub enum Expr<F> {
         /// The arguments, in order.
         args: Vec<Expr<F>>,
     },
-    /// A fold over sets, as `sum((i,j)$c(i,j), x(i,j))`.
+    /// A fold over sets, such as `sum((i,j)$c(i,j), x(i,j))`.
     Fold {
         /// The place of its first character.
         at: Place,
@@ -157,23 +157,23 @@ pub enum Expr<F> {
         /// The expression whose values are joined.
         body: Box<Expr<F>>,
     },
-    /// A negation, as `-x`.
+    /// A negation, such as `-x`.
     Neg(Box<Expr<F>>),
-    /// A sum, as `a - b + c`. Each part has its place and whether it is subtracted.
+    /// A sum, such as `a - b + c`. Each part has its place and whether it is subtracted.
     Plus(Vec<(Place, bool, Expr<F>)>),
-    /// A product, as `a / b * c`. Each part has its place and whether it divides.
+    /// A product, such as `a / b * c`. Each part has its place and whether it divides.
     Times(Vec<(Place, bool, Expr<F>)>),
-    /// A power, as `a ** 2`. Each part has its place.
+    /// A power, such as `a ** 2`. Each part has its place.
     Power(Vec<(Place, Expr<F>)>),
-    /// Relations, as `a < b`. Each part has the relation before it.
+    /// Relations, such as `a < b`. Each part has the relation before it.
     Relate(Vec<(RelOp, Expr<F>)>),
     /// `not a`
     Not(Box<Expr<F>>),
     /// `a and b`
     And(Vec<Expr<F>>),
-    /// A choice, as `a or b xor c`. Each part has whether it is joined by `xor`.
+    /// A choice, such as `a or b xor c`. Each part has whether it is joined by `xor`.
     Or(Vec<(bool, Expr<F>)>),
-    /// An operand under conditions, as `a$b$c`.
+    /// An operand under conditions, such as `a$b$c`.
     Guard {
         /// The operand.
         operand: Box<Expr<F>>,
@@ -230,13 +230,13 @@ impl<F: Drop> Drop for Expr<F> {
 /// An index of a reference.
 #[cycle(expression)]
 pub enum Index<F> {
-    /// A label in quotation marks, as `"a"`, by its number.
+    /// A label in quotation marks, such as `"a"`, by its number.
     Label(u32),
-    /// A set that is controlled, as `i` or `i-1`.
+    /// A controlled set, such as `i` or `i-1`.
     Set {
         /// The set, by the number of its name.
         name: u32,
-        /// The lag, where there is one: what it does, the place of its amount, and the amount.
+        /// The lag, if any: what it does, the place of its amount, and the amount.
         lag: Option<(LagOp, Place, Box<Expr<F>>)>,
     },
 }
@@ -252,14 +252,14 @@ impl<F: Drop> Drop for Index<F> {
     }
 }
 
-/// The sets over which a fold or a loop goes, and the condition on their elements.
+/// The sets over which a fold or a loop runs, and the condition on their elements.
 ///
 /// In `sum((i,j)$c(i,j), x(i,j))` the sets are `i` and `j`, and the condition is `c(i,j)`.
 #[cycle(expression)]
 pub struct Control<F> {
     /// The sets, by the numbers of their names.
     pub sets: Sequence<u32>,
-    /// The condition, where there is one.
+    /// The condition, if any.
     pub condition: Option<Box<Expr<F>>>,
 }
 

@@ -1,4 +1,4 @@
-//! Floor 2, source to tree. The trees of a program: expressions, statements and what they are made of.
+//! Layer 2, source to tree. The trees of a program: expressions, statements and their parts.
 #![tactic(auto)]
 
 mod declaration;

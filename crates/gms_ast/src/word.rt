@@ -2,7 +2,7 @@
 use crate::sequence::Sequence;
 use gms_labels::Place;
 
-/// A name where it stands in the source: its number in the program's table of names.
+/// A name at a place in the source: its number in the program's table of names.
 ///
 /// In `set i /a/;` it is `i`.
 #[derive(Clone, Copy, Debug, PartialEq, Eq)]
@@ -13,7 +13,7 @@ pub struct Named {
     pub name: u32,
 }
 
-/// A word or a text where it stands in the source, which is in no table: its bytes as they were written.
+/// A word or a text at a place in the source that is in no table: its bytes as they were written.
 ///
 /// In `solve m using lp minimizing z;` it is `lp`, and in `display "costs", c;` it is `costs`.
 #[derive(Debug)]

@@ -128,7 +128,7 @@ module _ {F : Type 0} {value : F → Number} {limit : ℕ} {whole : Meaning (Syn
       begun = λ e. absurd (not_nil l.read _ e);
     }
 
-    -- no operator stands there
+    -- no operator comes next
     pub chain_got : Chain limit P (one test · sub) whole others make views reader start old new at → {e : Expr F} → leads productions look_ahead (one test) (seen_from reader at) ≡ false →
         ((sense : Sense) → in_sense reader.source.now others sense none ≡ no_part) → view value e ≡ make (parts_of views) → IsGot limit (IsMeant value reader.source.now whole) P reader start old new e at
     chain_got l {e} unled empty is =
@@ -139,7 +139,7 @@ module _ {F : Type 0} {value : F → Number} {limit : ℕ} {whole : Meaning (Syn
               ∙ sym (h ∙ ap (or_alone l.first (λ r. make (part l.mark l.first r))) (ap (parts_before l.read) (empty sense) ∙ parts_before_all l.read));
         })
 
--- the part behind an operator is refused
+-- the part after an operator is refused
 pub chain_refuses : {limit : ℕ} {whole : Meaning (Syntax Number)} {others : Meaning (Parts Number)} {make : Parts Number → Syntax Number} {reader : Reader} {start : ℕ} {old new : Tables} {at : ℕ} {P : GamsPart} {test : Terminal → Bool} {sub : GamsPart} {views : List (Mark × Syntax Number)} →
     Chain limit P (one test · sub) whole others make views reader start old new at → {behind : ℕ} {token : Token} {last : Tables} {e : SyntaxFaultOrMemory} (n : IsNext test reader at token behind) → implies test is_plain ≡ true →
     Refuses limit reader.source.now sub last (walk_of reader.unclosed new) (seen_from reader behind) e → Refuses limit reader.source.now P last (walk_of reader.unclosed old) (seen_from reader start) e

@@ -51,7 +51,7 @@ name_sound limit source w kind token h room fault (out_of_range e d) = let f : i
 name_sound limit source w kind token h room fault (many_names n full) = room full
 name_sound limit source w kind token h room fault (many_labels e d) = let f : is_named kind ≡ false = ap is_named e in cc
 
--- it is a name where no dot stands before it
+-- it is a name if no dot precedes it
 name_there : (unclosed : ℕ) (tables : Tables) (kind : Terminal) → is_named kind ≡ true → is_name (walk_of unclosed tables) kind ≡ true
 name_there unclosed tables Name h = refl
 name_there unclosed tables Suffix h = refl
@@ -64,7 +64,7 @@ module _ {limit : ℕ} {reader : Reader} {at behind : ℕ} {token : Token} (old 
   name_got new number e f room place = got_by (gives_one n.is n.passes (name_sound limit reader.source.now (walk_of reader.unclosed old) n.kind token n.passes room) (name_after reader.source.now reader.unclosed old new n.kind token n.passes e f))
       (λ sense s. (sym (ap or_0 (s.names (token_text reader.source.now token) number place)), refl)) (let g = n.further in omega arith)
 
-  -- there is no room for a name
+  -- the table of names is full for a new name
   pub name_refused : {last : Tables} {e : SyntaxFaultOrMemory} → IsFullFor old.names (token_text reader.source.now token) → e ≡ Fault (record { error = TooManyLabels; at = token.at }) → Went (walk_of reader.unclosed old) last → Refuses limit reader.source.now name last (walk_of reader.unclosed old) (seen_from reader at) e
   name_refused full is went = refuses_token went (takes_next n.is n.passes) (many_names (name_there reader.unclosed old n.kind n.passes) full) is
 

@@ -1,4 +1,4 @@
--- The names and labels go on from what they were.
+-- Reading extends the names and labels.
 use Rattle.std.proofs.Common.{◌≡◌, ℕ, Bool, true, false, cond, List, [], ◌∷◌, ◌++◌, sym, ◌∙◌, subst, append_assoc, append-nil}
 use Rattle.std.specs.Prelude.{is_some}
 use Rattle.gms_labels.specs.Labels.{place_of, entered}
@@ -16,7 +16,7 @@ use Rattle.gms_expressions.specs.Readings.{Seen, Derivation, GamsPart, Gives, We
 pub goes_refl : (texts : List (List ℕ)) → GoesOn texts texts
 goes_refl texts = ([], sym (append-nil texts))
 
--- what goes on from a list with one more goes on from the list
+-- an extension of a list with one more element is an extension of the list
 goes_more : (b : Bool) (texts : List (List ℕ)) (text : List ℕ) (later : List (List ℕ)) → GoesOn (cond b texts (texts ++ text ∷ [])) later → GoesOn texts later
 goes_more true texts text later g = g
 goes_more false texts text later g = (text ∷ g.0, g.1 ∙ append_assoc texts (text ∷ []) g.0)
@@ -25,7 +25,7 @@ goes_entered : (c : Bool) (texts : List (List ℕ)) (text : List ℕ) (later : L
 goes_entered true texts text later g = goes_more (is_some (place_of texts text)) texts text later g
 goes_entered false texts text later g = g
 
--- what goes on from what a token left goes on from what was there before it
+-- an extension of the state after a token is an extension of the state before it
 went_before : (source : List ℕ) (tables : Tables) (w : Walk) (t : Seen) → Went (walk_after source w t) tables → Went w tables
 went_before source tables w t g =
     (goes_entered (is_name w t.0) w.names (token_text source t.1) tables.names g.0, goes_entered (is Text t.0) w.labels (unquoted (token_text source t.1)) tables.labels g.1)

@@ -16,7 +16,7 @@ pub some_begun : {X Y : Type 0} (f : X → Y) (xs : List X) {b : Bool} → (xs �
 some_begun f [] led unled none = let yes = led refl in cc
 some_begun f (x ∷ xs) led unled none = cc
 
--- the operand in memory of its own, and no condition yet
+-- the operand in an allocation, without conditions so far
 pub guards_begin : {F : Type 0} {Led : Type 0} (value : F → Number) {limit : ℕ} {reader : Reader} {start : ℕ} {old new : Tables} {at : ℕ} {e boxed : Expr F} {items : List (Expr F)} → Guards limit (view value e) [] reader start old new at → boxed ≡ e → items ≡ [] → Led →
     Guards limit (view value boxed) (plain_views value items) reader start old new at × (items ≡ [] → Led)
 guards_begin {F = F} value {limit} {reader} {start} {old} {new} {at} {e} {boxed} {items} l same none led =

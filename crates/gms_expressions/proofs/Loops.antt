@@ -43,7 +43,7 @@ module _ {Y Z : Type 0} {limit : ℕ} {part q : GamsPart} {whole : Sense → Der
       Refuses limit reader.source.now q last (walk_of reader.unclosed new) (seen_from reader at) e → Refuses limit reader.source.now part last (walk_of reader.unclosed old) (seen_from reader start) e
   loop_refuses l led r = l.within.refuses _ _ (refuses_again led r)
 
-  -- memory was wanting behind another
+  -- out of memory after another part
   pub loop_memory : Looping limit part q whole others made reader start old new at → {p : GamsPart} {last : Tables} {ts rest : List Seen} {tree : Derivation} {e : SyntaxFaultOrMemory} →
       Gives limit reader.source.now p (walk_of reader.unclosed new) ts tree (walk_of reader.unclosed last) rest → e ≡ Memory → Refuses limit reader.source.now part last (walk_of reader.unclosed old) (seen_from reader start) e
   loop_memory l g is = l.within.refuses _ _ (refuses_memory (went_by g) is)

@@ -16,7 +16,7 @@ ready_inside unclosed few r = record { placed = r.placed; end = r.end; few = few
 
 module _ {F M : Type 0} {limit : ℕ} {value : F → Number} {reader : Reader} {pre : Reader → MutBor Tables → ℕ → Inner → M → Type 0}
     {post : Reader → MutBor Tables → ℕ → Inner → M → Result (Expr F × ℕ) SyntaxFaultOrMemory → MutBor Tables → Type 0} where
-  -- what is asked one parenthesis deeper
+  -- what reading requires one parenthesis deeper
   pub deeper_from : {least : ℕ} (most : ℕ) (unclosed : ℕ) → unclosed ≤ 100 → least ≤ most → CanReadFrom limit value least reader pre post → CanReadFrom limit value most (inside reader unclosed) pre post
   deeper_from most unclosed few up c = record {
     ready = ready_inside unclosed few c.ready;

@@ -34,7 +34,7 @@ gives_next {limit = limit} {test = test} {reader = reader} {token = token} table
     let k = also test is_plain plain n.kind n.passes in
     gives_one n.is n.passes (plain_sound limit reader.source.now (walk_of reader.unclosed tables) n.kind token k) (sym (plain_after reader.source.now reader.unclosed tables n.kind token k))
 
--- another token is due
+-- another token is expected
 pub lacking_behind : {limit : ℕ} {test : Terminal → Bool} {reader : Reader} {at : ℕ} {tables : Tables} {w : Walk} {e : SyntaxFaultOrMemory} → Went w tables → IsLacking test reader at e → Refuses limit reader.source.now (one test) tables w (seen_from reader at) e
 lacking_behind went l = refuses_at went (refused l.not_led) l.is
 
@@ -99,7 +99,7 @@ module _ {limit : ℕ} {reader : Reader} {at start : ℕ} {inner : Reader} {p : 
       Refuses limit reader.source.now (bracketed p) new (walk_of reader.unclosed old) (seen_from reader at) e
   refuses_unclosed g l = refuses_second (gives_open old o) (refuses_second g (refuses_lacking l))
 
--- no parenthesis opens where one is due
+-- no parenthesis opens where one is expected
 pub refuses_unopened : {limit : ℕ} {reader : Reader} {at : ℕ} {e : SyntaxFaultOrMemory} (p : GamsPart) (tables : Tables) → IsUnopened reader at e → Refuses limit reader.source.now (bracketed p) tables (walk_of reader.unclosed tables) (seen_from reader at) e
 refuses_unopened {limit = limit} p tables u = refuses_first (u.refuses limit tables)
 

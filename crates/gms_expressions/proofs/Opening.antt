@@ -23,7 +23,7 @@ less_one (x ∷ xs) y = let e = less_one_more xs y in omega (arith, e)
     less_one_more [] y = refl
     less_one_more (x ∷ xs) y = let e = less_one_more xs y in omega (arith, e)
 
--- the last token of a source stands at its end
+-- the last token of a source is at its end
 pub ends_at : (source : List ℕ) (tokens : List Token) (other : Token) → IsTokens source tokens → (slice_index_or tokens (length tokens - 1) other).at ≡ place_of source (length source)
 ends_at source tokens other h =
     ap (λ (ts : List Token). (slice_index_or ts (length ts - 1) other).at) h.has.tokens_are
@@ -43,7 +43,8 @@ module _ {T : Type 0} (limit : ℕ) (Means : List ℕ → Sense → Derivation �
   said reader at old new (Ok r) got = read_of got (Says reader.source.now) (λ names labels tree m. says reader.source.now names labels tree r.0 m)
   said reader at old new (Err e) refused = refusal_of e refused
 
-  -- what a reader of the tokens of a source answers, from tables taken from their places and given back
+  -- what a reader of the tokens of a source answers, from tables taken from their places and given
+  -- back
   pub said_of : {source : List ℕ} {tokens : List Token} {unclosed : ℕ} {old_names old_labels new_names new_labels : List (List ℕ)} (reader : Reader) (at : ℕ) (old new : Tables) (result : Result (T × ℕ) SyntaxFaultOrMemory) →
       reader.source.now ≡ source → reader.tokens.now ≡ tokens → reader.unclosed ≡ unclosed → old.names ≡ old_names → old.labels ≡ old_labels → new_names ≡ new.names → new_labels ≡ new.labels →
       IsAnswer limit (Means reader.source.now) (the n) reader at old new result → IsSaid limit n Says at result source tokens unclosed old_names old_labels new_names new_labels
@@ -57,7 +58,7 @@ module _ {T : Type 0} (limit : ℕ) (Means : List ℕ → Sense → Derivation �
       (subst (λ (x : List (List ℕ)). IsSaid limit n Says at result reader.source.now reader.tokens.now reader.unclosed old.names old.labels new.names x) (sym g)
       (said reader at old new result answer)))))))
 
--- whatever a reader of the tokens of a source answers, its tables go on
+-- whatever a reader of the tokens of a source answers, it extends its tables
 went : {T : Type 0} (limit : ℕ) (Means : Sense → Derivation → T → Type 0) (part : GamsPart) (reader : Reader) (at : ℕ) (old new : Tables) (result : Result (T × ℕ) SyntaxFaultOrMemory) → IsAnswer limit Means part reader at old new result → Went (walk_of reader.unclosed old) new
 went limit Means part reader at old new (Ok r) got = went_by got.gives
 went limit Means part reader at old new (Err e) refused = refused.went

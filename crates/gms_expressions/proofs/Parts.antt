@@ -1,4 +1,5 @@
--- What a tree means as a part of another: inside a nonterminal, and as the second of two alternatives.
+-- What a tree means as a part of another: inside a nonterminal, and as the second of two
+-- alternatives.
 use Rattle.gms_grammar.specs.Grammar.{right, node}
 use Rattle.gms_expressions.specs.Readings.{Meaning}
 

@@ -1,4 +1,4 @@
--- Operands behind a sign or `not`, and what a refused step hands on.
+-- Operands after a sign or `not`, and what a refused step passes on.
 use Rattle.std.proofs.Common.{◌≡◌, ℕ, Bool, true, false, cond, Result, Ok, Err, sym, ap, ◌∙◌, arith}
 use Rattle.std.specs.Result.{IsErrAnd, MatchResult}
 use Rattle.std.proofs.lemmas.Result.{err_from_is_err_and}
@@ -32,14 +32,14 @@ answered (Ok x) m p q = p x m
 answered (Err e) m p q = q e m
 
 module _ {F : Type 0} {value : F → Number} {limit : ℕ} {reader : Reader} {at start : ℕ} {old new : Tables} {sub : GamsPart} {inner whole : Meaning (Syntax Number)} {operand e : Expr F} {next : ℕ} where
-  -- behind a sign, or none
+  -- after a sign, or none
   pub signed_got : {minus : Bool} (s : IsSigned reader at minus start) (got : IsGot limit (IsMeant value reader.source.now inner) sub reader start old new operand next) →
       view value e ≡ cond minus (negated (view value operand)) (view value operand) → ((sense : Sense) → in_sense reader.source.now whole sense (pair s.tree got.tree) ≡ with_sign s.tree (in_sense reader.source.now inner sense got.tree)) →
       IsGot limit (IsMeant value reader.source.now whole) (opt (token Sign) · sub) reader at old new e next
   signed_got s got is shape = got_by (gives_both (s.gives limit old) got.gives) (λ sense k. record { is = is ∙ sym (s.means (view value operand)) ∙ ap (with_sign s.tree) (got.means sense k).is ∙ sym (shape sense) })
       (let f = got.further in let g = s.further in omega arith)
 
-  -- behind `not`, or none
+  -- after `not`, or none
   pub negated_got : {not : Bool} (s : IsNegated reader at not start) (got : IsGot limit (IsMeant value reader.source.now inner) sub reader start old new operand next) →
       view value e ≡ cond not (not_so (view value operand)) (view value operand) → ((sense : Sense) → in_sense reader.source.now whole sense (pair s.tree got.tree) ≡ negated_by s.tree (in_sense reader.source.now inner sense got.tree)) →
       IsGot limit (IsMeant value reader.source.now whole) (opt (token Not) · sub) reader at old new e next
@@ -52,7 +52,7 @@ module _ {F : Type 0} {value : F → Number} {limit : ℕ} {reader : Reader} {at
       IsGot limit (IsMeant value reader.source.now whole) (the n) reader at old new e next
   got_the n got shape = got_by (gives_the n got.gives) (λ sense k. record { is = (got.means sense k).is ∙ sym (shape sense) }) got.further
 
-  -- what was read behind a token
+  -- what was read after a token
   pub got_behind : {test : Terminal → Bool} {sub : GamsPart} {start : ℕ} {t : Token} (n : IsNext test reader at t start) → implies test is_plain ≡ true → (got : IsGot limit (IsMeant value reader.source.now inner) sub reader start old new e next) →
       ((sense : Sense) → in_sense reader.source.now whole sense (pair (leaf (n.kind, t)) got.tree) ≡ in_sense reader.source.now inner sense got.tree) → IsGot limit (IsMeant value reader.source.now whole) (one test · sub) reader at old new e next
   got_behind {t = t} n plain got shape = got_by (gives_both (gives_next old n plain) got.gives) (λ sense k. record { is = (got.means sense k).is ∙ sym (shape sense) }) (let f = got.further in let g = n.further in omega arith)

@@ -62,7 +62,7 @@ unopened_lacking l = record { refuses = λ limit tables. refuses_lacking l }
 pub unopened_deep : {reader : Reader} {at behind : ℕ} {t : Token} {e : SyntaxFaultOrMemory} → IsNext (is LeftParen) reader at t behind → 100 ≤ reader.unclosed → e ≡ Fault (record { error = Depth; at = t.at }) → IsUnopened reader at e
 unopened_deep n many is = record { refuses = λ limit tables. refuses_token (went_same tables) (takes_next (exact n) refl) (deep refl many) is }
 
--- the walk behind a dot
+-- the state after a dot
 dotted : ℕ → Tables → Walk
 dotted unclosed tables = record { open_count = unclosed; names = tables.names; labels = tables.labels; dotted = true }
 
@@ -101,7 +101,7 @@ pub suffix_got : (limit : ℕ) (tables : Tables) {reader : Reader} {at middle be
 suffix_got limit tables {reader = reader} {at = at} {dot = dot} {word = word} found n m is = got_by (gives_some (leads_attribute (seen_from reader at) ∙ led_next n) (gives_the Attribute (gives_both (gives_dot tables n) (gives_suffix tables m))))
     (λ sense s. is) (let g = n.further in let h = m.further in omega arith)
 
--- no suffix behind a dot
+-- no suffix after a dot
 pub suffix_refused : (limit : ℕ) (tables : Tables) {reader : Reader} {at middle : ℕ} {dot : Token} {e : SyntaxFaultOrMemory} → IsNext (is Dot) reader at dot middle → IsLacking (is Suffix) reader middle e →
     Refuses limit reader.source.now (opt (the Attribute)) tables (walk_of reader.unclosed tables) (seen_from reader at) e
 unfolding dotted

@@ -1,4 +1,5 @@
--- How what was read of parts, or why they were refused, makes up that of larger parts, by the rule of faults of expressions.
+-- How readings or refusals of parts make up those of larger parts, by the rule of faults of
+-- expressions.
 use Rattle.std.proofs.Common.{◌≡◌, ℕ, ◌≤◌, Bool, true, false, List, [], ◌∷◌}
 use Rattle.gms_grammar.specs.declared.terminal.Terminal.{Terminal}
 use Rattle.gms_grammar.specs.Grammar.{one, the, ◌·◌, ◌∣◌, opt, many, leaf, pair, more, node}
@@ -41,7 +42,7 @@ module _ {limit : ℕ} {source : List ℕ} where
       IsFaulty limit source w token found → e ≡ Fault found → Refuses limit source p tables w ts e
   refuses_token went t f is = record { why = steps.refuses_token {rules = syntax_rule} {key = (limit, source)} t f (told_once is); went = went }
 
-  -- want of memory
+  -- out of memory
   pub refuses_memory : {p : GamsPart} {tables : Tables} {w : Walk} {ts : List Seen} {e : SyntaxFaultOrMemory} → Went w tables → e ≡ Memory → Refuses limit source p tables w ts e
   refuses_memory {e = e} went h = record { why = record { why = λ fault k. let told : e ≡ Fault fault = k in cc }; went = went }
 
@@ -89,7 +90,7 @@ module _ {limit : ℕ} {source : List ℕ} where
   pub within_then : {p q s : GamsPart} {w v x : Walk} {ts us vs : List Seen} {c d : Derivation → Derivation} → Within limit source p w ts q v us c → Within limit source q v us s x vs d → Within limit source p w ts s x vs (λ b. c (d b))
   within_then {d = d} h k = record { gives = λ a y last g. h.gives (d a) y last (k.gives a y last g); refuses = λ tables e r. h.refuses tables e (k.refuses tables e r) }
 
--- A part was read at a place: what its tokens give, what was read of it means, and the place behind it.
+-- A part was read at a place: what its tokens give, its meaning, and the place after it.
 pub got_by : {T : Type 0} {limit : ℕ} {Means : Sense → Derivation → T → Type 0} {part : GamsPart} {reader : Reader} {at : ℕ} {old new : Tables} {x : T} {behind : ℕ} {tree : Derivation} →
     Gives limit reader.source.now part (walk_of reader.unclosed old) (seen_from reader at) tree (walk_of reader.unclosed new) (seen_from reader behind) → ((sense : Sense) → IsSense new sense → Means sense tree x) → at ≤ behind → IsGot limit Means part reader at old new x behind
 got_by {tree = tree} gives means further = record { tree = tree; gives = gives; means = means; further = further }

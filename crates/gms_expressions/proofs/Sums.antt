@@ -24,7 +24,7 @@ use Rattle.gms_expressions.proofs.Loops.{Looping, loop_on, loop_got, loop_refuse
 use Rattle.gms_expressions.proofs.Chains.{ChainFirst, in_sense, place_read, parts_before, parts_before_push, parts_before_all, or_some}
 
 module _ {F : Type 0} {value : F → Number} {limit : ℕ} {reader : Reader} {at : ℕ} {old new : Tables} where
-  -- the first part of a sum, perhaps behind a sign
+  -- the first part of a sum, perhaps after a sign
   pub sum_first : {start next : ℕ} {minus : Bool} {operand : Expr F} {place : Place} (first : Expr F) (s : IsSigned reader at minus start) (got : IsGot limit (IsMeant value reader.source.now product_of) (the Product) reader start old new operand next) →
       view value first ≡ cond minus (negated (view value operand)) (view value operand) → place ≡ next_place reader.source.now (seen_from reader at) →
       ChainFirst limit (the Sum) (token Sign · the Product) sum_of terms sum_node (signed place false) (view value first) reader at old new next

@@ -38,7 +38,7 @@ stands_at _ = refl
 pub same_number : (a b : Terminal) → number_of a ≡ number_of b → a ≡ b
 same_number a b e = sym (stands_at a) ∙ ap (λ n. get_or terminals n Abort) e ∙ stands_at b
 
--- whether tokens lead into a part is told by the kind of the first
+-- the kind of the first token determines whether tokens lead into a part
 pub leads_by_kind : (part : GamsPart) (tokens : List Seen) → may_begin look_ahead part End ≡ false → leads productions look_ahead part tokens ≡ may_begin look_ahead part (kind_of tokens)
 leads_by_kind part [] h = sym h
 leads_by_kind part (token ∷ tokens) h = refl

@@ -22,7 +22,7 @@ digits_told text [] rest p = inr (λ h. let front = all_in_front text [] rest p 
 digits_told text (b ∷ bs) [] p = inl (subst (λ l. IsSomeDigits l) (sym (p.text_is ∙ append-nil (b ∷ bs))) (p.are_digits, omega arith))
 digits_told text (b ∷ bs) (c ∷ cs) p = inr (λ h. let front = all_in_front text (b ∷ bs) (c ∷ cs) p h.0 in let none : length (c ∷ cs) ≡ 0 = ap length front.1 in absurd (omega arith))
 
--- a text with a sign in front or none, and its whole number
+-- a text with an optional sign before it, and its whole number
 record SignTold (text : List ℕ) : Type 0 where
   negative : Bool
   digits : List ℕ
@@ -83,7 +83,7 @@ exponent_told (mark ∷ text) =
 
 -- ---- decimals
 
--- the digits around a point that a text begins with, and what stands behind them
+-- the digits around a point that a text begins with, and what follows them
 divides : (text : List ℕ) → Divides text (front_digits text) (point_digits (behind_digits text)) (behind_point (behind_digits text))
 divides text =
     let front = counted_digits text in

@@ -1,4 +1,4 @@
--- What tokens leave, one after another.
+-- The state after tokens, token by token.
 use Rattle.std.proofs.Common.{◌≡◌, ℕ, Bool, true, false, not, List, [], ◌∷◌, cond, Some, refl, ap}
 use Rattle.std.proofs.lemmas.Bool.{not-true}
 use Rattle.gms_labels.specs.Labels.{place_of, entered}

@@ -1,4 +1,5 @@
--- The tree that the derivation of an expression means (GAMS User's Guide, "Data Manipulation", expressions, and "Equations").
+-- The tree that the derivation of an expression means (GAMS User's Guide, "Data Manipulation",
+-- expressions, and "Equations").
 use Rattle.std.specs.Prelude.{ℕ, Bool, true, false, if◌then◌else◌, List, [], ◌∷◌, Option, Some, None, codes}
 use Rattle.std.specs.Str.{str_eq_ignore_ascii_case}
 use Rattle.gms_labels.specs.declared.place.Place.{Place}
@@ -29,27 +30,27 @@ use Rattle.gms_grammar.specs.Grammar.{Tree, leaf, pair, left, right, none, some,
 abbrev pub is_word : List ℕ → List ℕ → Bool
 is_word text word = str_eq_ignore_ascii_case text word
 
--- the suffix that a word is
+-- the suffix that a word names
 unfoldable pub suffix_of : List ℕ → Suffix
 suffix_of text =
     if is_word text (codes "lo") then suffix.Lo else (if is_word text (codes "up") then suffix.Up else (if is_word text (codes "l") then suffix.L else (if is_word text (codes "m") then suffix.M else (if is_word text (codes "fx") then suffix.Fx else (if is_word text (codes "modelstat") then suffix.ModelStat else suffix.SolveStat)))))
 
--- the way of joining that a word is
+-- the fold that a word names: `sum`, `prod`, `smin` or `smax`
 unfoldable pub fold_op_of : List ℕ → FoldOp
 fold_op_of text =
     if is_word text (codes "sum") then fold_op.Sum else (if is_word text (codes "prod") then fold_op.Prod else (if is_word text (codes "smin") then fold_op.Smin else fold_op.Smax))
 
--- the function that a word is
+-- the function that a word names
 unfoldable pub function_of : List ℕ → Function
 function_of text =
     if is_word text (codes "abs") then function.Abs else (if is_word text (codes "max") then function.Max else (if is_word text (codes "min") then function.Min else (if is_word text (codes "mod") then function.Mod else (if is_word text (codes "sqr") then function.Sqr else (if is_word text (codes "power") then function.Power else (if is_word text (codes "round") then function.Round else (if is_word text (codes "floor") then function.Floor else (if is_word text (codes "ceil") then function.Ceil else (if is_word text (codes "trunc") then function.Trunc else (if is_word text (codes "sign") then function.Sign else function.NotInProfile))))))))))
 
--- the relation that a word is
+-- the relation that a word names
 unfoldable pub relation_of_word : List ℕ → RelOp
 relation_of_word text =
     if is_word text (codes "lt") then rel_op.Lt else (if is_word text (codes "le") then rel_op.Le else (if is_word text (codes "eq") then rel_op.Eq else (if is_word text (codes "ne") then rel_op.Ne else (if is_word text (codes "ge") then rel_op.Ge else rel_op.Gt))))
 
--- the relation that a token is
+-- the relation that a token denotes
 abbrev pub relation_of : Kind → List ℕ → RelOp
 relation_of (kind.Symbol sym.Less) text = rel_op.Lt
 relation_of (kind.Symbol sym.LessEq) text = rel_op.Le
@@ -59,7 +60,7 @@ relation_of (kind.Symbol sym.GreaterEq) text = rel_op.Ge
 relation_of (kind.Symbol sym.Greater) text = rel_op.Gt
 relation_of _ text = relation_of_word text
 
--- how an index goes on by a token
+-- the lag operator of a token
 abbrev pub lag_op_of : Kind → LagOp
 lag_op_of (kind.Symbol sym.Minus) = lag_op.Lag
 lag_op_of (kind.Symbol sym.PlusPlus) = lag_op.CircularLead
@@ -81,7 +82,7 @@ abbrev pub or_0 : Option ℕ → ℕ
 or_0 None = 0
 or_0 (Some n) = n
 
--- what stands for a token where a tree has none
+-- the default token, for a tree without one
 abbrev pub no_token : Token
 no_token = record { kind = kind.End; start = 0; end = 0; at = record { line = 0; column = 0 } }
 
@@ -90,7 +91,7 @@ abbrev pub token_of : Tree (Terminal × Token) → Token
 token_of (leaf token) = token.1
 token_of _ = no_token
 
--- what the token of a leaf is to the grammar
+-- the kind of the token of a leaf
 abbrev pub terminal_in : Tree (Terminal × Token) → Terminal
 terminal_in (leaf token) = token.0
 terminal_in _ = terminal.End
@@ -111,12 +112,12 @@ inside (some tree) = tree
 inside (node tree) = tree
 inside _ = none
 
--- a tree with `not` before it, where there is one
+-- a tree with `not` before it, if there is one
 abbrev pub negated_by : {N T : Type 0} → Tree T → Syntax N → Syntax N
 negated_by (some word) tree = not_so tree
 negated_by _ tree = tree
 
--- a tree with the sign before it, where there is one
+-- a tree with the sign before it, if any
 abbrev pub with_sign : {N : Type 0} → Tree (Terminal × Token) → Syntax N → Syntax N
 with_sign (some sign) tree = if is_minus (token_of sign).kind then negated tree else tree
 with_sign _ tree = tree
@@ -126,34 +127,34 @@ abbrev pub or_alone : {N : Type 0} → Syntax N → (Parts N → Syntax N) → P
 or_alone alone together no_part = alone
 or_alone alone together (part mark tree rest) = together (part mark tree rest)
 
--- where the first of the tokens stands
+-- the place of the first of the tokens
 abbrev pub first_place : List (Terminal × Token) → Place
 first_place [] = record { line = 0; column = 0 }
 first_place (token ∷ tokens) = token.1.at
 
--- where a tree begins
+-- the place where a tree begins
 abbrev pub place_in : Tree (Terminal × Token) → Place
 place_in tree = first_place (yield tree)
 
--- a constant that a token is, whose bytes and value these are
+-- a constant, by its kind, its bytes and its value
 abbrev pub constant_of : {N : Type 0} → Terminal → List ℕ → N → Syntax N
 constant_of terminal.Infinity text value = plus_infinity
 constant_of terminal.NotAvailable text value = not_available
 constant_of terminal.YesNo text value = if is_word text (codes "yes") then yes else no
 constant_of _ text value = number value
 
--- In a source with these names and labels. Each clause reads as the production of the part
--- does; what is no tree of its part means `no`.
+-- In a source with these names and labels. Each clause reads as the production of its part; a tree
+-- that is none of the part means `no`.
 module _ (source : List ℕ) (names labels : List (List ℕ)) where
   -- the bytes of the token of a leaf
   abbrev pub text_in : Tree (Terminal × Token) → List ℕ
   text_in tree = token_text source (token_of tree)
 
-  -- the number of the name that a token is
+  -- the number of a name
   abbrev pub name_in : Tree (Terminal × Token) → ℕ
   name_in tree = or_0 (place_of names (text_in tree))
 
-  -- the number of the label that a quoted token is
+  -- the number of a quoted label
   abbrev pub label_in : Tree (Terminal × Token) → ℕ
   label_in tree = or_0 (place_of labels (unquoted (text_in tree)))
 
@@ -162,7 +163,7 @@ module _ (source : List ℕ) (names labels : List (List ℕ)) where
   suffix_in (some (node (pair _ word))) = suffix_of (text_in word)
   suffix_in _ = suffix.None
 
-  -- the names behind the first one in a list
+  -- the names after the first one in a list
   abbrev pub names_behind : Tree (Terminal × Token) → List ℕ
   names_behind (more (pair _ name) others) = name_in name ∷ names_behind others
   names_behind _ = []
@@ -239,7 +240,7 @@ module _ (source : List ℕ) (names labels : List (List ℕ)) where
     terms (more (pair sign tree) others) = part (signed (place_in tree) (is_minus (token_of sign).kind)) (product_of tree) (terms others)
     terms _ = no_part
 
-    -- a product: behind `*` and `/` a sign belongs to the factor
+    -- a product: after `*` and `/` a sign belongs to the factor
     pub product_of : Tree (Terminal × Token) → Syntax Number
     product_of (node (pair first others)) = or_alone (power_of first) (λ rest. product (part (signed (place_in first) false) (power_of first) rest)) (factors others)
     product_of _ = no
@@ -253,7 +254,7 @@ module _ (source : List ℕ) (names labels : List (List ℕ)) where
     signed_power (pair sign tree) = with_sign sign (power_of tree)
     signed_power _ = no
 
-    -- a power: behind `**` a sign belongs to the exponent
+    -- a power: after `**` a sign belongs to the exponent
     pub power_of : Tree (Terminal × Token) → Syntax Number
     power_of (node (pair first others)) = or_alone (guarded_of first) (λ rest. power (part (placed (place_in first)) (guarded_of first) rest)) (exponents others)
     power_of _ = no
@@ -276,7 +277,7 @@ module _ (source : List ℕ) (names labels : List (List ℕ)) where
     guards (more tree others) = part plain (condition tree) (guards others)
     guards _ = no_part
 
-    -- what stands behind a `$`
+    -- what follows a `$`
     pub condition : Tree (Terminal × Token) → Syntax Number
     condition (node (pair _ tree)) = negated_primary tree
     condition _ = no

@@ -1,4 +1,4 @@
--- What an expression of a program shows.
+-- The view of an expression of a program.
 use Rattle.std.specs.Prelude.{Bool, List, map}
 use Rattle.gq_number.specs.Number.{Number}
 use Rattle.gms_labels.specs.declared.place.Place.{Place}
@@ -9,11 +9,11 @@ use Rattle.gms_ast.specs.TreeView.{tree_of}
 use Rattle.gms_ast.specs.Numbers.{in_numbers}
 
 module _ {F : Type 0} (value : F → Number) where
-  -- the tree over numbers that an expression shows
+  -- the tree over numbers of an expression
   abbrev pub view : Expr F → Syntax Number
   view e = in_numbers value (tree_of e)
 
-  -- what expressions show, each with its mark
+  -- the trees of expressions, each with its mark
   abbrev pub plain_views : List (Expr F) → List (Mark × Syntax Number)
   plain_views parts = map (λ e. (plain, view e)) parts
 

@@ -1,5 +1,5 @@
--- What reading a part of an expression answers: the longest part with its tree, or its first fault (GAMS User's Guide, "GAMS Output",
--- compilation errors).
+-- What reading a part of an expression answers: the longest part with its tree, or its first fault
+-- (GAMS User's Guide, "GAMS Output", compilation errors).
 use Rattle.std.specs.Prelude.{◌≡◌, ℕ, ◌+◌, ◌-◌, ◌≤◌, Bool, true, not, ◌&&◌, if◌then◌else◌, List, [], ◌∷◌, length, map}
 use Rattle.gms_labels.specs.declared.place.Place.{Place}
 use Rattle.gms_labels.specs.Labels.{entered, IsFullFor}
@@ -23,28 +23,29 @@ use Rattle.gms_expressions.specs.declared.fault.SyntaxFaultOrMemory.{SyntaxFault
 use Rattle.gms_expressions.specs.declared.fault.SyntaxFaultOrMemory.TheVariants.{Fault}
 use Rattle.gms_expressions.specs.Words.{terminal_of}
 
--- the tokens of a source as the grammar sees them
+-- the tokens of a source as the grammar views them
 abbrev pub seen : List ℕ → List Token → List (Terminal × Token)
 seen source tokens = map (λ token. (terminal_of token.kind (token_text source token), token)) tokens
 
--- What the tokens so far have left: how many parentheses are open, the names and the labels, and whether the last was a dot.
+-- The state after the tokens so far: how many parentheses are open, the names and the labels, and
+-- whether the last token was a dot.
 pub record Walk : Type 0 where
   pub open_count : ℕ
   pub names : List (List ℕ)
   pub labels : List (List ℕ)
   pub dotted : Bool
 
--- a token is a name: no suffix behind a dot
+-- a token is a name: no suffix after a dot
 abbrev pub is_name : Walk → Terminal → Bool
 is_name walk kind = is_among (terminal.Name ∷ terminal.Suffix ∷ []) kind && not walk.dotted
 
--- how many parentheses are open behind a token
+-- how many parentheses are open after a token
 abbrev pub open_after : ℕ → Terminal → ℕ
 open_after n terminal.LeftParen = n + 1
 open_after n terminal.RightParen = n - 1
 open_after n _ = n
 
--- what a token of a source leaves: a name and a label are entered where they are new
+-- the state after a token of a source: a new name or label is entered
 abbrev pub walk_after : List ℕ → Walk → Terminal × Token → Walk
 walk_after source walk token =
     record {
@@ -54,26 +55,26 @@ walk_after source walk token =
       dotted = is terminal.Dot token.0;
     }
 
--- what tokens leave; which one stands behind them is no matter in expressions
+-- the state after tokens; in expressions it does not depend on the token that follows them
 abbrev pub walk_behind : List ℕ → Walk → List (Terminal × Token) → Terminal → Walk
 walk_behind source walk tokens ahead = left_by (λ walk token ahead. walk_after source walk token) walk tokens ahead
 
--- where the next of the tokens stands, or the end of the source
+-- the place of the next token, or the end of the source
 abbrev pub next_place : List ℕ → List (Terminal × Token) → Place
 next_place source [] = place_of source (length source)
 next_place source (token ∷ tokens) = token.1.at
 
--- the error of a token that is unexpected: of one that the language leaves out this is said
+-- the error of an unexpected token: NotInProfile for a word that the language leaves out
 abbrev pub unexpected_error : List (Terminal × Token) → SyntaxError
 unexpected_error [] = Expected
 unexpected_error (token ∷ tokens) = if is terminal.NotInProfile token.0 then NotInProfile else Expected
 
--- the fault of a token that is unexpected
+-- the fault of an unexpected token
 abbrev pub unexpected : List ℕ → List (Terminal × Token) → SyntaxFault
 unexpected source rest = record { error = unexpected_error rest; at = next_place source rest }
 
--- A token that the grammar expects has a fault: it opens a 101st parenthesis, it is a number out of range, or it is a new name or label
--- for which there is no room.
+-- A token that the grammar expects has a fault: it opens a 101st parenthesis, it is a number out of
+-- range, or it is a new name or label for which the table is full.
 pub data IsFaulty (limit : ℕ) (source : List ℕ) (walk : Walk) (token : Terminal × Token) : SyntaxFault → Type 0 where
   deep : token.0 ≡ terminal.LeftParen → 100 ≤ walk.open_count → IsFaulty limit source walk token (record { error = Depth; at = token.1.at })
   out_of_range : token.0 ≡ terminal.Number → ((x : Number) → MeansNumber (token_text source token.1) x → FitsLiteral limit x → ⊥) →
@@ -93,14 +94,15 @@ syntax_rule key = record {
 }
 
 module _ (limit : ℕ) (source : List ℕ) where
-  -- The longest part that begins the tokens, which is one and has no faulty token, and what is behind it.
+  -- The longest part that begins the tokens, complete and without faulty tokens, and what follows
+  -- it.
   pub record IsPart (n : Nonterminal) (walk behind : Walk) (tokens rest : List (Terminal × Token)) (tree : Tree (Terminal × Token)) : Type 0 where
     pub is_tree : IsTree productions (the n) tree
     pub stops : Stops productions (the n) tokens (yield tree) rest
     pub are_sound : AreSound (syntax_rule (limit, source)) walk (yield tree) (kind_of rest)
     pub leaves : behind ≡ walk_behind source walk (yield tree) (kind_of rest)
 
-  -- The tokens begin no part, or a faulty one: this is the first fault. At the front where they cease to begin one it is the next token
-  -- that is unexpected, if the front is no part.
+  -- The tokens begin no part, or a faulty one: this is the first fault. If the longest prefix that
+  -- begins a part is not complete, the token after it is unexpected.
   abbrev pub IsRefused : Nonterminal → Walk → List (Terminal × Token) → SyntaxFault → Type 0
   IsRefused n walk tokens fault = rules.IsRefused syntax_rule (limit, source) (λ front rest. Derives productions (the n) front → ⊥) n walk tokens fault

@@ -1,5 +1,6 @@
--- What the functions of a reader say to each other: which part of the grammar they read at a place in the tokens, and what it means, or
--- why it is refused. A reader by the table goes by one token, as gms_grammar states it.
+-- What the functions of a reader promise each other: which part of the grammar they read at a place
+-- in the tokens, and what it means, or why it is refused. A predictive reader decides by one token,
+-- as gms_grammar states it.
 use Rattle.std.specs.Prelude.{◌≡◌, ℕ, ◌+◌, ◌<◌, ◌≤◌, Bool, true, false, if◌then◌else◌, List, ◌∷◌, length, drop, map, Some, Vec, Box, Result, MatchResult, All}
 use Rattle.std.specs.Borrow.{MutBor}
 use Rattle.std.specs.declared.alloc.Global.{Global}
@@ -42,7 +43,7 @@ use Rattle.gms_expressions.specs.Calls.{GoesOn}
 use Rattle.gms_ast.specs.Numbers.{indices_in_numbers, control_in_numbers}
 use Rattle.gms_expressions.specs.Nodes.{view, plain_views}
 
--- a token as the grammar sees it
+-- a token as the grammar views it
 abbrev pub Seen : Type 0
 Seen = Terminal × Token
 
@@ -54,25 +55,25 @@ Derivation = Tree Seen
 abbrev pub GamsPart : Type 0
 GamsPart = Part Terminal Nonterminal
 
--- a part was read: its tree, and what its tokens leave
+-- a part was read: its tree, and the state after its tokens
 abbrev pub Gives : ℕ → List ℕ → GamsPart → Walk → List Seen → Derivation → Walk → List Seen → Type 0
 Gives limit source part walk tokens tree behind rest = rules.Gives syntax_rule (limit, source) part walk tokens tree behind rest
 
--- the tables go on from the names and labels that tokens had left
+-- the tables extend the names and labels of a state
 abbrev pub Went : Walk → Tables → Type 0
 Went walk tables = GoesOn walk.names tables.names × GoesOn walk.labels tables.labels
 
--- Why a part was not read, and the tables then; want of memory has no cause in it.
+-- Why a part was not read, and the tables then; out of memory has no cause in it.
 pub record Refuses (limit : ℕ) (source : List ℕ) (part : GamsPart) (tables : Tables) (walk : Walk) (tokens : List Seen) (refusal : SyntaxFaultOrMemory) : Type 0 where
   pub why : rules.Refuses syntax_rule (limit, source) part walk tokens refusal
   pub went : Went walk tables
 
--- the names and the labels that the words of a program have in the end
+-- the names and the labels of the whole program
 pub record Sense : Type 0 where
   pub names : List (List ℕ)
   pub labels : List (List ℕ)
 
--- the sense is one of a program of which these are the tables so far
+-- these are the names and labels of a program whose tables so far are `tables`
 pub record IsSense (tables : Tables) (sense : Sense) : Type 0 where
   pub names : (text : List ℕ) (n : ℕ) → place_of tables.names text ≡ Some n → place_of sense.names text ≡ Some n
   pub labels : (text : List ℕ) (n : ℕ) → place_of tables.labels text ≡ Some n → place_of sense.labels text ≡ Some n
@@ -81,11 +82,11 @@ pub record IsSense (tables : Tables) (sense : Sense) : Type 0 where
 abbrev pub seen_from : Reader → ℕ → List Seen
 seen_from reader at = seen reader.source.now (drop at reader.tokens.now)
 
--- so many parentheses are open, and these are the tables
+-- the state in which `unclosed` parentheses are open, and these are the tables
 abbrev pub walk_of : ℕ → Tables → Walk
 walk_of unclosed tables = record { open_count = unclosed; names = tables.names; labels = tables.labels; dotted = false }
 
--- a part was read at a place, and what was read of it is what its derivation means
+-- a part was read at a place, and the result is what its derivation means
 pub record IsGot {T : Type 0} (limit : ℕ) (Means : Sense → Derivation → T → Type 0) (part : GamsPart) (reader : Reader) (at : ℕ) (old new : Tables) (x : T) (behind : ℕ) : Type 0 where
   pub tree : Derivation
   pub gives : Gives limit reader.source.now part (walk_of reader.unclosed old) (seen_from reader at) tree (walk_of reader.unclosed new) (seen_from reader behind)
@@ -116,7 +117,7 @@ pub record IsAt (reader : Reader) (at : ℕ) (token : Token) : Type 0 where
   pub placed : IsPlaced reader.source.now token
   pub within : at < length reader.tokens.now
 
--- the next token passes a test, and this is what stands behind it
+-- the next token passes a test, and `behind` is the place after it
 pub record IsNext (test : Terminal → Bool) (reader : Reader) (at : ℕ) (token : Token) (behind : ℕ) : Type 0 where
   pub kind : Terminal
   pub passes : test kind ≡ true
@@ -126,7 +127,7 @@ pub record IsNext (test : Terminal → Bool) (reader : Reader) (at : ℕ) (token
   pub within : at < length reader.tokens.now
   pub further : at < behind
 
--- the refusal of a token that is unexpected
+-- the refusal of an unexpected token
 abbrev pub unexpected_at : Reader → ℕ → SyntaxFaultOrMemory
 unexpected_at reader at = Fault (unexpected reader.source.now (seen_from reader at))
 
@@ -135,7 +136,7 @@ pub record IsLacking (test : Terminal → Bool) (reader : Reader) (at : ℕ) (re
   pub not_led : leads productions look_ahead (one test) (seen_from reader at) ≡ false
   pub is : refusal ≡ unexpected_at reader at
 
--- a token of this kind stands behind a part
+-- a token of this kind follows a part
 pub record IsBefore {T : Type 0} (kind : Terminal) (reader : Reader) (at : ℕ) (part : T) (same : T) (behind : ℕ) : Type 0 where
   pub token : Token
   pub next : IsNext (is kind) reader at token behind
@@ -147,22 +148,22 @@ pub record IsReady (reader : Reader) : Type 0 where
   pub end : reader.end ≡ place_at reader.source.now (length reader.source.now)
   pub few : reader.unclosed ≤ 100
 
--- the reader inside so many parentheses
+-- the reader inside `unclosed` parentheses
 abbrev pub inside : Reader → ℕ → Reader
 inside reader unclosed = record reader { unclosed = unclosed }
 
--- a parenthesis opens, and inside it this reads on from here
+-- a parenthesis opens, and this reader continues inside it from here
 pub record IsOpened (reader : Reader) (at : ℕ) (inner : Reader) (behind : ℕ) : Type 0 where
   pub token : Token
   pub next : IsNext (is LeftParen) reader at token behind
   pub room : reader.unclosed < 100
   pub inner_is : inner ≡ inside reader (reader.unclosed + 1)
 
--- no parenthesis opens, or it is one too many
+-- no parenthesis opens, or one too many does
 pub record IsUnopened (reader : Reader) (at : ℕ) (refusal : SyntaxFaultOrMemory) : Type 0 where
   pub refuses : (limit : ℕ) (tables : Tables) → Refuses limit reader.source.now (token LeftParen) tables (walk_of reader.unclosed tables) (seen_from reader at) refusal
 
--- perhaps a sign was read
+-- an optional sign was read
 pub record IsSigned (reader : Reader) (at : ℕ) (minus : Bool) (behind : ℕ) : Type 0 where
   pub tree : Derivation
   pub gives : (limit : ℕ) (tables : Tables) →
@@ -170,7 +171,7 @@ pub record IsSigned (reader : Reader) (at : ℕ) (minus : Bool) (behind : ℕ) :
   pub means : (operand : Syntax Number) → with_sign tree operand ≡ (if minus then negated operand else operand)
   pub further : at ≤ behind
 
--- perhaps `not` was read
+-- an optional `not` was read
 pub record IsNegated (reader : Reader) (at : ℕ) (not : Bool) (behind : ℕ) : Type 0 where
   pub tree : Derivation
   pub gives : (limit : ℕ) (tables : Tables) →
@@ -178,7 +179,7 @@ pub record IsNegated (reader : Reader) (at : ℕ) (not : Bool) (behind : ℕ) : 
   pub means : (operand : Syntax Number) → negated_by tree operand ≡ (if not then not_so operand else operand)
   pub further : at ≤ behind
 
--- a suffix, where there is one
+-- a suffix, if any
 abbrev pub IsSuffix : List ℕ → Sense → Derivation → Suffix → Type 0
 IsSuffix source sense tree suffix = suffix ≡ suffix_in source sense.names sense.labels tree
 
@@ -232,17 +233,18 @@ IsIndex {F} value source sense tree index = (rest : Indices F) → indices_in_nu
 abbrev pub IsLag : {F : Type 0} → (F → Number) → List ℕ → Sense → Derivation → LagOp × Place × Box (Expr F) Global → Type 0
 IsLag value source sense tree lag = (name : ℕ) (rest : Indices Number) → lagged name lag.0 lag.1 (view value lag.2.value) rest ≡ lag_of source sense.names sense.labels name tree rest
 
--- the nonterminal of what is read by itself inside parentheses
+-- the nonterminal that is read by itself inside parentheses
 abbrev pub nonterminal_of : Inner → Nonterminal
 nonterminal_of inner_part.Expression = Expression
 nonterminal_of inner_part.Condition = Condition
 
--- what its derivation means
+-- what the derivation of that nonterminal means
 abbrev pub meaning_of : Inner → Meaning (Syntax Number)
 meaning_of inner_part.Expression source names labels tree = expression source names labels tree
 meaning_of inner_part.Condition source names labels tree = condition source names labels tree
 
--- What is asked of the function that reads inside parentheses: it may be called where so many are open, or more, and reads what it says.
+-- What the function that reads inside parentheses must satisfy: it may be called if at least
+-- `least` parentheses are open, and reads what `what` names.
 pub record CanReadFrom {F M : Type 0} (limit : ℕ) (value : F → Number) (least : ℕ) (reader : Reader) (pre : Reader → MutBor Tables → ℕ → Inner → M → Type 0)
     (post : Reader → MutBor Tables → ℕ → Inner → M → Result (Expr F × ℕ) SyntaxFaultOrMemory → MutBor Tables → Type 0) : Type 0 where
   pub ready : IsReady reader
@@ -251,10 +253,12 @@ pub record CanReadFrom {F M : Type 0} (limit : ℕ) (value : F → Number) (leas
       least ≤ unclosed → unclosed ≤ 100 → post (inside reader unclosed) old at what field result new →
       IsExpression limit value (meaning_of what) (the (nonterminal_of what)) (inside reader unclosed) at old.now new.now result
 
--- the same where more parentheses are open than now
+-- the function that reads inside parentheses may be called with more parentheses open than at
+-- present
 abbrev pub CanRead : {F M : Type 0} → ℕ → (F → Number) → Reader → (Reader → MutBor Tables → ℕ → Inner → M → Type 0) → (Reader → MutBor Tables → ℕ → Inner → M → Result (Expr F × ℕ) SyntaxFaultOrMemory → MutBor Tables → Type 0) → Type 0
 CanRead limit value reader pre post = CanReadFrom limit value (reader.unclosed + 1) reader pre post
 
--- the same where as many are open as now
+-- the function that reads inside parentheses may be called with as many parentheses open as at
+-- present
 abbrev pub CanReadHere : {F M : Type 0} → ℕ → (F → Number) → Reader → (Reader → MutBor Tables → ℕ → Inner → M → Type 0) → (Reader → MutBor Tables → ℕ → Inner → M → Result (Expr F × ℕ) SyntaxFaultOrMemory → MutBor Tables → Type 0) → Type 0
 CanReadHere limit value reader pre post = CanReadFrom limit value reader.unclosed reader pre post

@@ -14,31 +14,31 @@ IsValuation value = (text : List ℕ) (x : Number) → MeansNumber text x → va
 abbrev pub front_digits : List ℕ → List ℕ
 front_digits text = take (prefix_len is_ascii_digit text) text
 
--- what stands behind them
+-- what follows them
 abbrev pub behind_digits : List ℕ → List ℕ
 behind_digits text = drop (prefix_len is_ascii_digit text) text
 
--- the digits behind a point, where a text begins with one
+-- the digits after a point, if a text begins with one
 abbrev pub point_digits : List ℕ → List ℕ
 point_digits [] = []
 point_digits (b ∷ text) = if b == 46 then front_digits text else []
 
--- what stands behind the point and its digits, where there is one
+-- what follows the point and its digits, if there is a point
 abbrev pub behind_point : List ℕ → List ℕ
 behind_point [] = []
 behind_point (b ∷ text) = if b == 46 then behind_digits text else b ∷ text
 
--- the whole number of digits, with a sign before them or none
+-- the whole number of digits, with an optional sign before them
 abbrev pub signed_digits : List ℕ → ℤ
 signed_digits [] = pos 0
 signed_digits (b ∷ text) = if b == 45 then neg_ℤ (pos (spelled text)) else (if b == 43 then pos (spelled text) else pos (spelled (b ∷ text)))
 
--- the exponent behind its mark, and 0 where there is none
+-- the exponent after its mark, and 0 without one
 abbrev pub exponent_in : List ℕ → ℤ
 exponent_in [] = pos 0
 exponent_in (mark ∷ text) = signed_digits text
 
--- the number that a text means; it is no matter what a text has that means none
+-- the number that a text means; the value for a text that means none has no meaning
 unfoldable pub number_in : List ℕ → Number
 number_in text =
     number_of (record {

@@ -1,4 +1,4 @@
--- What a token is to the grammar (GAMS User's Guide, "Language Items", reserved words).
+-- The kind of a token for the grammar (GAMS User's Guide, "Language Items", reserved words).
 use Rattle.std.specs.Prelude.{ℕ, nat_lt, if◌then◌else◌, List, [], ◌∷◌, length, Option, Some, None, codes}
 use Rattle.gms_lexemes.specs.declared.kind.Sym.{Sym}
 use Rattle.gms_lexemes.specs.declared.kind.Sym.TheVariants as sym
@@ -34,22 +34,22 @@ other_words =
     (NotInProfile, codes "if" ∷ codes "while" ∷ codes "for" ∷ codes "put" ∷ codes "file" ∷ codes "acronym" ∷ codes "eps" ∷ codes "undf" ∷ []) ∷
     []
 
--- a kind, or a name where there is none
+-- a kind, or a name for none
 abbrev pub or_name : Option Terminal → Terminal
 or_name None = Name
 or_name (Some terminal) = terminal
 
--- a kind, or another
+-- a kind, or another for none
 abbrev pub or_else : Option Terminal → Option Terminal → Option Terminal
 or_else None other = other
 or_else (Some terminal) other = Some terminal
 
--- what a word is; one that is not reserved is a name
+-- the kind of a word; one that is not reserved is a name
 unfoldable pub terminal_of_word : List ℕ → Terminal
 terminal_of_word word =
     or_name (or_else (kind_among word statement_words) (or_else (kind_among word expression_words) (kind_among word other_words)))
 
--- what a symbol is
+-- the kind of a symbol
 abbrev pub terminal_of_symbol : Sym → Terminal
 terminal_of_symbol sym.EqE = Sense
 terminal_of_symbol sym.EqL = Sense
@@ -76,11 +76,11 @@ terminal_of_symbol sym.Semicolon = Semicolon
 terminal_of_symbol sym.Dot = Dot
 terminal_of_symbol sym.Dollar = Dollar
 
--- what a quoted token is: it is no label where it has over 63 bytes between its marks
+-- the kind of a quoted token: it is no label if it has over 63 bytes between its marks
 abbrev pub terminal_of_text : List ℕ → Terminal
 terminal_of_text text = if nat_lt 65 (length text) then LongText else Text
 
--- what a token with these bytes is
+-- the kind of a token with these bytes
 abbrev pub terminal_of : Kind → List ℕ → Terminal
 terminal_of kind.Word text = terminal_of_word text
 terminal_of kind.Label text = Label

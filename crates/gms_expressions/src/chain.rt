@@ -19,7 +19,7 @@ impl<
     F: ExactField,
     N: Fn(Reader<'_>, &mut Tables, usize, Inner, PhantomData<F>) -> Read<Expr<F>> + Copy,
 > Grammar<'s, F, N> {
-    /// The expression that stands here: parts joined by `or` and `xor`.
+    /// Reads an expression: parts joined by `or` and `xor`.
     pub(crate) fn choice(&self, tables: &mut Tables, at: usize) -> Read<Expr<F>>
         requires { CanRead F.limit F.value self.now.reader (N.pre self.now.nested) (N.post self.now.nested) }
         ensures { IsExpression F.limit F.value trees.expression (the Expression) self.now.reader at tables.old tables.new result }
@@ -38,7 +38,7 @@ impl<
         Ok((Expr::Or(parts), next))
     }
 
-    /// The parts joined by `and` that stand here.
+    /// Reads the parts joined by `and`.
     fn conjunction(&self, tables: &mut Tables, at: usize) -> Read<Expr<F>>
         requires { CanRead F.limit F.value self.now.reader (N.pre self.now.nested) (N.post self.now.nested) }
         ensures { IsExpression F.limit F.value trees.conjunction (the Conjunction) self.now.reader at tables.old tables.new result }
@@ -57,7 +57,7 @@ impl<
         Ok((Expr::And(parts), next))
     }
 
-    /// The comparison that stands here, perhaps behind `not`.
+    /// Reads a comparison, perhaps after `not`.
     fn negation(&self, tables: &mut Tables, at: usize) -> Read<Expr<F>>
         requires { CanRead F.limit F.value self.now.reader (N.pre self.now.nested) (N.post self.now.nested) }
         ensures { IsExpression F.limit F.value trees.negation (the Negation) self.now.reader at tables.old tables.new result }
@@ -67,7 +67,7 @@ impl<
         Ok((node::negated(self.reader.alloc, is_negated, operand)?, next))
     }
 
-    /// The sums with relations between them that stand here.
+    /// Reads the sums with relations between them.
     fn comparison(&self, tables: &mut Tables, at: usize) -> Read<Expr<F>>
         requires { CanRead F.limit F.value self.now.reader (N.pre self.now.nested) (N.post self.now.nested) }
         ensures { IsExpression F.limit F.value trees.comparison (the Comparison) self.now.reader at tables.old tables.new result }
@@ -92,7 +92,7 @@ impl<
         Ok((Expr::Relate(parts), next))
     }
 
-    /// The sum that stands here.
+    /// Reads a sum.
     fn sum(&self, tables: &mut Tables, at: usize) -> Read<Expr<F>>
         requires { CanRead F.limit F.value self.now.reader (N.pre self.now.nested) (N.post self.now.nested) }
         ensures { IsExpression F.limit F.value trees.sum_of (the Sum) self.now.reader at tables.old tables.new result }
@@ -113,7 +113,7 @@ impl<
         Ok((Expr::Plus(parts), next))
     }
 
-    /// The product that stands here.
+    /// Reads a product.
     fn product(&self, tables: &mut Tables, at: usize) -> Read<Expr<F>>
         requires { CanRead F.limit F.value self.now.reader (N.pre self.now.nested) (N.post self.now.nested) }
         ensures { IsExpression F.limit F.value trees.product_of (the Product) self.now.reader at tables.old tables.new result }
@@ -138,7 +138,7 @@ impl<
         Ok((Expr::Times(parts), next))
     }
 
-    /// The power that stands here, perhaps behind a sign.
+    /// Reads a power, perhaps after a sign.
     fn signed_power(&self, tables: &mut Tables, at: usize) -> Read<Expr<F>>
         requires { CanRead F.limit F.value self.now.reader (N.pre self.now.nested) (N.post self.now.nested) }
         ensures { IsExpression F.limit F.value trees.signed_power (opt (token Sign) · the PowerTerm) self.now.reader at tables.old tables.new result }
@@ -148,7 +148,7 @@ impl<
         Ok((node::signed(self.reader.alloc, minus, operand)?, next))
     }
 
-    /// The power that stands here.
+    /// Reads a power.
     fn power(&self, tables: &mut Tables, at: usize) -> Read<Expr<F>>
         requires { CanRead F.limit F.value self.now.reader (N.pre self.now.nested) (N.post self.now.nested) }
         ensures { IsExpression F.limit F.value trees.power_of (the PowerTerm) self.now.reader at tables.old tables.new result }
@@ -167,7 +167,7 @@ impl<
         Ok((Expr::Power(parts), next))
     }
 
-    /// The operand under conditions that stands here, perhaps behind a sign.
+    /// Reads an operand under conditions, perhaps after a sign.
     fn signed_guarded(&self, tables: &mut Tables, at: usize) -> Read<Expr<F>>
         requires { CanRead F.limit F.value self.now.reader (N.pre self.now.nested) (N.post self.now.nested) }
         ensures { IsExpression F.limit F.value trees.signed_guarded (opt (token Sign) · the Guarded) self.now.reader at tables.old tables.new result }
@@ -177,7 +177,7 @@ impl<
         Ok((node::signed(self.reader.alloc, minus, operand)?, next))
     }
 
-    /// The operand under conditions that stands here.
+    /// Reads an operand under conditions.
     fn guarded(&self, tables: &mut Tables, at: usize) -> Read<Expr<F>>
         requires { CanRead F.limit F.value self.now.reader (N.pre self.now.nested) (N.post self.now.nested) }
         ensures { IsExpression F.limit F.value trees.guarded_of (the Guarded) self.now.reader at tables.old tables.new result }
@@ -196,7 +196,7 @@ impl<
         Ok((Expr::Guard { operand, guards }, next))
     }
 
-    /// The `$` that stands here, and what stands behind it.
+    /// Reads a `$` and what follows it.
     pub(crate) fn condition(&self, tables: &mut Tables, at: usize) -> Read<Expr<F>>
         requires { CanRead F.limit F.value self.now.reader (N.pre self.now.nested) (N.post self.now.nested) }
         ensures { IsExpression F.limit F.value trees.condition (the Condition) self.now.reader at tables.old tables.new result }
@@ -205,7 +205,7 @@ impl<
         self.guard(tables, behind)
     }
 
-    /// What stands here behind a `$`: an operand, perhaps behind `not`.
+    /// Reads what follows a `$`: an operand, perhaps after `not`.
     fn guard(&self, tables: &mut Tables, at: usize) -> Read<Expr<F>>
         requires { CanRead F.limit F.value self.now.reader (N.pre self.now.nested) (N.post self.now.nested) }
         ensures { IsExpression F.limit F.value trees.negated_primary (opt (token Not) · the Primary) self.now.reader at tables.old tables.new result }

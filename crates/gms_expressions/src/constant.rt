@@ -30,7 +30,7 @@ impl<'s> Reader<'s> {
         }
     }
 
-    /// The number that stands here.
+    /// Reads a number.
     pub(crate) fn number<F: ExactField>(&self, at: usize) -> Read<Expr<F>>
         requires { IsReady self.now }
         ensures { (tables : Tables) → IsExpression F.limit F.value number_in (token Number) self.now at tables tables result }
@@ -40,7 +40,7 @@ impl<'s> Reader<'s> {
         Ok((Expr::Number(value), behind))
     }
 
-    /// The constant that stands here.
+    /// Reads a constant.
     pub(crate) fn constant<F: ExactField>(&self, at: usize) -> Read<Expr<F>>
         requires { IsReady self.now }
         ensures { (tables : Tables) → IsExpression F.limit F.value constant_in (any_of (Number ∷ Infinity ∷ NotAvailable ∷ YesNo ∷ [])) self.now at tables tables result }

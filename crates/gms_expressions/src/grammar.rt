@@ -1,5 +1,5 @@
-//! The reader of what stands inside parentheses, which the readers of all parts take as a parameter: so recursion goes no deeper than
-//! parentheses do.
+//! The reader of what is inside parentheses, which the readers of all parts take as a parameter: so
+//! recursion is no deeper than the nesting of parentheses.
 ghost use Rattle.gms_grammar.specs.Grammar.{the};
 ghost use Rattle.gms_expressions.specs.Readings.{IsReady, IsExpression, nonterminal_of, meaning_of};
 
@@ -17,14 +17,14 @@ pub(crate) enum Inner {
     Condition,
 }
 
-/// What reads the parts of expressions at the same parentheses.
+/// The readers of the parts of expressions at one level of parentheses.
 #[derive(Clone, Copy)]
 pub(crate) struct Grammar<'s, F, N> {
     /// The tokens, and how many parentheses are open.
     pub(crate) reader: Reader<'s>,
-    /// What reads inside further parentheses.
+    /// The reader inside further parentheses.
     pub(crate) nested: N,
-    /// The numbers that the trees hold.
+    /// The numbers of the trees.
     pub(crate) field: PhantomData<F>,
 }
 

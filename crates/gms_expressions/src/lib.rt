@@ -1,4 +1,4 @@
-//! Floor 2, source to tree. Expressions, read from tokens.
+//! Layer 2, source to tree. Expressions, read from tokens.
 #![tactic(auto)]
 
 mod chain;

@@ -12,7 +12,7 @@ use gms_labels::Place;
 use gms_lex::unquoted;
 
 impl<'s> Reader<'s> {
-    /// The number of the name that stands here, and its place.
+    /// Reads a name: its number and its place.
     pub(crate) fn name(&self, tables: &mut Tables, at: usize) -> Read<(u32, Place)>
         requires { IsReady self.now }
         ensures { (limit : ℕ) → IsAnswer limit (IsName self.now.source.now) name self.now at tables.old tables.new result }
@@ -27,7 +27,7 @@ impl<'s> Reader<'s> {
         }
     }
 
-    /// The number of the label in quotation marks that stands here.
+    /// Reads a label in quotation marks: its number.
     pub(crate) fn label(&self, tables: &mut Tables, at: usize) -> Read<u32>
         requires { IsReady self.now }
         ensures { (limit : ℕ) → IsAnswer limit (IsLabel self.now.source.now) (token Text) self.now at tables.old tables.new result }
@@ -42,7 +42,7 @@ impl<'s> Reader<'s> {
         }
     }
 
-    /// The names, with commas between them, that stand here.
+    /// Reads the names, with commas between them.
     fn names(&self, tables: &mut Tables, at: usize) -> Read<Vec<u32>>
         requires { IsReady self.now }
         ensures { (limit : ℕ) → IsAnswer limit (AreNames self.now.source.now) (the NameList) self.now at tables.old tables.new result }
@@ -58,7 +58,7 @@ impl<'s> Reader<'s> {
         Ok((names, next))
     }
 
-    /// The sets of a control that stand here: one, or some in parentheses.
+    /// Reads the sets of a control: one, or some in parentheses.
     pub(crate) fn sets(&self, tables: &mut Tables, at: usize) -> Read<Vec<u32>>
         requires { IsReady self.now }
         ensures { (limit : ℕ) → IsAnswer limit (AreSets self.now.source.now) (name ∣ bracketed (the NameList)) self.now at tables.old tables.new result }

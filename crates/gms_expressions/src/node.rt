@@ -12,7 +12,7 @@ use gms_labels::Place;
 use gq_field::ExactField;
 use std::alloc::Global;
 
-/// A node, or want of memory.
+/// A node, or out of memory.
 type Made<F> = Result<Expr<F>, SyntaxFaultOrMemory>;
 
 /// A negation, or the operand itself.
@@ -39,7 +39,7 @@ pub(crate) fn negated<F: ExactField>(alloc: Global, not: bool, operand: Expr<F>)
     Ok(operand)
 }
 
-/// A fold, whose body goes into memory of its own.
+/// A fold, whose body is boxed.
 pub(crate) fn fold<F: ExactField>(
     alloc: Global,
     at: Place,

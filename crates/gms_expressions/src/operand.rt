@@ -19,7 +19,7 @@ impl<
     F: ExactField,
     N: Fn(Reader<'_>, &mut Tables, usize, Inner, PhantomData<F>) -> Read<Expr<F>> + Copy,
 > Grammar<'s, F, N> {
-    /// The operand that stands here.
+    /// Reads an operand.
     pub(crate) fn primary(&self, tables: &mut Tables, at: usize) -> Read<Expr<F>>
         requires { CanRead F.limit F.value self.now.reader (N.pre self.now.nested) (N.post self.now.nested) }
         ensures { IsExpression F.limit F.value trees.primary (the Primary) self.now.reader at tables.old tables.new result }
@@ -37,7 +37,7 @@ impl<
         }
     }
 
-    /// The reference that stands here.
+    /// Reads a reference.
     fn reference(&self, tables: &mut Tables, at: usize) -> Read<Expr<F>>
         requires { CanRead F.limit F.value self.now.reader (N.pre self.now.nested) (N.post self.now.nested) }
         ensures { IsExpression F.limit F.value trees.target (the TargetPart) self.now.reader at tables.old tables.new result }
@@ -52,7 +52,7 @@ impl<
         Ok((reference, next))
     }
 
-    /// The expression in parentheses that stands here.
+    /// Reads an expression in parentheses.
     pub(crate) fn bracketed(&self, tables: &mut Tables, at: usize) -> Read<Expr<F>>
         requires { CanRead F.limit F.value self.now.reader (N.pre self.now.nested) (N.post self.now.nested) }
         ensures { IsExpression F.limit F.value trees.bracketed_expression (bracketed (the Expression)) self.now.reader at tables.old tables.new result }
@@ -68,7 +68,7 @@ impl<
         self.reader.before(Terminal::RightParen, expression, next)
     }
 
-    /// The call of a function that stands here.
+    /// Reads a call of a function.
     fn call(&self, tables: &mut Tables, at: usize) -> Read<Expr<F>>
         requires { CanRead F.limit F.value self.now.reader (N.pre self.now.nested) (N.post self.now.nested) }
         ensures { IsExpression F.limit F.value trees.function_call (token Function · bracketed (the ExpressionList)) self.now.reader at tables.old tables.new result }
@@ -80,7 +80,7 @@ impl<
         Ok((Expr::Call { at, function, args }, next))
     }
 
-    /// The expressions in parentheses, with commas between them, that stand here.
+    /// Reads the expressions in parentheses, with commas between them.
     fn arguments(&self, tables: &mut Tables, at: usize) -> Read<Vec<Expr<F>>>
         requires { CanRead F.limit F.value self.now.reader (N.pre self.now.nested) (N.post self.now.nested) }
         ensures { IsAnswer F.limit (AreArguments F.value self.now.reader.source.now) (bracketed (the ExpressionList)) self.now.reader at tables.old tables.new result }
@@ -109,7 +109,7 @@ impl<
         self.reader.before(Terminal::RightParen, args, next)
     }
 
-    /// The `ord` or `card` of a set that stands here.
+    /// Reads the `ord` or `card` of a set.
     fn set_call(&self, tables: &mut Tables, at: usize) -> Read<Expr<F>>
         requires { CanRead F.limit F.value self.now.reader (N.pre self.now.nested) (N.post self.now.nested) }
         ensures { IsExpression F.limit F.value trees.set_call (token OrdCard · bracketed name) self.now.reader at tables.old tables.new result }
@@ -125,7 +125,7 @@ impl<
         Ok((Expr::Card { at, set }, behind))
     }
 
-    /// The fold that stands here.
+    /// Reads a fold.
     fn fold(&self, tables: &mut Tables, at: usize) -> Read<Expr<F>>
         requires { CanRead F.limit F.value self.now.reader (N.pre self.now.nested) (N.post self.now.nested) }
         ensures { IsExpression F.limit F.value trees.fold_of (the Fold) self.now.reader at tables.old tables.new result }
@@ -148,7 +148,8 @@ impl<
         ))
     }
 
-    /// The sets of a fold or a loop, and the condition, that stand here. The condition is read by what reads inside further parentheses.
+    /// Reads the sets and the condition of a fold or a loop. The reader for further parentheses
+    /// reads the condition.
     pub(crate) fn control(&self, tables: &mut Tables, at: usize) -> Read<Control<F>>
         requires { CanReadHere F.limit F.value self.now.reader (N.pre self.now.nested) (N.post self.now.nested) }
         ensures { IsAnswer F.limit (IsControl F.value self.now.reader.source.now) (the ControlPart) self.now.reader at tables.old tables.new result }

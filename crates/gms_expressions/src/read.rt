@@ -19,7 +19,7 @@ use gq_field::ExactField;
 use std::alloc::Global;
 use std::marker::PhantomData;
 
-/// What reads the tokens of a source, before which so many parentheses are open.
+/// A reader of the tokens of a source, before which `unclosed` parentheses are open.
 fn reader<'s>(alloc: Global, source: &'s [u8], tokens: &'s [Token], unclosed: u32) -> Reader<'s>
     requires tokens { IsTokens source.now tokens.now }
     requires few { unclosed ≤ 100 }
@@ -63,13 +63,15 @@ impl Tables {
     }
 }
 
-/// The longest expression that begins at a token, and the place of the token behind it. The tokens are those of the source, `from` is the place of
-/// one of them, and `unclosed` parentheses are open before it, at most 100. Whatever is answered, the names and the labels go on from what
-/// they were: new ones stand behind the others.
+/// The longest expression that begins at a token, and the place of the token after it. The tokens
+/// are those of the source, `from` is the place of one of them, and `unclosed` parentheses are open
+/// before it, at most 100. Whatever the answer, names and labels are only extended: new ones follow
+/// the others.
 ///
-/// The fault is the first that the tokens have in their order: a token that goes on in no such part (`Expected`, or `NotInProfile` for a word that
-/// the language leaves out), a parenthesis that is opened where 100 are open (`Depth`), a number out of range (`Number`), a name or a label for
-/// which there is no room (`TooManyLabels`). `Memory` comes where memory was wanting.
+/// The fault is the first that the tokens have in their order: a token that cannot continue such a
+/// part (`Expected`, or `NotInProfile` for a word that the language leaves out), a parenthesis that
+/// is opened while 100 are open (`Depth`), a number out of range (`Number`), a new name or label
+/// for which the table is full (`TooManyLabels`). `Memory` means out of memory.
 pub fn expression<F: ExactField>(
     alloc: Global,
     source: &[u8],
@@ -102,8 +104,8 @@ pub fn expression<F: ExactField>(
     read
 }
 
-/// The longest operand that begins at a token, and the place of the token behind it. The tokens, `from`, `unclosed`, the fault and what names
-/// and labels have after it are as in [`expression`].
+/// The longest operand that begins at a token, and the place of the token after it. The tokens,
+/// `from`, `unclosed`, the fault and the final names and labels are as in [`expression`].
 pub fn primary<F: ExactField>(
     alloc: Global,
     source: &[u8],
@@ -135,8 +137,8 @@ pub fn primary<F: ExactField>(
     read
 }
 
-/// The longest control that begins at a token, and the place of the token behind it. The tokens, `from`, `unclosed`, the fault and what names
-/// and labels have after it are as in [`expression`].
+/// The longest control that begins at a token, and the place of the token after it. The tokens,
+/// `from`, `unclosed`, the fault and the final names and labels are as in [`expression`].
 pub fn control<F: ExactField>(
     alloc: Global,
     source: &[u8],
@@ -168,8 +170,8 @@ pub fn control<F: ExactField>(
     read
 }
 
-/// The longest target that begins at a token, and the place of the token behind it. The tokens, `from`, `unclosed`, the fault and what names
-/// and labels have after it are as in [`expression`].
+/// The longest target that begins at a token, and the place of the token after it. The tokens,
+/// `from`, `unclosed`, the fault and the final names and labels are as in [`expression`].
 pub fn target<F: ExactField>(
     alloc: Global,
     source: &[u8],

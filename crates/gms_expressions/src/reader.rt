@@ -1,4 +1,5 @@
-//! What reading tokens needs: the source, its tokens, and how many parentheses are open; and the steps over single tokens.
+//! What reading tokens needs: the source, its tokens, and how many parentheses are open; and the
+//! steps over single tokens.
 ghost use Rattle.std.specs.Prelude.{◌≡◌, ℕ, false, [], MatchResult, MatchOption};
 ghost use Rattle.gms_grammar.specs.Grammar.{the, opt};
 ghost use Rattle.gms_grammar.specs.GamsGrammar.{Attribute, productions, token, any_of};
@@ -22,7 +23,7 @@ use std::alloc::Global;
 /// How many parentheses may be open.
 pub const MOST_OPEN: u32 = 100;
 
-/// A part, and the place of the token behind it.
+/// A part, and the place of the token after it.
 pub(crate) type Read<T> = Result<(T, usize), SyntaxFaultOrMemory>;
 
 /// The names and the labels of a program.
@@ -32,7 +33,7 @@ pub(crate) struct Tables {
     pub(crate) labels: Labels,
 }
 
-/// The tokens of a source, to be read at places in them.
+/// The tokens of a source, to be read at places.
 #[derive(Clone, Copy)]
 pub(crate) struct Reader<'s> {
     pub(crate) alloc: Global,
@@ -40,7 +41,7 @@ pub(crate) struct Reader<'s> {
     pub(crate) source: &'s [u8],
     /// The tokens.
     pub(crate) tokens: &'s [Token],
-    /// Where the source ends.
+    /// The end of the source.
     pub(crate) end: Place,
     /// How many parentheses are open.
     pub(crate) unclosed: u32,
@@ -55,7 +56,7 @@ impl<'s> Reader<'s> {
         bytes_of(self.source, &token)
     }
 
-    /// The next token, where there is one.
+    /// The next token, if any.
     fn token(&self, at: usize) -> Option<Token>
         requires { IsReady self.now }
         ensures { MatchOption result (seen_from self.now at ≡ []) (λ t. IsAt self.now at t) }
@@ -63,7 +64,7 @@ impl<'s> Reader<'s> {
         self.tokens.get(at).copied()
     }
 
-    /// What the next token is, or the end.
+    /// The kind of the next token, or the end.
     pub(crate) fn next(&self, at: usize) -> Terminal
         requires { IsReady self.now }
         ensures { result ≡ kind_of (seen_from self.now at) }
@@ -74,7 +75,7 @@ impl<'s> Reader<'s> {
         }
     }
 
-    /// Where the next token stands, or the end.
+    /// The place of the next token, or the end.
     pub(crate) fn place(&self, at: usize) -> Place
         requires { IsReady self.now }
         ensures { result ≡ next_place self.now.source.now (seen_from self.now at) }
@@ -97,7 +98,7 @@ impl<'s> Reader<'s> {
         SyntaxFaultOrMemory::at(error, self.place(at))
     }
 
-    /// The next token, where it is of this kind, and the place behind it.
+    /// The next token, if it is of this kind, and the place after it.
     pub(crate) fn take_if(&self, kind: Terminal, at: usize) -> Option<(Token, usize)>
         requires { IsReady self.now }
         ensures { MatchOption result
@@ -111,7 +112,7 @@ impl<'s> Reader<'s> {
         None
     }
 
-    /// The next token, where it is of one of these kinds, and the place behind it.
+    /// The next token, if it is of one of these kinds, and the place after it.
     pub(crate) fn take_any_if(&self, kinds: &[Terminal], at: usize) -> Option<(Token, usize)>
         requires { IsReady self.now }
         ensures { MatchOption result
@@ -125,7 +126,7 @@ impl<'s> Reader<'s> {
         None
     }
 
-    /// The next token, which is to be of this kind, and the place behind it.
+    /// The next token, which must be of this kind, and the place after it.
     pub(crate) fn take(
         &self,
         kind: Terminal,
@@ -142,7 +143,7 @@ impl<'s> Reader<'s> {
         }
     }
 
-    /// The next token, which is to be of one of these kinds, and the place behind it.
+    /// The next token, which must be of one of these kinds, and the place after it.
     pub(crate) fn take_any(
         &self,
         kinds: &[Terminal],
@@ -177,7 +178,7 @@ impl<'s> Reader<'s> {
         self.take_any_if(kinds, at).is_some()
     }
 
-    /// What reads inside the parenthesis that is to open here, and the place behind it.
+    /// The reader inside the parenthesis that must open here, and the place after it.
     pub(crate) fn enter(&self, at: usize) -> Result<(Reader<'s>, usize), SyntaxFaultOrMemory>
         requires { IsReady self.now }
         ensures { MatchResult result
@@ -195,7 +196,7 @@ impl<'s> Reader<'s> {
         Ok((inner, behind))
     }
 
-    /// A part behind which this token stands, and the place behind the token.
+    /// A part that this token follows, and the place after the token.
     pub(crate) fn before<T: Drop>(&self, kind: Terminal, part: T, at: usize) -> Read<T>
         requires { IsReady self.now }
         ensures { MatchResult result (λ r. IsBefore kind self.now at part r.0 r.1) (λ e. IsLacking (is kind) self.now at e) }
@@ -204,7 +205,7 @@ impl<'s> Reader<'s> {
         Ok((part, behind))
     }
 
-    /// Whether `-` stands here, and the place behind a sign, where there is one.
+    /// Whether the next token is `-`, and the place after a sign, if any.
     pub(crate) fn sign(&self, at: usize) -> (bool, usize)
         requires { IsReady self.now }
         ensures { IsSigned self.now at result.0 result.1 }
@@ -215,7 +216,7 @@ impl<'s> Reader<'s> {
         }
     }
 
-    /// Whether `not` stands here, and the place behind it.
+    /// Whether the next token is `not`, and the place after it.
     pub(crate) fn not(&self, at: usize) -> (bool, usize)
         requires { IsReady self.now }
         ensures { IsNegated self.now at result.0 result.1 }
@@ -226,7 +227,7 @@ impl<'s> Reader<'s> {
         }
     }
 
-    /// The suffix that stands here, where there is one.
+    /// Reads a suffix, if any.
     pub(crate) fn suffix(&self, at: usize) -> Read<Suffix>
         requires { IsReady self.now }
         ensures { (limit : ℕ) (tables : Tables) → IsAnswer limit (IsSuffix self.now.source.now) (opt (the Attribute)) self.now at tables tables result }

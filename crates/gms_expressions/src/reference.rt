@@ -18,7 +18,7 @@ impl<
     F: ExactField,
     N: Fn(Reader<'_>, &mut Tables, usize, Inner, PhantomData<F>) -> Read<Expr<F>> + Copy,
 > Grammar<'s, F, N> {
-    /// What a reference that stands here refers to.
+    /// Reads what a reference refers to.
     pub(crate) fn target(&self, tables: &mut Tables, at: usize) -> Read<Target<F>>
         requires { CanRead F.limit F.value self.now.reader (N.pre self.now.nested) (N.post self.now.nested) }
         ensures { IsAnswer F.limit (IsTarget F.value self.now.reader.source.now) (the TargetPart) self.now.reader at tables.old tables.new result }
@@ -35,7 +35,7 @@ impl<
         Ok((target, next))
     }
 
-    /// The indices in parentheses that stand here, where there are any.
+    /// Reads the indices in parentheses, if any.
     fn indices(&self, tables: &mut Tables, at: usize) -> Read<Vec<Index<F>>>
         requires { CanRead F.limit F.value self.now.reader (N.pre self.now.nested) (N.post self.now.nested) }
         ensures { IsAnswer F.limit (AreIndices F.value self.now.reader.source.now) (opt (bracketed (the IndexList))) self.now.reader at tables.old tables.new result }
@@ -60,7 +60,7 @@ impl<
         self.reader.before(Terminal::RightParen, indices, next)
     }
 
-    /// The index that stands here.
+    /// Reads an index.
     fn index(&self, tables: &mut Tables, at: usize) -> Read<Index<F>>
         requires { CanRead F.limit F.value self.now.reader (N.pre self.now.nested) (N.post self.now.nested) }
         ensures { IsAnswer F.limit (IsIndex F.value self.now.reader.source.now) (the IndexPart) self.now.reader at tables.old tables.new result }
@@ -86,7 +86,7 @@ impl<
         ))
     }
 
-    /// The lag that stands here: what it does, the place of its amount, and the amount.
+    /// Reads a lag: what it does, the place of its amount, and the amount.
     fn lag(&self, tables: &mut Tables, at: usize) -> Read<(LagOp, Place, Box<Expr<F>>)>
         requires { CanRead F.limit F.value self.now.reader (N.pre self.now.nested) (N.post self.now.nested) }
         ensures { IsAnswer F.limit (IsLag F.value self.now.reader.source.now) (the Lag) self.now.reader at tables.old tables.new result }
@@ -102,7 +102,7 @@ impl<
         ))
     }
 
-    /// The amount of a lag that stands here.
+    /// Reads the amount of a lag.
     fn lag_amount(&self, tables: &mut Tables, at: usize) -> Read<Expr<F>>
         requires { CanRead F.limit F.value self.now.reader (N.pre self.now.nested) (N.post self.now.nested) }
         ensures { IsExpression F.limit F.value trees.lag_amount (the LagAmount) self.now.reader at tables.old tables.new result }
@@ -115,7 +115,7 @@ impl<
         }
     }
 
-    /// The name of a scalar that stands here.
+    /// Reads the name of a scalar.
     fn scalar(&self, tables: &mut Tables, at: usize) -> Read<Expr<F>>
         requires { CanRead F.limit F.value self.now.reader (N.pre self.now.nested) (N.post self.now.nested) }
         ensures { IsExpression F.limit F.value trees.scalar name self.now.reader at tables.old tables.new result }

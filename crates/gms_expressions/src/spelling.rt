@@ -6,9 +6,11 @@ ghost use Rattle.gms_expressions.specs.ExpressionTrees.{is_word, suffix_of, fold
 use gms_ast::{FoldOp, Function, LagOp, RelOp, Suffix};
 use gms_lexemes::{Kind, Sym};
 
-/// The suffix that a word behind a dot is, in capital or small letters (GAMS User's Guide, "Variables").
+/// The suffix that a word after a dot is, in capital or small letters (GAMS User's Guide,
+/// "Variables").
 ///
-/// A word that is none of `lo`, `up`, `l`, `m`, `fx` and `modelstat` is answered as `solvestat`, the one suffix that is left.
+/// A word that is none of `lo`, `up`, `l`, `m`, `fx` and `modelstat` is answered as `solvestat`,
+/// the one remaining suffix.
 #[tactic(auto, unfolding(crate::specs::ExpressionTrees::suffix_of))]
 pub fn suffix_of(word: &[u8]) -> Suffix
     ensures { result ≡ suffix_of word.now }
@@ -30,7 +32,7 @@ pub fn suffix_of(word: &[u8]) -> Suffix
     }
 }
 
-/// The way of joining that a word is.
+/// The fold that a word names.
 #[tactic(auto, unfolding(crate::specs::ExpressionTrees::fold_op_of))]
 pub(crate) fn fold_op_of(word: &[u8]) -> FoldOp
     ensures { result ≡ fold_op_of word.now }
@@ -46,7 +48,7 @@ pub(crate) fn fold_op_of(word: &[u8]) -> FoldOp
     }
 }
 
-/// The function that a word is.
+/// The function that a word names.
 #[tactic(auto, unfolding(crate::specs::ExpressionTrees::function_of))]
 pub(crate) fn function_of(word: &[u8]) -> Function
     ensures { result ≡ function_of word.now }
@@ -78,7 +80,7 @@ pub(crate) fn function_of(word: &[u8]) -> Function
     }
 }
 
-/// The relation that a word is.
+/// The relation that a word names.
 #[tactic(auto, unfolding(crate::specs::ExpressionTrees::relation_of_word))]
 fn relation_of_word(word: &[u8]) -> RelOp
     ensures { result ≡ relation_of_word word.now }
@@ -98,7 +100,7 @@ fn relation_of_word(word: &[u8]) -> RelOp
     }
 }
 
-/// The relation that a token is.
+/// The relation that a token denotes.
 pub(crate) fn relation_of(kind: Kind, text: &[u8]) -> RelOp
     ensures { result ≡ relation_of kind text.now }
 {
@@ -113,7 +115,7 @@ pub(crate) fn relation_of(kind: Kind, text: &[u8]) -> RelOp
     }
 }
 
-/// How an index goes on by a token.
+/// The lag operator of a token.
 pub(crate) fn lag_op_of(kind: Kind) -> LagOp
     ensures { result ≡ lag_op_of kind }
 {

@@ -7,14 +7,14 @@ pub both_ways : (a : Bool) → a ≡ true → a ≡ false → ⊥
 both_ways a h k = cc
 
 module _ {T : Type 0} where
-  -- what is behind the same front is the same
+  -- what follows the same prefix is the same
   pub behind_same : (u v w : List T) → u ++ v ≡ u ++ w → v ≡ w
   behind_same [] v w e = e
   behind_same (x ∷ u) v w e =
       let h : u ++ v ≡ u ++ w = cc in
       behind_same u v w h
 
-  -- no list is itself with more behind it
+  -- no list is itself followed by more
   pub not_longer : (u : List T) (x : T) (w : List T) → u ≡ u ++ (x ∷ w) → ⊥
   not_longer [] x w e = cc
   not_longer (y ∷ u) x w e =
@@ -30,6 +30,6 @@ module _ {T : Type 0} where
   second_empty [] v e = e
   second_empty (x ∷ u) v e = cc
 
-  -- a list that is a front and what is between, which is a middle and a rest
+  -- a list that is a prefix and a middle and a rest
   pub regrouped : (tokens u between v rest : List T) → tokens ≡ u ++ between → between ≡ v ++ rest → tokens ≡ (u ++ v) ++ rest
   regrouped tokens u between v rest e h = e ∙ ap (λ w. u ++ w) h ∙ sym (append_assoc u v rest)

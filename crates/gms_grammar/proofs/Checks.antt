@@ -1,4 +1,5 @@
--- The check that one token decides a grammar, computed over lists of the kinds that come first and that follow.
+-- The check that one token decides a grammar, computed over lists of the kinds that come first and
+-- that follow.
 use Rattle.std.proofs.Common.{◌≡◌, ℕ, zero, suc, ◌<◌, if◌then◌else◌, Bool, true, false, not, ◌||◌, ◌&&◌, List, [], ◌∷◌, ◌++◌, length, get_or, refl, sym, ap, ◌∙◌, inl, inr, arith}
 use Rattle.std.specs.List.{list_any}
 use Rattle.std.proofs.lemmas.Bool.{cases_Bool, false≢true, not-true, or_cases}
@@ -84,7 +85,8 @@ module _ {C : Type 0} where
       go true later h = and_both _ _ (left_and _ _ h) (later (right_and (other x) _ h))
       go false later h = later h
 
--- Below, `firsts` and `follows` are lists of the kinds that are claimed to come first in a nonterminal, and to follow it.
+-- Below, `firsts` and `follows` are lists of the kinds that are claimed to come first in a
+-- nonterminal, and to follow it.
 module _ {C N : Type 0} (kinds : List C) (production : N → Part C N) (ahead : LookAhead C N) (firsts follows : N → List C) where
   -- the kinds of tokens that may come first in a part
   abbrev pub firsts_of : Part C N → List C

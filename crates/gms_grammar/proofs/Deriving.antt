@@ -1,4 +1,5 @@
--- What a part derives, told by its parts, without a tree: the form in which two parts are best compared.
+-- What a part derives, determined by its parts, without a tree: the form in which two parts are
+-- best compared.
 use Rattle.std.proofs.Common.{◌≡◌, ◌↔◌, Bool, true, List, [], ◌∷◌, ◌++◌, refl, ap₂, subst}
 use Rattle.gms_grammar.specs.Grammar.{Part, one, the, ◌·◌, ◌∣◌, opt, many, Tree, leaf, pair, left, right, none, some, more, node, yield, IsTree, Derives}
 

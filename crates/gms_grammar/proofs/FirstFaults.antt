@@ -1,4 +1,5 @@
--- Tokens have one first fault, by each rule by which a token has one; and what a reader by the table refuses has it.
+-- Tokens have at most one first fault, by each rule of faults; and what the predictive reader
+-- refuses has it.
 use Rattle.std.proofs.Common.{◌≡◌, ◌⊎◌, List, [], ◌∷◌, ◌++◌, sym, ap, ◌∙◌, subst, inl, inr, append_assoc}
 use Rattle.gms_grammar.specs.declared.terminal.Terminal.{Terminal}
 use Rattle.gms_grammar.specs.declared.terminal.Terminal.TheVariants.{End}

@@ -1,4 +1,5 @@
--- What a reader finds is all that there is: no other tree stands over tokens that agree up to the one behind what was taken.
+-- What a reader finds is unique: no other tree derives tokens that agree up to the one after those
+-- read.
 use Rattle.std.proofs.Common.{◌≡◌, Bool, true, false, ◌||◌, List, [], ◌∷◌, ◌++◌, refl, sym, ap, ap₂, subst, ◌∙◌, append_assoc}
 use Rattle.gms_grammar.specs.Grammar.{Part, one, the, ◌·◌, ◌∣◌, opt, many, Tree, leaf, pair, left, right, none, some, more, node, yield, IsTree}
 use Rattle.gms_grammar.specs.LookAhead.{LookAhead, may_be_empty, may_begin, may_go_on, Apart, IsDecided, DecidesEach}
@@ -8,7 +9,8 @@ use Rattle.gms_grammar.proofs.Starts.{Follows, Goes, goes_behind, starts, follow
 use Rattle.gms_grammar.proofs.Sound.{sound, took}
 
 module _ {C N D : Type 0} (production : N → Part C N) (ahead : LookAhead C N) (ok : DecidesEach ahead production) where
-  -- a tree of the part over tokens that begin as those that were read, up to the one behind, and that goes before tokens that may follow
+  -- another tree of the part, over tokens that agree with those read up to the next one, and that
+  -- tokens follow which may follow the part
   pub record Other (part : Part C N) (after : C → Bool) (front rest : List (C × D)) (tree : Tree (C × D)) (behind further : List (C × D)) : Type 0 where
     pub is_tree : IsTree production part tree
     pub follows : Follows after behind
@@ -43,7 +45,7 @@ module _ {C N D : Type 0} (production : N → Part C N) (ahead : LookAhead C N) 
       h other behind further (record { is_tree = o.is_tree; follows = follows_more production ahead ok _ _ _ d o.follows; goes = o.goes; agrees = o.agrees })
   none_the n after front rest d h _ behind further o = o.is_tree
 
-  -- the first of two parts, where the tokens of the second go on
+  -- the first of two parts, followed by the tokens of the second
   first_other : (p : Part C N) (on : C → Bool) (a b c : Tree (C × D)) (between v rest behind further : List (C × D)) → between ≡ v ++ rest → IsTree production p b → Follows on (yield c ++ behind) → Goes rest further → (yield b ++ yield c) ++ behind ≡ (yield a ++ v) ++ further → Other p on (yield a) between b (yield c ++ behind) (v ++ further)
   first_other p on a b c between v rest behind further e is_b follows goes agrees =
       record {
@@ -58,7 +60,7 @@ module _ {C N D : Type 0} (production : N → Part C N) (ahead : LookAhead C N) 
   first_alone p on b c front rest behind further is_b follows goes agrees =
       record { is_tree = is_b; follows = follows; goes = goes; agrees = sym (append_assoc (yield b) (yield c) behind) ∙ agrees }
 
-  -- a tree of the second part stands before tokens that may follow the first
+  -- a tree of the second part precedes tokens that may follow the first
   on_second : (q : Part C N) (after : C → Bool) (c : Tree (C × D)) (behind : List (C × D)) → IsTree production q c → Follows after behind → Follows (may_go_on ahead q after) (yield c ++ behind)
   on_second q after c behind is_c follows = follows_part production ahead ok q after (yield c) behind (starts production ahead ok q c is_c) follows
 
@@ -130,7 +132,7 @@ module _ {C N D : Type 0} (production : N → Part C N) (ahead : LookAhead C N) 
   only_left_out p after tokens h d (some other) behind further o = absurd (absent p tokens other behind further d.0 h o.is_tree o.goes o.agrees)
   only_left_out p after tokens h d _ behind further o = absurd o.is_tree
 
-  -- nothing stands where a part was begun
+  -- a part that was begun is not absent
   not_none : (p : Part C N) (after : C → Bool) (tokens front rest behind further : List (C × D)) → tokens ≡ front ++ rest → leads production ahead p tokens ≡ true → (front ≡ [] → leads production ahead p tokens ≡ false) → Apart ahead (may_begin ahead p) after → Follows after behind → behind ≡ front ++ further → ⊥
   not_none p after tokens front rest behind further e h t apart follows agrees =
       unfollowed production ahead ok p after front behind further (begun production ahead ok p tokens front rest e h t) follows apart agrees

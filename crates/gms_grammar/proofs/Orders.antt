@@ -1,8 +1,9 @@
--- Two elements of a list, each with what stands before it and behind it, stand at one place, or one of them before the other.
+-- Two elements of a list, each with what precedes and follows it, are at one place, or one of them
+-- comes before the other.
 use Rattle.std.proofs.Common.{◌≡◌, List, [], ◌∷◌, ◌++◌, refl, sym, ap₂}
 
 module _ {T : Type 0} where
-  -- how `x` stands behind `u` and before `v`, where `y` stands behind `a` and before `b` in the same list
+  -- the order of `x`, between `u` and `v`, and `y`, between `a` and `b`, in the same list
   pub data Order (u : List T) (x : T) (v a : List T) (y : T) (b : List T) : Type 0 where
     at_once : u ≡ a → x ≡ y → v ≡ b → Order u x v a y b
     earlier : (w : List T) → a ≡ u ++ (x ∷ w) → v ≡ w ++ (y ∷ b) → Order u x v a y b

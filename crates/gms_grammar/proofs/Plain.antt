@@ -24,7 +24,7 @@ module _ {D : Type 0} where
   abbrev pub Gams : Part Terminal Nonterminal → List (Terminal × D) → Type 0
   Gams = Has productions
 
-  -- one more part in front of others, with a joint between them
+  -- one more part before others, with a separator between them
   pub one_more : {p joint last : Part Terminal Nonterminal} {u v w : List (Terminal × D)} → Gams p u → Gams joint v → Gams (p · many (joint · p) · last) w → Gams (p · many (joint · p) · last) (u ++ (v ++ w))
   one_more a j (both b (both others end)) = same productions (both a (both (again (both j b) others) end)) (simp append_assoc)
 

@@ -1,4 +1,5 @@
--- The production of a statement that begins with a name derives assignments and definitions in their plain form.
+-- The production of a statement that begins with a name derives assignments and definitions in
+-- their plain form.
 use Rattle.std.proofs.Common.{◌↔◌, List, ◌++◌, append_assoc}
 use Rattle.gms_grammar.specs.declared.terminal.Terminal.{Terminal}
 use Rattle.gms_grammar.specs.declared.terminal.Terminal.TheVariants.{Comma, DotDot, LeftParen, RightParen, Text}
@@ -13,11 +14,11 @@ use Rattle.gms_grammar.proofs.Plain.{Gams, one_more}
 abbrev plain_index : Part Terminal Nonterminal
 plain_index = token Text ∣ name
 
--- what stands behind the indices of a definition
+-- what follows the indices of a definition
 abbrev plain_rest : Part Terminal Nonterminal
 plain_rest = opt (the Condition) · token DotDot · the Sides
 
--- indices up to the parenthesis that closes, and what stands behind it
+-- indices up to the closing parenthesis, and what follows it
 abbrev indexed : Part Terminal Nonterminal → Part Terminal Nonterminal → Part Terminal Nonterminal
 indexed index rest = index · many (token Comma · index) · token RightParen · rest
 
@@ -30,7 +31,7 @@ module _ {D : Type 0} where
   abbrev Plain : List (Terminal × D) → Type 0
   Plain tokens = Gams (the Index) tokens × Gams plain_index tokens
 
-  -- one more index in front
+  -- one more index at the start
   front_of : {u v w : List (Terminal × D)} → Plain u → Gams (token Comma) v → Gams either w → Gams either (u ++ (v ++ w))
   front_of index comma (first others) = first (one_more index.0 comma others)
   front_of index comma (second others) = second (one_more index.1 comma others)
@@ -39,7 +40,7 @@ module _ {D : Type 0} where
   plain_name word = (same productions (whole (second (both word absent))) (simp end_nil), second word)
 
   mutual
-    -- the indices in front of a statement
+    -- the indices that begin a statement
     heads : {tokens : List (Terminal × D)} → Gams (the HeadIndices) tokens → Gams either tokens
     heads (whole (first (both text behind))) = after_index (whole (first text), first text) behind
     heads (whole (second (both word (whole (first (both lag (whole rest))))))) = first (same productions (both (whole (second (both word (present lag)))) rest) (simp append_assoc))
@@ -64,11 +65,11 @@ module _ {D : Type 0} where
       first (whole (same productions (both (whole (both word (both absent absent))) (whole (both condition rest))) (simp end_nil)))
   named_plain (whole (both word (whole (second (second (whole (both condition (second rest)))))))) = second (both word (both absent (both condition rest)))
 
-  -- what is behind an index, where a comma and another index follow
+  -- what follows an index, if a comma and another index do
   followed : {u : List (Terminal × D)} (v w x : List (Terminal × D)) → Gams (token Comma) u → Gams (the HeadIndices) (v ++ (w ++ x)) → Gams (the AfterHeadIndex) (((u ++ v) ++ w) ++ x)
   followed v w x comma others = same productions (whole (first (both comma others))) (simp append_assoc)
 
-  -- an index of what is assigned in front of others, in the form of the table
+  -- an index of an assigned symbol before others, in the form of the table
   assigned : {u v w x : List (Terminal × D)} → Gams (the Index) u → Gams (many (token Comma · the Index)) v → Gams (token RightParen) w → Gams (the AfterTarget) x → Gams (the AfterHeadIndex) (v ++ (w ++ x)) → Gams (the HeadIndices) (u ++ (v ++ (w ++ x)))
   assigned (whole (first text)) others closing rest behind = whole (first (both text behind))
   assigned (whole (second (both word absent))) others closing rest behind = same productions (whole (second (both word (whole (second behind))))) (simp end_nil)
@@ -80,7 +81,7 @@ module _ {D : Type 0} where
   assigned_behind (again (both comma a) others) closing rest =
       followed _ _ _ comma (assigned a others closing rest (assigned_behind others closing rest))
 
-  -- an index of what is defined in front of others
+  -- an index of a defined equation before others
   defined : {u v : List (Terminal × D)} → Gams plain_index u → Gams (the AfterHeadIndex) v → Gams (the HeadIndices) (u ++ v)
   defined (first text) behind = whole (first (both text behind))
   defined (second word) behind = whole (second (both word (whole (second behind))))
@@ -89,7 +90,7 @@ module _ {D : Type 0} where
   defined_behind over closing (both condition rest) = whole (second (both closing (whole (both condition (second rest)))))
   defined_behind (again (both comma a) others) closing rest = followed _ _ _ comma (defined a (defined_behind others closing rest))
 
-  -- a name with indices in front of what stands behind them
+  -- a name with indices before what follows them
   with_heads : {u v w : List (Terminal × D)} → Gams name u → Gams (token LeftParen) v → Gams (the HeadIndices) w → Gams (the NamedStatement) (u ++ (v ++ w))
   with_heads word opening indices = whole (both word (whole (second (first (both opening indices)))))
 

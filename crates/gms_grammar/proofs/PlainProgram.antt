@@ -16,12 +16,12 @@ step = token Semicolon · opt statement ∣ the KeywordStatement
 abbrev segment : Part Terminal Nonterminal
 segment = token Semicolon · the Segment
 
--- statements in the form of the table: some with keywords, and segments behind semicolons
+-- statements in the form of the table: some with keywords, and segments after semicolons
 abbrev segments : Part Terminal Nonterminal
 segments = many (the KeywordStatement) · many segment
 
 module _ {D : Type 0} where
-  -- perhaps a statement in front
+  -- perhaps a statement at the start
   segmented : {u v : List (Terminal × D)} → Gams (opt statement) u → Gams segments v → Gams (the Segment · many segment) (u ++ v)
   segmented absent (both keyworded others) = both (whole (both absent keyworded)) others
   segmented (present (first named)) (both keyworded others) = same productions (both (whole (both (present named) keyworded)) others) (simp append_assoc)
@@ -48,7 +48,7 @@ module _ {D : Type 0} where
   keyword_steps over steps = steps
   keyword_steps (again keyword others) steps = same productions (again (second keyword) (keyword_steps others steps)) (simp append_assoc)
 
-  -- the statement in front of a segment
+  -- the statement at the start of a segment
   front : {tokens : List (Terminal × D)} → Gams (opt (the NamedStatement)) tokens → Gams (opt statement) tokens
   front absent = absent
   front (present named) = present (first named)

@@ -11,18 +11,18 @@ use Rattle.gms_grammar.proofs.Checks.{left_and, right_and}
 use Rattle.gms_grammar.proofs.Only.{only}
 
 module _ {C N D : Type 0} (production : N → Part C N) (ahead : LookAhead C N) (ok : DecidesEach ahead production) (known : D) where
-  -- A tree of the part goes on from these tokens.
+  -- Some tree of the part begins with these tokens.
   pub record GoesOn (part : Part C N) (front : List (C × D)) : Type 0 where
     pub tree : Tree (C × D)
     pub is_tree : IsTree production part tree
     pub further : List (C × D)
     pub yields : yield tree ≡ front ++ further
 
-  -- a tree goes on from no tokens
+  -- a tree begins with no tokens
   from : {part : Part C N} (tree : Tree (C × D)) → IsTree production part tree → GoesOn part []
   from tree h = record { tree = tree; is_tree = h; further = yield tree; yields = refl }
 
-  -- what goes on within a part goes on within a larger one
+  -- tokens that begin a part begin a larger one
   on_node : {n : N} {front : List (C × D)} → GoesOn (production n) front → GoesOn (the n) front
   on_node t = record { tree = node t.tree; is_tree = t.is_tree; further = t.further; yields = t.yields }
 
@@ -141,7 +141,8 @@ module _ {C N D : Type 0} (production : N → Part C N) (ahead : LookAhead C N) 
           let same : b.derives.tree ≡ tree = only production ahead ok r after d b.derives.tree [] (next ∷ b.further) (record { is_tree = b.derives.is_tree; follows = tt; goes = refl; agrees = end_nil (yield b.derives.tree) ∙ longer }) in
           not_longer (yield tree) next b.further (ap yield (sym same) ∙ longer)
 
-  -- where a reader is stuck, the front is as many tokens as begin a list that the part derives
+  -- where a reader is stuck, the tokens read are the longest that begin a list that the part
+  -- derives
   pub stuck_stops : (part : Part C N) (after : C → Bool) (tokens front rest : List (C × D)) → IsDecided ahead part after → Reads production ahead part tokens (stuck front rest) → Stops production part tokens front rest
   stuck_stops part after tokens front rest d r =
       let t = promises r after d in
@@ -157,7 +158,7 @@ module _ {C N D : Type 0} (production : N → Part C N) (ahead : LookAhead C N) 
           only production ahead ok r after d b.derives.tree [] (next ∷ b.further)
           (record { is_tree = b.derives.is_tree; follows = tt; goes = refl; agrees = end_nil (yield b.derives.tree) ∙ b.derives.yields ∙ append_assoc front (next ∷ []) b.further })
 
-  -- where a reader is stuck, the front itself is none
+  -- where a reader is stuck, the tokens read are no complete part
   pub stuck_none : (part : Part C N) (after : C → Bool) (tokens front rest : List (C × D)) → IsDecided ahead part after → Reads production ahead part tokens (stuck front rest) → Derives production part front → ⊥
   stuck_none part after tokens front rest d r b =
       only production ahead ok r after d b.tree [] []

@@ -1,4 +1,4 @@
--- How what was read of parts, or why they were refused, makes up that of larger parts, for any rule of faults.
+-- How the readings or refusals of parts make up those of larger parts, for any rule of faults.
 use Rattle.std.proofs.Common.{◌≡◌, Bool, true, false, List, [], ◌∷◌, ◌++◌, refl, sym, ap, ◌∙◌, subst, inl, inr, append_assoc}
 use Rattle.gms_grammar.specs.declared.terminal.Terminal.{Terminal}
 use Rattle.gms_grammar.specs.declared.terminal.Terminal.TheVariants.{End}
@@ -10,12 +10,12 @@ use Rattle.gms_grammar.specs.Rules.{Rule, kind_ahead, kind_of, left_by, AreSound
 use Rattle.gms_grammar.proofs.Basics.{regrouped}
 use Rattle.gms_grammar.proofs.Sound.{sound}
 
--- what stands ahead of tokens is the first of those behind them, where there are none
+-- the kind ahead of no tokens is the kind of the first of those after them
 pub ahead_append : {D : Type 0} (u v : List (Terminal × D)) (ahead : Terminal) → kind_ahead (u ++ v) ahead ≡ kind_ahead u (kind_ahead v ahead)
 ahead_append [] v ahead = refl
 ahead_append (t ∷ u) v ahead = refl
 
--- what stands ahead of a part, by what stands behind it
+-- the kind ahead of a part, by what follows it
 pub ahead_is : {D : Type 0} (u us : List (Terminal × D)) {rest : List (Terminal × D)} → rest ≡ u ++ us → kind_of rest ≡ kind_ahead u (kind_of us)
 ahead_is u us e = ap kind_of e ∙ ahead_append u us End
 
@@ -56,7 +56,7 @@ module _ {K D W E R : Type 0} {rules : K → Rule D W E R} {key : K} where
   pub given_parts : {p : Part Terminal Nonterminal} {w v : W} {ts rest : List (Terminal × D)} {a : Tree (Terminal × D)} → Gives rules key p w ts a v rest → ts ≡ yield a ++ rest
   given_parts g = (sound productions look_ahead g.reads).1
 
-  -- what is sound behind a part is sound behind its tokens
+  -- tokens after a part are sound if they are sound after the part's tokens
   pub onward : {p : Part Terminal Nonterminal} {w v : W} {ts rest : List (Terminal × D)} {a : Tree (Terminal × D)} → Gives rules key p w ts a v rest → (u us : List (Terminal × D)) → rest ≡ u ++ us → AreSound (rules key) v u (kind_of us) → AreSound (rules key) w (yield a ++ u) (kind_of us)
   onward {w = w} {a = a} g u us e h =
       sound_append (rules key) w (yield a) u (kind_of us) (subst (λ (k : Terminal). AreSound (rules key) w (yield a) k) (ahead_is u us e) g.are_sound)
@@ -133,7 +133,7 @@ module _ {K D W E R : Type 0} {rules : K → Rule D W E R} {key : K} where
   wrong_parts : {p : Part Terminal Nonterminal} {w : W} {ts : List (Terminal × D)} {fault : E} → (s : IsWrong rules key p w ts fault) → ts ≡ s.before ++ s.token ∷ s.behind
   wrong_parts s = takes_parts s.takes ∙ append_assoc s.before (s.token ∷ []) s.behind
 
-  -- the same behind a part
+  -- a fault after a part is a fault of the larger part
   pub wrong_behind : {p q r : Part Terminal Nonterminal} {w v : W} {ts between : List (Terminal × D)} {a : Tree (Terminal × D)} {fault : E} → Gives rules key p w ts a v between → (s : IsWrong rules key q v between fault) →
       Takes productions look_ahead r ts (yield a ++ (s.before ++ s.token ∷ [])) s.behind → IsWrong rules key r w ts fault
   wrong_behind {r = r} {ts = ts} {a = a} {fault = fault} g s t = record {

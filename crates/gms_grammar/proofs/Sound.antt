@@ -1,4 +1,5 @@
--- What a reader finds is so: the tree is one of the part, and the tokens are those of the tree or of the front, and the rest.
+-- A reader's result is right: the tree is one of the part, and the tokens are those of the tree, or
+-- those read, and the rest.
 use Rattle.std.proofs.Common.{◌≡◌, Bool, false, List, [], ◌∷◌, ◌++◌, refl, sym, ap, ◌∙◌}
 use Rattle.gms_grammar.specs.Grammar.{Part, the, ◌·◌, ◌∣◌, opt, many, yield, IsTree}
 use Rattle.gms_grammar.specs.LookAhead.{LookAhead, may_be_empty, may_begin, IsDecided, DecidesEach}

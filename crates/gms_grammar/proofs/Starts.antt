@@ -6,7 +6,7 @@ use Rattle.gms_grammar.specs.LookAhead.{LookAhead, may_be_empty, may_begin, may_
 use Rattle.gms_grammar.specs.Reading.{leads}
 use Rattle.gms_grammar.proofs.Basics.{or_left, or_right, and_both, not_true, both_ways}
 
--- only tokens that pass the test stand first
+-- the first token passes the test
 abbrev pub Follows : {C D : Type 0} → (C → Bool) → List (C × D) → Type 0
 Follows after [] = ⊤
 Follows after (token ∷ tokens) = after token.0 ≡ true
@@ -54,7 +54,7 @@ module _ {C N D : Type 0} (production : N → Part C N) (ahead : LookAhead C N) 
   starts (many p) (more a b) h = starts_many p _ _ (starts p a h.0) (starts (many p) b h.1)
   starts _ _ h = absurd h
 
-  -- what follows a part that another goes on with
+  -- what follows a part that another follows
   pub follows_part : (q : Part C N) (after : C → Bool) (u behind : List (C × D)) → Starts q u → Follows after behind → Follows (may_go_on ahead q after) (u ++ behind)
   follows_part q after [] [] h k = tt
   follows_part q after [] (x ∷ behind) h k = or_right (may_begin ahead q x.0) _ (and_both _ _ h k)
@@ -98,7 +98,7 @@ module _ {C N D : Type 0} (production : N → Part C N) (ahead : LookAhead C N) 
       let same : x ≡ b.first = cc in
       apart x.0 (ap (λ (w : C × D). may_begin ahead p w.0) same ∙ b.may) h
 
-  -- a part that is not empty does not stand where its first token does not lead into it
+  -- a nonempty part is not at a place where the first token does not lead into it
   pub unled : (p : Part C N) (tokens u behind further : List (C × D)) → Starts p u → may_be_empty ahead p ≡ false → leads {D = D} production ahead p tokens ≡ false → Goes tokens further → u ++ behind ≡ further → ⊥
   unled p tokens [] behind further h k l g e = both_ways _ h k
   unled p [] (x ∷ u) behind [] h k l g e = cc

@@ -3,7 +3,7 @@ use Rattle.std.proofs.Common.{◌≡◌, List, [], ◌∷◌, ◌++◌, refl, sy
 use Rattle.gms_grammar.specs.Grammar.{Part, IsUnexpected, Begins, Stops}
 use Rattle.gms_grammar.proofs.Basics.{behind_same, end_nil}
 
--- How two fronts of the same list compare: they are the same, or one is longer.
+-- How two prefixes of the same list compare: they are equal, or one is longer.
 data Compared {T : Type 0} (front other : List T) : Type 0 where
   same : front ≡ other → Compared front other
   shorter : (x : T) (w : List T) → other ≡ front ++ (x ∷ w) → Compared front other
@@ -36,7 +36,7 @@ module _ {C N D : Type 0} (production : N → Part C N) where
         };
       }
 
-  -- a front does not stop where a longer one begins something
+  -- a prefix does not stop if a longer one begins something
   not_shorter : (part : Part C N) (tokens front rest other behind : List (C × D)) (x : C × D) (w : List (C × D)) → Stops production part tokens front rest → tokens ≡ other ++ behind → Begins production part other → other ≡ front ++ (x ∷ w) → ⊥
   not_shorter part tokens front rest other behind x w s parts b e =
       go rest s.ends (behind_same front rest ((x ∷ w) ++ behind) (sym s.parts ∙ parts ∙ ap (λ u. u ++ behind) e ∙ append_assoc front (x ∷ w) behind))
@@ -50,7 +50,7 @@ module _ {C N D : Type 0} (production : N → Part C N) where
           let equal : x ≡ y = cc in
           u (subst (λ z. Begins production part (front ++ (z ∷ []))) equal begins)
 
-  -- what begins a part is no longer than the front at which tokens cease to begin it
+  -- what begins a part is no longer than the prefix at which tokens cease to begin it
   pub front_begins : (part : Part C N) (tokens front rest other behind : List (C × D)) → Stops production part tokens front rest → tokens ≡ other ++ behind → Begins production part other → (more : List (C × D)) × (front ≡ other ++ more)
   front_begins part tokens front rest other behind s e b = go (compare front rest other behind (sym s.parts ∙ e))
     where

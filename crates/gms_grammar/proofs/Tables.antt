@@ -1,4 +1,4 @@
--- What is found by going over a table from its front.
+-- What a search of a table from its start finds.
 use Rattle.std.proofs.Common.{◌≡◌, ℕ, ◌+◌, ◌<◌, ◌≤◌, if◌then◌else◌, Bool, List, [], ◌∷◌, Option, Some, None, length, get_or, drop, ap, ◌∙◌}
 use Rattle.std.proofs.lemmas.List.{at_drop_more, at_drop_all}
 

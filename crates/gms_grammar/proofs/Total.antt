@@ -34,7 +34,7 @@ module _ {C N : Type 0} (D : Type 0) (production : N → Part C N) (ahead : Look
     pub found : Found (C × D)
     pub reads : Reads production ahead part tokens found
 
-  -- what a reader of `p` finds in shorter tokens than these, however it goes on
+  -- what a reader of `p` finds in shorter tokens than these, whatever may follow
   abbrev pub Shorter : ℕ → Type 0
   Shorter bound = (p : Part C N) (after : C → Bool) → IsDecided ahead p after → (tokens : List (C × D)) → length tokens < bound → Finds p tokens
 
@@ -79,7 +79,7 @@ module _ {C N : Type 0} (D : Type 0) (production : N → Part C N) (ahead : Look
         | inr h ↦ by (no_more h)
       ]
 
-  -- behind a part, the tokens are the same, and the part may be empty, or they are fewer
+  -- after a part, the tokens are the same, and the part may be empty, or they are fewer
   left_over : (p : Part C N) (tokens : List (C × D)) (a : Tree (C × D)) (between : List (C × D)) → Reads production ahead p tokens (read a between) → ((tokens ≡ between) × (may_be_empty ahead p ≡ true)) ⊎ (length between < length tokens)
   left_over p tokens a between r =
       let s = sound production ahead r in
@@ -89,7 +89,7 @@ module _ {C N : Type 0} (D : Type 0) (production : N → Part C N) (ahead : Look
       go [] e h = inl (e, h)
       go (x ∷ u) e h = inr (omega (arith, ap length e, length-append u between))
 
-  -- in tokens of a length at most, where the nonterminals that may stand first are of less rank
+  -- in tokens of at most this length, if the nonterminals that may come first are of less rank
   finds_part : (bound : ℕ) (limit : ℕ) → Shorter bound → ((n : N) (tokens : List (C × D)) → ahead.rank n < limit → length tokens ≤ bound → Finds (the n) tokens) → (p : Part C N) (after : C → Bool) → IsDecided ahead p after → ranks_below ahead limit p ≡ true → (tokens : List (C × D)) → length tokens ≤ bound → Finds p tokens
   finds_part bound limit shorter below (one test) after d h [] l = by (refused refl)
   finds_part bound limit shorter below (one test) after d h (token ∷ rest) l = elim (cases_Bool (test token.0)) [ inl e ↦ by (taken e) | inr e ↦ by (refused e) ]

@@ -1,13 +1,14 @@
--- The grammar of the language (GAMS User's Guide, "GAMS Programs", "Sets", "Data Entry", "Data Manipulation", "Variables",
--- "Equations", "Model and Solve Statements", "Display", "Programming Flow Control Features"). One token decides each production;
--- where this wanted another form than the plain one, PlainGrammar has the plain one, which derives the same.
+-- The grammar of the language (GAMS User's Guide, "GAMS Programs", "Sets", "Data Entry", "Data
+-- Manipulation", "Variables", "Equations", "Model and Solve Statements", "Display", "Programming
+-- Flow Control Features"). One token decides each production. A production that needs another form
+-- for this has its plain form in PlainGrammar, which derives the same.
 use Rattle.std.specs.Prelude.{List, [], ◌∷◌}
 use Rattle.gms_grammar.specs.declared.terminal.Terminal.{Terminal}
 use Rattle.gms_grammar.specs.declared.terminal.Terminal.TheVariants.{Abort, Alias, Display, Equation, Loop, Model, Option, Parameter, Scalar, Set, Solve, Table, Variable, VariableType, Name, Suffix, Function, OrdCard, FoldOp, Infinity, NotAvailable, YesNo, Not, And, Or, RelationWord, All, Using, Direction, Reserved, Label, Number, Text, LongText, Sense, Power, DotDot, Relation, Circular, Sign, Star, Slash, Equals, LeftParen, RightParen, Comma, Semicolon, Dot, Dollar, Break, TableLine}
 use Rattle.gms_grammar.specs.Grammar.{Part, one, the, ◌·◌, ◌∣◌, opt, many}
 use Rattle.gms_grammar.specs.Terminals.{is, is_among}
 
--- The parts of a program that have a production each.
+-- The parts of a program for which there is a production.
 pub data Nonterminal : Type 0 where
   -- expressions
   Expression Conjunction Negation Comparison Sum Product PowerTerm Guarded Condition Primary : Nonterminal
@@ -53,14 +54,16 @@ listed part = part · many (token Comma · part)
 abbrev pub separated : Part Terminal Nonterminal → Part Terminal Nonterminal
 separated part = part · many (any_of (Comma ∷ Break ∷ []) · part)
 
--- Items of a declaration, with commas or line ends between them. Behind the line end after the last item a statement keyword
--- begins the next statement: item { ("," | Break) item } [Break], where the last Break and one between items look alike.
+-- Items of a declaration, with commas or line ends between them. After the line end after the last
+-- item a statement keyword begins the next statement: item { ("," | Break) item } [Break], where
+-- the last Break and one between items look alike.
 abbrev pub items : Nonterminal → Nonterminal → Part Terminal Nonterminal
 items item again = the item · opt (token Comma · the again ∣ token Break · opt (the again))
 
 -- the productions
 abbrev pub productions : Nonterminal → Part Terminal Nonterminal
--- An expression: `or` and `xor` bind least, then `and`, `not`, relations, sums, products, powers, and `$` most.
+-- An expression: `or` and `xor` bind least, then `and`, `not`, relations, sums, products, powers,
+-- and `$` most.
 productions Expression = the Conjunction · many (token Or · the Conjunction)
 productions Conjunction = the Negation · many (token And · the Negation)
 productions Negation = opt (token Not) · the Comparison
@@ -82,14 +85,16 @@ productions ExpressionList = listed (the Expression)
 productions Fold = token FoldOp · bracketed (the Control · token Comma · the Expression)
 productions Control = (name ∣ bracketed (the NameList)) · opt (the Condition)
 productions NameList = listed name
--- A program: { [statement] ";" } [statement], where ";" may be left out before a statement keyword. Between two semicolons stands
--- at most one statement that begins with a name, in front, and any number of those that begin with a keyword.
+-- A program: { [statement] ";" } [statement], where ";" may be left out before a statement keyword.
+-- Between two semicolons there is at most one statement that begins with a name, which comes first,
+-- and then any number of those that begin with a keyword.
 productions Program = the Segment · many (token Semicolon · the Segment)
 productions Segment = opt (the NamedStatement) · many (the KeywordStatement)
 productions KeywordStatement =
     the SetStatement ∣ the ParameterStatement ∣ the ScalarStatement ∣ the TableStatement ∣ the VariableStatement ∣ the EquationStatement ∣ the ModelStatement ∣ the AliasStatement ∣ the DisplayStatement ∣ the OptionStatement ∣ the SolveStatement ∣ the AbortStatement ∣ the LoopStatement
--- An assignment or a definition: Target [Condition] "=" Expression, or name ["(" (text | name) { "," (text | name) } ")"]
--- [Condition] ".." Expression sense Expression. They begin alike, up to `=` or `..`; a suffix or a lag leaves the assignment alone.
+-- An assignment or a definition: Target [Condition] "=" Expression, or name ["(" (text | name) {
+-- "," (text | name) } ")"] [Condition] ".." Expression sense Expression. They begin alike, up to
+-- `=` or `..`; a suffix or a lag leaves only the assignment.
 productions NamedStatement = name · the AfterName
 productions AfterName = the Attribute · opt (bracketed (the IndexList)) · the AfterTarget ∣ token LeftParen · the HeadIndices ∣ the AfterHead
 productions HeadIndices = token Text · the AfterHeadIndex ∣ name · the AfterHeadName
@@ -99,8 +104,8 @@ productions AfterLag = many (token Comma · the Index) · token RightParen · th
 productions AfterHead = opt (the Condition) · (token Equals · the Expression ∣ token DotDot · the Sides)
 productions AfterTarget = opt (the Condition) · token Equals · the Expression
 productions Sides = the Expression · token Sense · the Expression
--- A loop. In its body each semicolon between statements stands, and one may stand behind the last: Body = statement { ";" statement }
--- [";"].
+-- A loop. In its body a semicolon separates statements, and one may follow the last: Body =
+-- statement { ";" statement } [";"].
 productions LoopStatement = token Loop · bracketed (the Control · token Comma · the LoopBody)
 productions LoopBody = the InnerStatement · opt (token Semicolon · opt (the LoopBody))
 productions InnerStatement =

@@ -1,4 +1,5 @@
--- What one token tells of the grammar of the language. This file is printed by tools/look_ahead.py, and proved.
+-- The first and follow sets of the grammar of the language. tools/look_ahead.py prints this file;
+-- it is proved.
 use Rattle.std.specs.Prelude.{ℕ, Bool, true, false, List, [], ◌∷◌}
 use Rattle.gms_grammar.specs.declared.terminal.Terminal.{Terminal}
 use Rattle.gms_grammar.specs.declared.terminal.Terminal.TheVariants.{Abort, Alias, Display, Equation, Loop, Model, Option, Parameter, Scalar, Set, Solve, Table, Variable, VariableType, Name, Suffix, Function, OrdCard, FoldOp, Infinity, NotAvailable, YesNo, Not, And, Or, RelationWord, All, Using, Direction, Reserved, Label, Number, Text, LongText, Sense, Power, DotDot, Relation, Circular, Sign, Star, Slash, Equals, LeftParen, RightParen, Comma, Semicolon, Dot, Dollar, Break, TableLine}
@@ -243,7 +244,7 @@ least_depth Domain = 2
 least_depth DomainList = 1
 least_depth DomainPosition = 0
 
--- a number above those of the nonterminals that may stand first in a nonterminal
+-- a number above those of the nonterminals that may come first in a nonterminal
 abbrev pub front_rank : Nonterminal → ℕ
 front_rank Expression = 9
 front_rank Conjunction = 8
@@ -320,6 +321,6 @@ front_rank Domain = 0
 front_rank DomainList = 1
 front_rank DomainPosition = 0
 
--- what one token tells
+-- the look-ahead of the grammar: first and follow sets, emptiness, depths and ranks
 abbrev pub look_ahead : LookAhead Terminal Nonterminal
 look_ahead = record { first = λ n. is_among (firsts n); follow = λ n. is_among (follows n); empty = is_empty; depth = least_depth; rank = front_rank }

@@ -1,12 +1,13 @@
--- Grammars as data: which token lists a production derives, by which tree, and where tokens cease to begin any (Aho, Lam, Sethi
--- and Ullman, "Compilers", sections 2.2 and 4.2, derivations and parse trees; viable prefixes).
+-- Grammars as data: which token lists a production derives, by which tree, and where tokens cease
+-- to begin any (Aho, Lam, Sethi and Ullman, "Compilers", sections 2.2 and 4.2, derivations and
+-- parse trees; viable prefixes).
 use Rattle.std.specs.Prelude.{◌≡◌, Bool, true, List, [], ◌∷◌, ◌++◌, ⊤}
 
 -- A part of a production, over kinds of tokens C and nonterminals N.
 pub data Part (C N : Type 0) : Type 0 where
   -- one token, of a kind that passes a test
   one : (C → Bool) → Part C N
-  -- what a nonterminal stands for
+  -- the production of a nonterminal
   the : N → Part C N
   -- one part and then another
   ◌·◌ : Part C N → Part C N → Part C N
@@ -31,9 +32,9 @@ pub data Tree (T : Type 0) : Type 0 where
   right : Tree T → Tree T
   -- of an optional part that is left out, and of no further repetition
   none : Tree T
-  -- of an optional part that is there
+  -- of an optional part that is present
   some : Tree T → Tree T
-  -- of a repetition and those behind it
+  -- of a repetition and those after it
   more : Tree T → Tree T → Tree T
   -- of a nonterminal
   node : Tree T → Tree T
@@ -49,7 +50,8 @@ yield (some tree) = yield tree
 yield (more a b) = yield a ++ yield b
 yield (node tree) = yield tree
 
--- Below, each nonterminal has one production, and a token is its kind with what else is known of it.
+-- Below, each nonterminal has one production, and a token is its kind with what else is known of
+-- it.
 module _ {C N D : Type 0} (production : N → Part C N) where
   -- a tree is one of a part
   abbrev pub IsTree : Part C N → Tree (C × D) → Type 0
@@ -70,17 +72,18 @@ module _ {C N D : Type 0} (production : N → Part C N) where
     pub is_tree : IsTree part tree
     pub yields : yield tree ≡ tokens
 
-  -- The tokens begin some list that the part derives: there are tokens with which they are one.
+  -- The tokens begin some list that the part derives: further tokens complete them.
   pub record Begins (part : Part C N) (tokens : List (C × D)) : Type 0 where
     pub further : List (C × D)
     pub derives : Derives part (tokens ++ further)
 
-  -- the next of the tokens, where there is one, is unexpected behind those before it: with it they begin nothing
+  -- the next of the tokens, if any, is unexpected after those before it: with it they begin nothing
   abbrev pub IsUnexpected : Part C N → List (C × D) → List (C × D) → Type 0
   IsUnexpected part front [] = ⊤
   IsUnexpected part front (next ∷ rest) = Begins part (front ++ next ∷ []) → ⊥
 
-  -- `front` is as many of the tokens as begin some list that the part derives, and `rest` are those behind them.
+  -- `front` is the longest prefix of the tokens that begins some list that the part derives, and
+  -- `rest` follows it.
   pub record Stops (part : Part C N) (tokens front rest : List (C × D)) : Type 0 where
     pub parts : tokens ≡ front ++ rest
     pub begins : Begins part front

@@ -1,4 +1,5 @@
--- The words that begin statements, and the kinds of words (GAMS User's Guide, "GAMS Programs" and "Language Items", reserved words).
+-- The words that begin statements, and the kinds of words (GAMS User's Guide, "GAMS Programs" and
+-- "Language Items", reserved words).
 use Rattle.std.specs.Prelude.{ℕ, if◌then◌else◌, List, [], ◌∷◌, Option, Some, None, codes}
 use Rattle.gms_lines.specs.ControlWords.{is_among}
 use Rattle.gms_grammar.specs.declared.terminal.Terminal.{Terminal}

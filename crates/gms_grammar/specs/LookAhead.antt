@@ -1,8 +1,9 @@
--- When one token of look-ahead decides a grammar (Aho, Lam, Sethi and Ullman, "Compilers", section 4.4: first and follow, LL(1)).
+-- When one token of look-ahead decides a grammar (Aho, Lam, Sethi and Ullman, "Compilers", section
+-- 4.4: first and follow, LL(1)).
 use Rattle.std.specs.Prelude.{◌≡◌, ℕ, nat_lt, Bool, true, false, not, ◌&&◌, ◌||◌}
 use Rattle.gms_grammar.specs.Grammar.{Part, one, the, ◌·◌, ◌∣◌, opt, many}
 
--- What is claimed of each nonterminal.
+-- The claims about each nonterminal.
 pub record LookAhead (C N : Type 0) : Type 0 where
   -- whether a token of the kind may come first in it
   pub first : N → C → Bool
@@ -12,7 +13,7 @@ pub record LookAhead (C N : Type 0) : Type 0 where
   pub empty : N → Bool
   -- a number above those of the nonterminals in its least tree
   pub depth : N → ℕ
-  -- a number above those of the nonterminals that may stand first in it
+  -- a number above those of the nonterminals that may come first in it
   pub rank : N → ℕ
 
 module _ {C N : Type 0} (ahead : LookAhead C N) where
@@ -34,7 +35,8 @@ module _ {C N : Type 0} (ahead : LookAhead C N) where
   may_begin (opt p) c = may_begin p c
   may_begin (many p) c = may_begin p c
 
-  -- whether a token of a kind may stand behind something that a part follows, and what follows that part
+  -- whether a token of a kind may follow a part: `q` comes next and may begin with the token, or
+  -- `q` may be empty and the token may follow it
   abbrev pub may_go_on : Part C N → (C → Bool) → C → Bool
   may_go_on q after c = may_begin q c || (may_be_empty q && after c)
 
@@ -42,8 +44,9 @@ module _ {C N : Type 0} (ahead : LookAhead C N) where
   abbrev pub Apart : (C → Bool) → (C → Bool) → Type 0
   Apart f g = (c : C) → f c ≡ true → g c ≡ true → ⊥
 
-  -- One token decides how to go on in a part, where only such tokens follow it as pass a test. Alternatives are not empty, and no
-  -- token begins both. What may be left out or come again is not empty, and no token that begins it may follow.
+  -- One token decides how to continue in a part, if the tokens that follow it pass a test.
+  -- Alternatives are not empty, and no token begins both. What may be left out or repeated is not
+  -- empty, and no token that begins it may follow.
   abbrev pub IsDecided : Part C N → (C → Bool) → Type 0
   IsDecided (one test) after = (c : C) × (test c ≡ true)
   IsDecided (the n) after = (c : C) → after c ≡ true → ahead.follow n c ≡ true
@@ -62,7 +65,7 @@ module _ {C N : Type 0} (ahead : LookAhead C N) where
   ends_below bound (opt p) = true
   ends_below bound (many p) = true
 
-  -- the nonterminals that may stand first in a part are of less rank
+  -- the nonterminals that may come first in a part are of less rank
   abbrev pub ranks_below : ℕ → Part C N → Bool
   ranks_below bound (one test) = true
   ranks_below bound (the n) = nat_lt (ahead.rank n) bound
@@ -71,7 +74,7 @@ module _ {C N : Type 0} (ahead : LookAhead C N) where
   ranks_below bound (opt p) = ranks_below bound p
   ranks_below bound (many p) = ranks_below bound p
 
-  -- What is claimed is so, and one token decides each production.
+  -- The claims hold, and one token decides each production.
   pub record DecidesEach (production : N → Part C N) : Type 0 where
     pub first_is : (n : N) (c : C) → may_begin (production n) c ≡ ahead.first n c
     pub empty_is : (n : N) → may_be_empty (production n) ≡ ahead.empty n

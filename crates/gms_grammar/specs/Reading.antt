@@ -1,14 +1,14 @@
--- Reading tokens by a grammar that one token decides, without a step back (Aho, Lam, Sethi and Ullman, "Compilers", section 4.4:
--- predictive parsing).
+-- Reading tokens by a grammar that one token decides, without backtracking (Aho, Lam, Sethi and
+-- Ullman, "Compilers", section 4.4: predictive parsing).
 use Rattle.std.specs.Prelude.{◌≡◌, Bool, true, false, List, [], ◌∷◌, ◌++◌}
 use Rattle.gms_grammar.specs.Grammar.{Part, one, the, ◌·◌, ◌∣◌, opt, many, Tree, leaf, pair, left, right, none, some, more, node, yield}
 use Rattle.gms_grammar.specs.LookAhead.{LookAhead, may_begin}
 
 -- What a reader finds.
 pub data Found (T : Type 0) : Type 0 where
-  -- a tree, and the tokens behind it
+  -- a tree, and the tokens after it
   read : Tree T → List T → Found T
-  -- tokens behind which it cannot go on, and those from there
+  -- the tokens read until no token could continue, and the rest
   stuck : List T → List T → Found T
 
 module _ {C N D : Type 0} (production : N → Part C N) (ahead : LookAhead C N) where
@@ -17,7 +17,8 @@ module _ {C N D : Type 0} (production : N → Part C N) (ahead : LookAhead C N) 
   leads p [] = false
   leads p (token ∷ tokens) = may_begin ahead p token.0
 
-  -- A reader of a part finds this in the tokens: it takes a part where the next token may begin it, and else leaves it.
+  -- The result of reading a part from the tokens: the reader enters a part if the next token may
+  -- begin it, and else omits it.
   pub data Reads : Part C N → List (C × D) → Found (C × D) → Type 0 where
     taken : {test : C → Bool} {token : C × D} {rest : List (C × D)} →
         test token.0 ≡ true → Reads (one test) (token ∷ rest) (read (leaf token) rest)
@@ -56,7 +57,7 @@ module _ {C N D : Type 0} (production : N → Part C N) (ahead : LookAhead C N) 
         leads p tokens ≡ true →
         Reads p tokens (read a between) → Reads (many p) between (stuck front rest) → Reads (many p) tokens (stuck (yield a ++ front) rest)
 
-  -- A reader of a part goes over the tokens in front, which are at least one, within the part or up to its end.
+  -- A reader of a part reads the tokens `front`, at least one, within the part or up to its end.
   pub data Takes : Part C N → List (C × D) → List (C × D) → List (C × D) → Type 0 where
     takes_one : {test : C → Bool} {token : C × D} {rest : List (C × D)} →
         test token.0 ≡ true → Takes (one test) (token ∷ rest) (token ∷ []) rest

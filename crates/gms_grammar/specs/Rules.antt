@@ -1,5 +1,6 @@
--- The first fault of tokens that are read by the grammar, for any rule of which token has one: what each token leaves, and which
--- faults it then has (Aho, Lam, Sethi and Ullman, "Compilers", section 4.1.3, error recovery; section 4.4, predictive parsing).
+-- The first fault of tokens that are read by the grammar, for any rule of faults: the state after
+-- each token, and the faults it may have (Aho, Lam, Sethi and Ullman, "Compilers", section 4.1.3,
+-- error recovery; section 4.4, predictive parsing).
 use Rattle.std.specs.Prelude.{◌≡◌, ◌⊎◌, List, [], ◌∷◌, ◌++◌, ⊤}
 use Rattle.gms_grammar.specs.declared.terminal.Terminal.{Terminal}
 use Rattle.gms_grammar.specs.declared.terminal.Terminal.TheVariants.{End}
@@ -8,19 +9,19 @@ use Rattle.gms_grammar.specs.Reading.{read, stuck, Reads, Takes}
 use Rattle.gms_grammar.specs.GamsGrammar.{Nonterminal, productions}
 use Rattle.gms_grammar.specs.GamsLookAhead.{look_ahead}
 
--- A rule, over tokens of which D is known besides their kind: W is what tokens leave, E are faults, and R the answers in place of a
--- part, of which some tell a fault.
+-- A rule, over tokens with data D besides their kind. W is the state after tokens, E are faults,
+-- and R the answers in place of a part, some of which report a fault.
 pub record Rule (D W E R : Type 0) : Type 1 where
-  -- what a token leaves, where one of this kind stands behind it
+  -- the state after a token, if one of this kind follows it
   pub after : W → Terminal × D → Terminal → W
   -- the faults of a token that the grammar expects
   pub Faulty : W → Terminal × D → Terminal → E → Type 0
-  -- the fault of the next token, where the grammar does not expect it
+  -- the fault of the next token, if the grammar does not expect it
   pub unexpected : List (Terminal × D) → E
-  -- the answer that tells a fault
+  -- the answer that reports a fault
   pub told : E → R
 
--- the kind of the first of the tokens, or of what stands behind them
+-- the kind of the first token, or `ahead` without tokens
 abbrev pub kind_ahead : {D : Type 0} → List (Terminal × D) → Terminal → Terminal
 kind_ahead [] ahead = ahead
 kind_ahead (token ∷ tokens) ahead = token.0
@@ -29,7 +30,7 @@ kind_ahead (token ∷ tokens) ahead = token.0
 abbrev pub kind_of : {D : Type 0} → List (Terminal × D) → Terminal
 kind_of tokens = kind_ahead tokens End
 
--- what tokens leave, one after another, where one of kind `ahead` stands behind them
+-- the state after tokens, if one of kind `ahead` follows them
 abbrev pub left_by : {D W : Type 0} → (W → Terminal × D → Terminal → W) → W → List (Terminal × D) → Terminal → W
 left_by after w [] ahead = w
 left_by after w (token ∷ tokens) ahead = left_by after (after w token (kind_ahead tokens ahead)) tokens ahead
@@ -40,9 +41,9 @@ AreSound rule w [] ahead = ⊤
 AreSound {E = E} rule w (token ∷ tokens) ahead =
     ((fault : E) → rule.Faulty w token (kind_ahead tokens ahead) fault → ⊥) × AreSound rule (rule.after w token (kind_ahead tokens ahead)) tokens ahead
 
--- Below, there is a rule for each K, as for a source.
+-- Below, there is a rule for each K, such as a source.
 module _ {K D W E R : Type 0} (rules : K → Rule D W E R) (key : K) where
-  -- a part was read: its tree, and what its tokens leave
+  -- a part was read: its tree, and the state after its tokens
   pub record Gives (part : Part Terminal Nonterminal) (w : W) (tokens : List (Terminal × D)) (tree : Tree (Terminal × D)) (v : W) (rest : List (Terminal × D)) : Type 0 where
     pub reads : Reads productions look_ahead part tokens (read tree rest)
     pub are_sound : AreSound (rules key) w (yield tree) (kind_of rest)
@@ -65,16 +66,16 @@ module _ {K D W E R : Type 0} (rules : K → Rule D W E R) (key : K) where
     pub are_sound : AreSound (rules key) w before token.0
     pub is_faulty : (rules key).Faulty (left_by (rules key).after w before token.0) token (kind_of behind) fault
 
-  -- why a part was not read; want of memory has no cause in it
+  -- why a part was not read; out of memory has no cause in it
   pub record Refuses (part : Part Terminal Nonterminal) (w : W) (tokens : List (Terminal × D)) (refusal : R) : Type 0 where
     pub why : (fault : E) → refusal ≡ (rules key).told fault → IsStuck part w tokens fault ⊎ IsWrong part w tokens fault
 
-  -- where a part is to be read within a larger one, and the tree around its tree
+  -- the place of a part within a larger one, and the tree around its tree
   pub record Within (part : Part Terminal Nonterminal) (w : W) (tokens : List (Terminal × D)) (inner : Part Terminal Nonterminal) (v : W) (rest : List (Terminal × D)) (context : Tree (Terminal × D) → Tree (Terminal × D)) : Type 0 where
     pub gives : (a : Tree (Terminal × D)) (x : W) (last : List (Terminal × D)) → Gives inner v rest a x last → Gives part w tokens (context a) x last
     pub refuses : (e : R) → Refuses inner v rest e → Refuses part w tokens e
 
-  -- The first faulty one of tokens, where one of kind `ahead` stands behind these.
+  -- The first faulty one of the tokens, if one of kind `ahead` follows them.
   pub record IsFirstFaulty (w : W) (front : List (Terminal × D)) (ahead : Terminal) (fault : E) : Type 0 where
     pub before : List (Terminal × D)
     pub token : Terminal × D
@@ -83,13 +84,14 @@ module _ {K D W E R : Type 0} (rules : K → Rule D W E R) (key : K) where
     pub are_sound : AreSound (rules key) w before token.0
     pub is_faulty : (rules key).Faulty (left_by (rules key).after w before token.0) token (kind_ahead behind ahead) fault
 
-  -- None of the tokens in front is faulty, and the one behind them is unexpected, since they want more.
+  -- None of the tokens before is faulty, and the next one is unexpected, since they require more.
   pub record IsUnexpected (Wants : Type 0) (w : W) (front rest : List (Terminal × D)) (fault : E) : Type 0 where
     pub wants : Wants
     pub are_sound : AreSound (rules key) w front (kind_of rest)
     pub is : fault ≡ (rules key).unexpected rest
 
-  -- The first fault of tokens: it stands where they cease to begin what is read, if they want more there, or before that.
+  -- The first fault of tokens: it is where they cease to begin what is read, if they require more
+  -- there, or before that.
   pub record IsRefused (Wants : List (Terminal × D) → List (Terminal × D) → Type 0) (n : Nonterminal) (w : W) (tokens : List (Terminal × D)) (fault : E) : Type 0 where
     pub front : List (Terminal × D)
     pub rest : List (Terminal × D)

@@ -1,4 +1,4 @@
--- The kinds of tokens, numbered, so that they can be told apart and walked.
+-- The kinds of tokens, numbered, so that they can be told apart and listed.
 use Rattle.std.specs.Prelude.{ℕ, Bool, ◌==◌, List, [], ◌∷◌}
 use Rattle.std.specs.List.{list_any}
 use Rattle.gms_grammar.specs.declared.terminal.Terminal.{Terminal}

@@ -73,8 +73,8 @@ const KEYWORDS: [Keyword; 14] = [
     },
 ];
 
-/// Which of the words that begin statements a word is, in capital or small letters (GAMS User's Guide, "Language Items", reserved
-/// words). `None` comes where it is none of them.
+/// The statement that a word begins, in capital or small letters (GAMS User's Guide, "Language
+/// Items", reserved words). `None` if it begins none.
 pub fn statement_word(word: &[u8]) -> Option<Terminal>
     ensures { result ≡ kind_among word.now statement_words }
 {

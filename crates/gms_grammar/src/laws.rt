@@ -1,4 +1,4 @@
-//! Laws of the grammar. In each, `D` is what a token tells beside its kind, as its place.
+//! Laws of the grammar. In each, `D` is the data of a token besides its kind, such as its place.
 ghost use Rattle.std.specs.Prelude.{◌≡◌, ◌↔◌, List, [], ◌++◌};
 ghost use Rattle.gms_grammar.specs.declared.terminal.Terminal.{Terminal};
 ghost use Rattle.gms_grammar.specs.Grammar.{the, Tree, yield, IsTree, Derives, Begins, Stops};
@@ -9,8 +9,8 @@ ghost use Rattle.gms_grammar.specs.GamsLookAhead.{look_ahead};
 
 /// What a nonterminal derives, and where tokens cease to begin it.
 ///
-/// Its derivation of a list of tokens is the only one. Of each list of tokens just one front is as many tokens as begin
-/// something that it derives, so at most one token of the list is the first unexpected one.
+/// Its derivation of a list of tokens is unique. Each list of tokens has exactly one longest prefix
+/// that begins something it derives, so at most one token of the list is the first unexpected one.
 pub fn derivation_laws<D>()
     ensures one_tree { (n : Nonterminal) (one other : Tree (Terminal × D)) →
         IsTree productions (the n) one → IsTree productions (the n) other → yield one ≡ yield other → one ≡ other }
@@ -20,13 +20,13 @@ pub fn derivation_laws<D>()
         Stops productions (the n) tokens front rest → Stops productions (the n) tokens other behind → front ≡ other }
 {}
 
-/// What a reader by the table finds, which goes by one token and takes no step back.
+/// What a predictive reader finds, which decides by one token and never backtracks.
 ///
-/// It finds something in each list of tokens. Where that is a tree, it is one of the nonterminal, and its tokens are as many
-/// as begin something that this derives: they are the longest part. Where the reader is stuck, it has gone over as many
-/// tokens as begin something, and these alone are nothing that the nonterminal derives: the next token is the first
-/// unexpected one. In the tokens of a tree it finds that tree. The tokens that it has gone over, wherever it is, begin
-/// something that the nonterminal derives.
+/// It finds something in each list of tokens. If that is a tree, it is one of the nonterminal, and
+/// its tokens are the longest prefix that begins something the nonterminal derives. If the reader
+/// is stuck, the tokens read are the longest such prefix and are nothing complete: the next token
+/// is the first unexpected one. In the tokens of a tree it finds that tree. The tokens read so far,
+/// wherever the reader is, begin something that the nonterminal derives.
 pub fn reading_laws<D>()
     ensures finds { (n : Nonterminal) (tokens : List (Terminal × D)) →
         (found : Found (Terminal × D)) × Reads productions look_ahead (the n) tokens found }
@@ -44,8 +44,8 @@ pub fn reading_laws<D>()
         Takes productions look_ahead (the n) tokens front rest → (tokens ≡ front ++ rest) × Begins productions (the n) front }
 {}
 
-/// Where the table has a production in another form than the one that reads best, so that one token decides it, both derive
-/// the same.
+/// If the table has a production in another form than the one that reads best, so that one token
+/// decides it, both forms derive the same tokens.
 pub fn plain_laws<D>()
     ensures program { (tokens : List (Terminal × D)) →
         Derives productions (the Program) tokens ↔ Derives productions plain_program tokens }

@@ -1,4 +1,4 @@
-//! Floor 2, source to tree. The grammar of the language, as data.
+//! Layer 2, source to tree. The grammar of the language, as data.
 #![tactic(auto)]
 
 mod keyword;

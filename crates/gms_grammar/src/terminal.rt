@@ -2,7 +2,8 @@
 ghost use Rattle.std.specs.Prelude.{◌≡◌};
 ghost use Rattle.gms_grammar.specs.Terminals.{is, is_among};
 
-/// A kind of tokens, as productions speak of it (GAMS User's Guide, "Language Items", reserved words and delimiters).
+/// A kind of tokens, as productions name it (GAMS User's Guide, "Language Items", reserved words
+/// and delimiters).
 #[derive(Clone, Copy, PartialEq, Eq)]
 pub enum Terminal {
     /// `abort`.
@@ -31,13 +32,15 @@ pub enum Terminal {
     Table,
     /// `variable` or `variables`.
     Variable,
-    /// A type before `variable`: `free`, `positive`, `negative`, `binary`, `integer`, `sos1` or `sos2`.
+    /// A type before `variable`: `free`, `positive`, `negative`, `binary`, `integer`, `sos1` or
+    /// `sos2`.
     VariableType,
     /// A word that is not reserved, and no suffix.
     Name,
-    /// `lo`, `up`, `l`, `m`, `fx`, `modelstat` or `solvestat`; behind no dot it is a name.
+    /// `lo`, `up`, `l`, `m`, `fx`, `modelstat` or `solvestat`; without a dot before it, it is a
+    /// name.
     Suffix,
-    /// A function, as `abs`, also one that the language leaves out, as `exp`.
+    /// A function, such as `abs`, also one that the language leaves out, such as `exp`.
     Function,
     /// `ord` or `card`.
     OrdCard,
@@ -109,11 +112,12 @@ pub enum Terminal {
     TableLine,
     /// The end of the source.
     End,
-    /// A word of a statement or a value that the language leaves out, as `if`; it stands nowhere.
+    /// A word of a statement or a value that the language leaves out, such as `if`; no production
+    /// has it.
     NotInProfile,
-    /// A number that is too large or too long; it stands nowhere.
+    /// A number that is too large or too long; no production has it.
     FaultyNumber,
-    /// A `(` with 100 open before it; it stands nowhere.
+    /// A `(` with 100 open before it; no production has it.
     DeepParen,
 }
 

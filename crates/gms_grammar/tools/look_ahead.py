@@ -1,8 +1,11 @@
 #!/usr/bin/env python3
-"""Prints specs/GamsLookAhead.antt: what may come first in each nonterminal of specs/GamsGrammar.antt, what may follow it,
-whether it may be empty, and a bound on its least tree. Where one token does not decide, it says so on standard error.
+"""Prints specs/GamsLookAhead.antt: what may come first in each nonterminal of
+specs/GamsGrammar.antt, what may follow it, whether it may be empty, and a bound on its least tree.
+If one token does not decide, a message on standard error reports it.
 
-Run it in the crate's folder: tools/look_ahead.py > specs/GamsLookAhead.antt. What it prints is proved, and not trusted."""
+Run it in the crate's folder: tools/look_ahead.py > specs/GamsLookAhead.antt. Its output is proved,
+and not trusted.
+"""
 import re
 import sys
 
@@ -151,7 +154,7 @@ def least(part):
 
 
 def ranks(part):
-    """Gives a number above the ranks of the nonterminals that may stand first in the part."""
+    """Gives a number above the ranks of the nonterminals that may come first in the part."""
     match part:
         case ("one", _):
             return 0
@@ -203,7 +206,8 @@ def written(kind_set):
 
 used = [k for k in kinds if any(k in first[n] | follow[n] for n in names)]
 empties = [n for n in names if empty[n]]
-print(f"""-- What one token tells of the grammar of the language. This file is printed by tools/look_ahead.py, and proved.
+print(f"""-- The first and follow sets of the grammar of the language. tools/look_ahead.py prints this file;
+-- it is proved.
 use Rattle.std.specs.Prelude.{{ℕ, Bool, true, false, List, [], ◌∷◌}}
 use Rattle.gms_grammar.specs.declared.terminal.Terminal.{{Terminal}}
 use Rattle.gms_grammar.specs.declared.terminal.Terminal.TheVariants.{{{', '.join(used)}}}
@@ -232,11 +236,11 @@ abbrev pub least_depth : Nonterminal → ℕ""")
 for n in names:
     print(f"least_depth {n} = {depth[n]}")
 print("""
--- a number above those of the nonterminals that may stand first in a nonterminal
+-- a number above those of the nonterminals that may come first in a nonterminal
 abbrev pub front_rank : Nonterminal → ℕ""")
 for n in names:
     print(f"front_rank {n} = {rank[n]}")
 print("""
--- what one token tells
+-- the look-ahead of the grammar: first and follow sets, emptiness, depths and ranks
 abbrev pub look_ahead : LookAhead Terminal Nonterminal
 look_ahead = record { first = λ n. is_among (firsts n); follow = λ n. is_among (follows n); empty = is_empty; depth = least_depth; rank = front_rank }""")

@@ -1,4 +1,4 @@
--- Laws of places: what holds of the place of a text in a list, and what entering a text does to places.
+-- Laws of places: properties of a text's place in a list, and what entering a text does to places.
 use Rattle.std.proofs.Common.{◌≡◌, ℕ, zero, suc, ◌+◌, ◌<◌, Bool, true, false, cond, ltb, not, List, [], ◌∷◌, ◌++◌, length, get_or, Option, Some, None, position, is_some, IsSome, IfSome, refl, sym, ap, ◌∙◌, arith}
 use Rattle.std.specs.List.{position_or_len}
 use Rattle.std.proofs.lemmas.List.{length_push}

@@ -23,7 +23,7 @@ is_same a b = str_eq_ignore_ascii_case a b
 abbrev pub place_of : List (List ℕ) → List ℕ → Option ℕ
 place_of texts text = position (is_same text) texts
 
--- the list after a text was entered: it goes last where it is new
+-- the list after a text was entered: a new text is appended
 abbrev pub entered : List (List ℕ) → List ℕ → List (List ℕ)
 entered texts text = if is_some (place_of texts text) then texts else texts ++ text ∷ []
 
@@ -35,11 +35,11 @@ IsFullFor texts text = (place_of texts text ≡ None) × (length texts ≡ most_
 abbrev pub AreDistinct : List (List ℕ) → Type 0
 AreDistinct texts = AllPairs (λ a b. is_same a b ≡ false) texts
 
--- What holds of the texts of each table.
+-- The invariant of the texts of a table.
 pub record AreLabels (texts : List (List ℕ)) : Type 0 where
   -- no two are one label
   pub distinct : AreDistinct texts
-  -- there are no more than a table may have
+  -- there are at most as many as a table may have
   pub few : length texts ≤ most_labels
   -- none is longer than a label may be
   pub short : All (λ text. length text ≤ longest) texts

@@ -1,4 +1,5 @@
--- How a table of labels is kept: entries from each text in lower case to the text as first written, in the order of the places.
+-- How a table of labels is stored: entries from each text in lower case to the text as first
+-- written, in the order of the places.
 use Rattle.std.specs.Prelude.{◌≡◌, ℕ, List, map, String, string_bytes}
 use Rattle.std.specs.declared.alloc.Global.{Global}
 use Rattle.gms_labels.specs.Labels.{folded, AreLabels}
@@ -11,7 +12,7 @@ Entry = List ℕ × String Global
 abbrev pub texts_of : List Entry → List (List ℕ)
 texts_of entries = map (λ entry. string_bytes entry.1) entries
 
--- What a table keeps of its entries.
+-- The invariant of a table's entries.
 pub record IsKept (entries : List Entry) : Type 0 where
   -- the texts are labels
   pub labels : AreLabels (texts_of entries)

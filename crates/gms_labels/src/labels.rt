@@ -9,20 +9,20 @@ use indexmap::IndexMap;
 use std::alloc::Global;
 use std::marker::Model;
 
-/// How many labels a table has at most.
+/// The greatest number of labels of a table.
 pub const MOST_LABELS: usize = 65_536;
 
-/// How many bytes a label has at most.
+/// The greatest number of bytes of a label.
 pub const MOST_BYTES: usize = 63;
 
-/// Up to how many labels a search compares texts, which takes less than a hash then.
+/// A search among at most this many labels compares texts, which is faster than a hash.
 const FEW: u32 = 16;
 
-/// A table of labels: texts that differ when letter case is ignored, each named by its place, in the order in
-/// which they were entered.
+/// A table of labels: texts that differ when letter case is ignored, each named by its place, in
+/// the order in which they were entered.
 ///
-/// A text keeps the case in which it was first written. Only the case of ASCII letters is ignored. Among more than 16 labels
-/// a search looks a hash up, which depends on the table's seed.
+/// A text keeps the case in which it was first written. Only the case of ASCII letters is ignored.
+/// Among more than 16 labels a search looks up a hash, which depends on the table's seed.
 pub struct Labels {
     // from each text in lower case to the text as first written
     texts: IndexMap<Folded, String, Seeded>,
@@ -56,7 +56,7 @@ impl Labels {
         }
     }
 
-    /// An empty table with a seed: `source_seed` of a source, where others choose the labels.
+    /// An empty table with a seed: `source_seed` of a source, if others choose the labels.
     pub fn with_seed(alloc: Global, seed: u64) -> Labels
         ensures { result ≡ [] }
     {
@@ -80,17 +80,18 @@ impl Labels {
         self.texts.is_empty()
     }
 
-    /// The place of a text of at most 63 bytes, letter case ignored, which is entered last where it is new.
+    /// The place of a text of at most 63 bytes, letter case ignored. A new text is entered at the
+    /// end.
     ///
-    /// `Full` comes exactly where the text is new and the table has 65,536 labels. After `Full`, and after want of
-    /// memory, the table is as it was.
+    /// `Full` exactly if the text is new and the table has 65,536 labels. After `Full`, and after
+    /// out of memory, the table is as it was.
     pub fn enter(&mut self, alloc: Global, text: &str) -> Result<u32, LabelFault>
         requires { length text.now ≤ longest }
-        // The text has the place that is answered, and a new one stands last.
+        // The text has the place that is answered, and a new text has the last place.
         ensures ok { OnOk result (self.new ≡ entered self.old text.now) }
         ensures place { IfOk result (λ n. place_of self.new text.now ≡ Some n) }
 
-        // A text that is there needs no room.
+        // A known text needs no space.
         ensures known { IsSome (place_of self.old text.now) → IsOk result }
         ensures full { IsErrOf result LabelFault.Full ↔ IsFullFor self.old text.now }
         ensures err { OnErr result (self.new ≡ self.old) }
@@ -110,7 +111,7 @@ impl Labels {
         Ok(place)
     }
 
-    /// Enters a text that is new, where there is room for it.
+    /// Enters a new text, if there is space for it.
     fn append(&mut self, alloc: Global, text: &str) -> Result<(), LabelFault>
         requires short { length text.now ≤ longest }
         requires new { place_of self.old text.now ≡ None }
@@ -125,7 +126,8 @@ impl Labels {
         Ok(())
     }
 
-    /// The place of a text of at most 63 bytes, letter case ignored. `None` exactly where it is not there.
+    /// The place of a text of at most 63 bytes, letter case ignored. `None` exactly if the table
+    /// does not have it.
     pub fn find(&self, text: &str) -> Option<u32>
         requires { length text.now ≤ longest }
         ensures place { result ≡ place_of self.now text.now }

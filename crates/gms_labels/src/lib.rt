@@ -1,4 +1,5 @@
-//! Floor 2, source to tree. Tables of labels: distinct texts in the order of their first appearance, letter case ignored; and places in a source.
+//! Layer 2, source to tree. Tables of labels: distinct texts in the order of their first
+//! appearance, letter case ignored; and places in a source.
 #![tactic(auto)]
 
 mod fault;

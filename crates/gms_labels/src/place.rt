@@ -1,11 +1,11 @@
-//! Where something stands in a source.
+//! Places in a source.
 
 use std::fmt;
 
 /// A place in a source: its line and its column, each counted from 1.
 ///
-/// A column counts bytes, but a tab moves to the next column that is one more than a multiple of 8. In
-/// `set i /a/;` the name `i` stands at line 1 and column 5. It is shown as `1:5`.
+/// A column counts bytes, but a tab moves to the next column that is one more than a multiple of 8.
+/// In `set i /a/;` the name `i` is at line 1 and column 5, which is shown as `1:5`.
 #[derive(Clone, Copy, Debug, PartialEq, Eq, PartialOrd, Ord, Hash)]
 pub struct Place {
     /// The line, from 1.

@@ -4,7 +4,8 @@ ghost use Rattle.std.specs.Hash.DefaultHasher as sip;
 
 use std::hash::{BuildHasher, DefaultHasher, Hasher};
 
-/// Makes hashers that have read a seed: SipHash-1-3 of the seed's eight bytes, followed by those of a key.
+/// Makes hashers that have read a seed: SipHash-1-3 of the seed's eight bytes, followed by those of
+/// a key.
 #[derive(Clone, Copy)]
 pub struct Seeded {
     initial: DefaultHasher,
@@ -38,8 +39,8 @@ impl BuildHasher for Seeded {
 
 /// The seed for the tables of a source: SipHash-1-3 of its bytes.
 ///
-/// The same source has the same seed, so each run does the same. Labels that are chosen to have one hash for one seed
-/// change the bytes of their source, and with them its seed.
+/// The same source has the same seed, so each run does the same. Labels chosen to have one hash
+/// under some seed change the bytes of their source, and so its seed.
 pub fn source_seed(source: &[u8]) -> u64
     ensures { result ≡ sip.finish (sip.write sip.initial source.now) }
 {

@@ -56,7 +56,7 @@ some_cases None b f e = inr e
 some_cases (Some g) None f e = inl e
 some_cases (Some g) (Some h) f e = choice_is (is_before g h) g h f e
 
--- a fault stands at a byte of the source, or at its end
+-- a fault is at a byte of the source, or at its end
 pub answers_within : (source : List ℕ) (a : Option ByteFault) (tokens : List Token) (b : Option ByteFault) (f : ByteFault) → length (code_text source) ≡ length source → IsFirstFault (IsLineFault source) a → IsReading source (code_text source) tokens b → earlier a b ≡ Some f → f.at ≤ length source
 answers_within source a tokens b f long p q e = elim (some_cases a b f e) [
   | inl h ↦ let first : IsFirstFault (IsLineFault source) (Some f) = subst (IsFirstFault (IsLineFault source)) h p in omega (arith, fault_within source f first.0)

@@ -1,4 +1,5 @@
--- Between the tokens of a source stand blanks, line ends and descriptive texts, and a line end is a token where it ends something.
+-- Between the tokens of a source there are blanks, line ends and descriptive texts, and a line end
+-- is a token if it ends something.
 use Rattle.std.proofs.Common.{◌≡◌, inl, inr, ℕ, ◌+◌, ◌-◌, ◌==◌, ◌≤◌, ◌&&◌, ◌||◌, Bool, true, false, not, nat_lt, nat_le, if◌then◌else◌, List, [], ◌∷◌, ◌++◌, length, take, drop, Ok, Err, refl, sym, ap, ◌∙◌, subst, arith, append_assoc, append-nil}
 use Rattle.std.proofs.lemmas.Bool.Decides.{nat_tests}
 use Rattle.std.proofs.lemmas.List.{length-drop, drop-drop}
@@ -77,7 +78,7 @@ skipped_more text from start bytes le so_far piece =
 skipped_none : (text : List ℕ) (at : ℕ) → AreSkipped (take (at - at) (drop at text))
 skipped_none text at = let none : 0 ≡ at - at = omega arith in subst (λ k. AreSkipped (take k (drop at text))) none AreSkipped-none
 
--- a piece, and the tokens behind it
+-- a piece, and the tokens after it
 piece_apart : (source text : List ℕ) (from start bytes : ℕ) (piece : Piece) (tokens : List CodeToken) → from ≤ start → AreSkipped (take (start - from) (drop from text)) → IsSkippedPiece piece (take bytes (drop start text)) → ((next : ℕ) → next ≤ start + bytes → AreSkipped (take (start + bytes - next) (drop next text)) → AreApart text next tokens) → AreApart text from (token_at (place_of source start) piece start (start + bytes) ++ tokens)
 piece_apart source text from start bytes (Token kind) tokens le so_far piece others = (le, so_far, others (start + bytes) (omega arith) (skipped_none text (start + bytes)))
 piece_apart source text from start bytes Gap tokens le so_far piece others = others from (omega arith) (skipped_more text from start bytes le so_far piece)

@@ -19,7 +19,7 @@ before_false f g h = elim (true_or_false (nat_lt g.at f.at)) [
   | inr ge ↦ inr (grind (arith, nat_tests, h, ge))
 ]
 
--- a fault that comes before another comes before all behind it
+-- a fault that comes before another comes before all after it
 pub before_trans : (f g h : ByteFault) → IsBefore f g → IsBefore g h → IsBefore f h
 before_trans f g h (inl a) (inl b) = inl (omega arith)
 before_trans f g h (inl a) (inr b) = inl (omega (arith, b.0))

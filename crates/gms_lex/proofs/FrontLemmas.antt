@@ -1,4 +1,4 @@
--- The front of a text: how many of its bytes pass a test, and with what it begins.
+-- The start of a text: how many of its bytes pass a test, and with what it begins.
 use Rattle.std.proofs.Common.{◌≡◌, inl, inr, ℕ, zero, suc, ◌+◌, ◌<◌, ◌≤◌, ◌&&◌, Bool, true, false, cond, List, [], ◌∷◌, ◌++◌, length, take, refl, sym, ap, subst, arith}
 use Rattle.std.specs.List.{prefix_len, list_all}
 use Rattle.gms_lines.specs.Lines.{begins}
@@ -16,7 +16,7 @@ pub not_both : {A : Type 0} (b : Bool) → b ≡ true → b ≡ false → A
 not_both true h g = absurd (cc)
 not_both false h g = absurd (cc)
 
--- a front of bytes that pass is no longer than their run
+-- a prefix whose bytes all pass is no longer than their run
 pub front_most : (test : ℕ → Bool) (n : ℕ) (text : List ℕ) → n ≤ length text → list_all test (take n text) ≡ true → n ≤ prefix_len test text
 front_most test zero text le h = omega arith
 front_most test (suc n) [] le h = absurd (omega arith)
@@ -47,19 +47,19 @@ run_over test (b ∷ front) text h =
 pub run_stops : (test : ℕ → Bool) (b : ℕ) (text : List ℕ) → test b ≡ false → prefix_len test (b ∷ text) ≡ 0
 run_stops test b text f = ap (λ v. cond v (1 + prefix_len test text) 0) f
 
--- a front begins as the text does
+-- a nonempty prefix begins as the text does
 pub begins_take : (test : ℕ → Bool) (n : ℕ) (text : List ℕ) → 0 < n → begins test (take n text) ≡ begins test text
 begins_take test zero text some = absurd (omega arith)
 begins_take test (suc n) [] some = refl
 begins_take test (suc n) (b ∷ text) some = refl
 
--- where a front begins so, the text does
+-- if a prefix passes the test at its start, so does the text
 pub begins_front : (test : ℕ → Bool) (n : ℕ) (text : List ℕ) → begins test (take n text) ≡ true → begins test text ≡ true
 begins_front test zero text h = cc
 begins_front test (suc n) [] h = h
 begins_front test (suc n) (b ∷ text) h = h
 
--- where a text begins so, it does with more behind it
+-- if a text passes the test at its start, it does with more after it
 pub begins_append : (test : ℕ → Bool) (text behind : List ℕ) → begins test text ≡ true → begins test (text ++ behind) ≡ true
 begins_append test [] behind h = cc
 begins_append test (b ∷ text) behind h = h

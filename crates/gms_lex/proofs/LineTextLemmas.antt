@@ -1,4 +1,4 @@
--- What stands on one line of code stands so in the source.
+-- A text on one line of code is the same in the source.
 use Rattle.std.proofs.Common.{◌≡◌, ◌⊎◌, inl, inr, ℕ, zero, suc, ◌+◌, ◌-◌, ◌==◌, ◌||◌, ◌<◌, ◌≤◌, Bool, false, if◌then◌else◌, List, [], ◌∷◌, ◌++◌, length, take, drop, get_or, map, refl, sym, ap, ◌∙◌, subst, arith, length-append}
 use Rattle.std.proofs.lemmas.Bool.Decides.{nat_tests}
 use Rattle.std.proofs.lemmas.List.{length-map, take-append-le, drop-append-le, get_or-take, get_or-drop, get_or_append_left, length-drop}
@@ -107,13 +107,13 @@ feed_kept Comment line k below h = feed_blanked line k h
 feed_kept Control line k below h = feed_blanked line k h
 feed_kept Code line k below h = h
 
--- a front has at most so many bytes, and no more than there are
+-- a prefix of n bytes has at most n
 pub length-take_most : (n : ℕ) (text : List ℕ) → length (take n text) ≤ n
 length-take_most zero text = omega arith
 length-take_most (suc n) [] = omega arith
 length-take_most (suc n) (b ∷ text) = omega (arith, length-take_most n text)
 
--- a front has no more bytes than the text
+-- a prefix has no more bytes than the text
 pub length-take_all : (n : ℕ) (text : List ℕ) → length (take n text) ≤ length text
 length-take_all zero text = omega arith
 length-take_all (suc n) [] = omega arith
@@ -136,7 +136,7 @@ line_same Comment line lo n s = absurd (not_solid line lo n s)
 line_same Control line lo n s = absurd (not_solid line lo n s)
 line_same Code line lo n s = refl
 
--- so many bytes of a line that end on it
+-- n bytes of a line that end on it
 pub on_line : (read rest : List ℕ) (lo n : ℕ) → lo + n ≤ length read → take n (drop lo (read ++ rest)) ≡ take n (drop lo read)
 on_line read rest lo n le = ap (take n) (drop-append-le lo read rest (omega arith)) ∙ take-append-le n (drop lo read) rest (omega (arith, length-drop lo read))
 
@@ -160,7 +160,7 @@ stays_on class line rest lo n feed below s = elim (below_or (length line) (lo + 
       absurd (s.no_feed k there)
 ]
 
--- What stands on one line of code stands so in the source.
+-- A text on one line of code is the same in the source.
 same_text : (inside : Bool) (ls : List (List ℕ)) (lo n : ℕ) → AreEnded ls → lo + n ≤ length (code_of inside ls) → IsSolid (take n (drop lo (code_of inside ls))) → take n (drop lo (code_of inside ls)) ≡ take n (drop lo (joined ls))
 same_text inside [] lo n ended le s = refl
 same_text inside (line ∷ others) lo n ended le s =
@@ -184,7 +184,7 @@ same_text inside (line ∷ others) lo n ended le s =
           code_is ∙ line_same class line lo n (subst IsSolid code_is s) ∙ sym (on_line line (joined others) lo n fits)
     ]
 
--- a solid text of the code stands so in the source
+-- a solid text of the code is the same in the source
 pub solid_same : (source : List ℕ) (lo n : ℕ) → lo + n ≤ length source → IsSolid (take n (drop lo (code_text source))) → take n (drop lo (code_text source)) ≡ take n (drop lo source)
 solid_same source lo n le s =
     same_text false (lines source) lo n (lines-ended source) (omega (arith, length-code_text source)) s ∙ ap (λ t. take n (drop lo t)) (joined-lines source)

@@ -1,4 +1,4 @@
--- What stands first in a text is the longest token, or text, that the mode allows there.
+-- The first piece of a text is the longest token, or text, that the mode allows there.
 use Rattle.std.proofs.Common.{◌≡◌, ◌⊎◌, inl, inr, ℕ, zero, suc, ◌+◌, ◌==◌, ◌<◌, ◌≤◌, ◌&&◌, ◌||◌, Bool, true, false, not, nat_lt, nat_le, if◌then◌else◌, List, [], ◌∷◌, ◌++◌, length, take, drop, Ok, Err, refl, sym, ap, ◌∙◌, subst, arith, length-append, length-take}
 use Rattle.std.proofs.lemmas.Bool.Decides.{nat_tests}
 use Rattle.std.proofs.lemmas.List.{length-take-le}
@@ -192,7 +192,7 @@ code_longest allowed kind text quotes may others =
 
 -- ---- tokens of lists
 
--- the spelling of a token where an element is due
+-- the spelling of a token where an element is expected
 abbrev IsSpelledElement : List ℕ → Type 0
 IsSpelledElement text = IsLabel text ⊎ (IsQuoted text ⊎ ((s : Sym) × IsSymbol s text))
 
@@ -225,7 +225,7 @@ element_symbol_only text label quote n (inl other) = not_both (begins is_ascii_a
 element_symbol_only text label quote n (inr (inl q)) = not_both (begins is_quote text) (quoted_begins n text q) quote
 element_symbol_only text label quote n (inr (inr s)) = s
 
--- a token where an element is due is the longest
+-- the first token where an element is expected is the longest
 element_longest : (allowed : Allowing) (text : List ℕ) → ((piece : Piece) (n : ℕ) → IsElement piece (take n text) → allowed piece n) → ((other : Piece) (n : ℕ) → n ≤ length text → allowed other n → IsSpelledElement (take n text)) → IsLongestRead allowed text (label_token text)
 element_longest allowed text may others =
     let run : ℕ = prefix_len is_label_byte text in
@@ -285,7 +285,7 @@ text_longest marks text none =
 mark_or_text_longest : (marks : ℕ → Bool) (text : List ℕ) → IsLongestRead (λ piece n. IsMarkOrText marks piece (take n text)) text (if begins marks text then symbol text else remark text)
 mark_or_text_longest marks text = if_longest (λ piece n. IsMarkOrText marks piece (take n text)) text (begins marks text) _ _ (mark_longest marks text) (text_longest marks text)
 
--- ---- behind an element of a list
+-- ---- after an element of a list
 
 is_label_quoted : (t b : List ℕ) → IsQuoted t → IsCode Label (Token Label) t b
 is_label_quoted t b h = (refl, h)
@@ -309,7 +309,8 @@ value_spelled Spaced piece text behind h = code_spelled Label piece text behind 
 value_spelled Fresh piece text behind h = code_spelled Label piece text behind h
 value_spelled Due piece text behind h = code_spelled Label piece text behind h
 
--- what a value is behind an element: not a number that begins with a dot, where the element stands right before
+-- what a value is after an element: not a number that begins with a dot, if it directly follows the
+-- element
 code_value : (piece : Piece) (text behind : List ℕ) → begins_dot text ≡ false → IsCode Label piece text behind → IsValue After piece text behind
 code_value (Token Number) text behind dot h = (h, dot)
 code_value (Token Word) text behind dot h = h
@@ -333,13 +334,14 @@ no_mark_no_dot (b ∷ text) h = elim (true_or_false (b == 46)) [
   | inr other ↦ other
 ]
 
--- a front of a text that begins with no dot begins with none
+-- a prefix of a text that begins with no dot begins with none
 front_no_dot : (n : ℕ) (text : List ℕ) → begins_dot text ≡ false → begins_dot (take n text) ≡ false
 front_no_dot zero text h = refl
 front_no_dot (suc n) [] h = refl
 front_no_dot (suc n) (b ∷ text) h = h
 
--- what begins with a mark and is spelled as a token of code, but is no number with a dot, is a symbol
+-- what begins with a mark and is spelled as a token of code, but is no number with a dot, is a
+-- symbol
 mark_only : (text : List ℕ) → begins is_element_mark text ≡ true → (n : ℕ) → (IsNumber (take n text) (drop n text) → begins_dot text ≡ false) → IsSpelledCode (take n text) (drop n text) → (s : Sym) × IsSymbol s (take n text)
 mark_only text mark n dot (inl word) = begins_apart is_element_mark is_ascii_alphabetic text mark_letter mark (begins_front is_ascii_alphabetic n text word.0)
 mark_only text mark n dot (inr (inl number)) = elim (number_front text (number_begins n text number)) [
@@ -349,7 +351,7 @@ mark_only text mark n dot (inr (inl number)) = elim (number_front text (number_b
 mark_only text mark n dot (inr (inr (inl quote))) = begins_apart is_element_mark is_quote text mark_quote mark (quoted_begins n text quote)
 mark_only text mark n dot (inr (inr (inr s))) = s
 
--- a number that begins as its front does
+-- a number begins with a dot only if its text does
 dot_of_front : (n : ℕ) (text : List ℕ) → IsNumber (take n text) (drop n text) → begins_dot (take n text) ≡ false → begins_dot text ≡ false
 dot_of_front zero text number h =
     let long : 0 ≡ length number.whole + (length number.point + length number.exponent) = omega (arith, ap length number.spelled, length-append number.whole (number.point ++ number.exponent), length-append number.point number.exponent) in
@@ -357,7 +359,7 @@ dot_of_front zero text number h =
 dot_of_front (suc n) [] number h = refl
 dot_of_front (suc n) (b ∷ text) number h = h
 
--- a number is allowed right behind an element only where it begins with no dot
+-- directly after an element a number may not begin with a dot
 after_number : (piece : Piece) (n : ℕ) (text : List ℕ) → IsValue After piece (take n text) (drop n text) → begins is_element_mark text ≡ true → (s : Sym) × IsSymbol s (take n text)
 after_number (Token Number) n text h mark = elim (number_front text (number_begins n text h.0)) [
   | inl d ↦ begins_apart is_element_mark is_ascii_digit text mark_digit mark d
@@ -392,7 +394,7 @@ and_false : (b : Bool) → (b && true) ≡ false → b ≡ false
 and_false true h = h
 and_false false h = refl
 
--- in a parameter's list outside parentheses, right behind an element
+-- in a parameter's list outside parentheses, directly after an element
 parameter_after : (text : List ℕ) → IsLongestRead (λ piece n. IsValue After piece (take n text) (drop n text)) text (behind_label Parameter 0 After text)
 parameter_after text =
     let allowed : Allowing = λ piece n. IsValue After piece (take n text) (drop n text) in
@@ -402,7 +404,7 @@ parameter_after text =
     let none : begins_dot text ≡ false = no_mark_no_dot text (and_false (begins is_element_mark text) mark) in
     code_longest allowed Label text is_label_quoted (λ piece n h. code_value piece (take n text) (drop n text) (front_no_dot n text none) h) (λ other n le h. value_spelled After other (take n text) (drop n text) h))
 
--- in a parameter's list outside parentheses, behind a blank
+-- in a parameter's list outside parentheses, after a blank
 parameter_spaced : (text : List ℕ) → IsLongestRead (λ piece n. IsValue Spaced piece (take n text) (drop n text)) text (behind_label Parameter 0 Spaced text)
 parameter_spaced text =
     let allowed : Allowing = λ piece n. IsValue Spaced piece (take n text) (drop n text) in
@@ -426,7 +428,7 @@ element_mark_only text mark n (inl label) = begins_apart is_element_mark is_asci
 element_mark_only text mark n (inr (inl quote)) = begins_apart is_element_mark is_quote text mark_quote mark (quoted_begins n text quote)
 element_mark_only text mark n (inr (inr s)) = s
 
--- in parentheses of a list, behind an element
+-- in parentheses of a list, after an element
 inside_longest : (text : List ℕ) → IsLongestRead (λ piece n. IsElement piece (take n text)) text (if begins is_element_mark text && true then symbol text else label_token text)
 inside_longest text =
     let allowed : Allowing = λ piece n. IsElement piece (take n text) in
@@ -437,7 +439,7 @@ inside_longest text =
 due_longest : (text : List ℕ) → IsLongestRead (λ piece n. IsElement piece (take n text)) text (label_token text)
 due_longest text = element_longest (λ piece n. IsElement piece (take n text)) text (λ piece n h. h) (λ other n le h. element_spelled other (take n text) h)
 
--- behind an element, with blanks between or without
+-- after an element, with blanks between or without
 abbrev IsBehind : Stage → Type 0
 IsBehind Fresh = ⊥
 IsBehind Due = ⊥
@@ -459,7 +461,7 @@ outside_longest shape Due text h = absurd h
 positive : (depth : ℕ) → (suc depth == 0) ≡ false
 positive depth = grind (arith, nat_tests)
 
--- what stands behind an element within parentheses
+-- what follows an element within parentheses
 nested_is : (shape : Shape) (depth : ℕ) (stage : Stage) (text : List ℕ) → behind_label shape (suc depth) stage text ≡ (if begins is_element_mark text && true then symbol text else label_token text)
 nested_is Set depth stage text = ap (λ v. if begins is_element_mark text && true then symbol text else (if v then element_tail Set text else label_token text)) (positive depth)
 nested_is Scalar depth stage text = ap (λ v. if begins is_element_mark text && true then symbol text else (if v then element_tail Scalar text else label_token text)) (positive depth)
@@ -707,7 +709,7 @@ space_space (b ∷ text) = elim (true_or_false (begins_other (b ∷ text))) [
       subst (λ v. list_all is_space (take (if v then 0 else 1 + before begins_other text) (b ∷ text)) ≡ true) (sym f) here
 ]
 
--- ---- what stands first
+-- ---- the first piece
 
 -- a piece with a text is the longest that is allowed; any other is blank
 abbrev pub IsDue : Allowing → List ℕ → Lexeme → Type 0
@@ -758,15 +760,15 @@ piece_due : (current : Mode) (text : List ℕ) → IsDueRead (IsAllowed current 
 piece_due TableLines text = table_due text
 piece_due current text = plain_due (IsAllowed current text) current text (longest_due (IsAllowed current text) text (token_at current text) (allowed_tells current text) (plain_read current text))
 
--- what stands first in a text
+-- the first piece of a text
 pub due : (current : Mode) (text : List ℕ) (p : Lexeme) → piece_at current text ≡ Ok p → IsDue (IsAllowed current text) text p
 due current text p e = subst (IsDueRead (IsAllowed current text) text) e (piece_due current text)
 
--- what stands first in a text is the longest that the mode allows there
+-- the first piece of a text is the longest that the mode allows there
 pub longest : (current : Mode) (text : List ℕ) (p : Lexeme) → piece_at current text ≡ Ok p → has_text p.piece ≡ true → IsLongest current text p
 longest current text p e h = let most = (due current text p e).0 h in record { allowed = most.0; longest = most.1 }
 
--- an error stands where nothing is allowed, or the longest that is allowed is no token
+-- an error means that nothing is allowed there, or the longest that is allowed is no token
 pub refused : (current : Mode) (text : List ℕ) (m : Misread) → piece_at current text ≡ Err m → IsRefused current text m
 refused current text m e = elim (subst (IsDueRead (IsAllowed current text) text) e (piece_due current text)) [
   | inl none ↦ inl none

@@ -1,4 +1,5 @@
--- The longest quoted text, symbol or descriptive text that may stand at the front of a text, or why none does.
+-- The longest quoted text, symbol or descriptive text with which a text may begin, or why it begins
+-- with none.
 use Rattle.std.proofs.Common.{◌≡◌, ◌⊎◌, inl, inr, ℕ, zero, suc, ◌+◌, ◌==◌, ◌<◌, ◌≤◌, ◌&&◌, ◌||◌, Bool, true, false, not, nat_lt, if◌then◌else◌, List, [], ◌∷◌, ◌++◌, length, take, drop, Option, Some, None, option_map, find, Ok, Err, refl, sym, ap, ◌∙◌, subst, arith, append_assoc, length-append, get_or}
 use Rattle.std.proofs.lemmas.Bool.Decides.{nat_tests}
 use Rattle.std.proofs.lemmas.List.{get_or-take, length-take-le, take-append-drop}
@@ -23,7 +24,7 @@ use Rattle.gms_lex.proofs.FrontLemmas.{both_true, not_both, front_most, front_al
 use Rattle.gms_lex.proofs.UnquotedLemmas.{unquoted_inner}
 use Rattle.gms_lex.proofs.SymbolLemmas.{is_outside, symbol_length, symbol_outside, IsFirstSymbol, found_first, none_first}
 
--- what is allowed at the front of a text: a piece of so many bytes
+-- what is allowed at the start of a text: a piece of n bytes
 abbrev pub Allowing : Type 1
 Allowing = Piece → ℕ → Type 0
 
@@ -170,7 +171,8 @@ unquoted_begins (suc n) text h = sym (begins_take is_quote (suc n) text (omega a
 some_from_test : (n : ℕ) → (n == 0) ≡ false → 0 < n
 some_from_test n h = grind (arith, nat_tests, h)
 
--- where a text begins with neither a quotation mark nor a byte of an unquoted text, it begins with no text
+-- if a text begins with neither a quotation mark nor a byte of an unquoted text, it begins with no
+-- descriptive text
 no_text_run : (text : List ℕ) → begins is_quote text ≡ false → (prefix_len is_text_byte text == 0) ≡ true → (n : ℕ) → n ≤ length text → IsText (take n text) → ⊥
 no_text_run text plain none n le (inl q) = not_both (begins is_quote text) (quoted_begins n text q) plain
 no_text_run text plain none n le (inr u) =

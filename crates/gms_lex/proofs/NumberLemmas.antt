@@ -65,7 +65,7 @@ number_at text whole point rest more digits behind dot after =
     let m : drop (decimal_length text) text ≡ more = ap (λ k. drop k text) d ∙ sym (drop-drop point whole text) ∙ ap (drop point) behind ∙ after in
     omega (arith, d, ap exponent_length m)
 
--- how many bytes a dot takes behind which no other dot stands, with the digits behind it
+-- how many bytes a dot takes that no other dot follows, with the digits after it
 point_at : (b : ℕ) (rest : List ℕ) → b ≡ 46 → begins_dot rest ≡ false → point_length (b ∷ rest) ≡ 1 + digit_count rest
 point_at b rest dot none =
     let test : (begins_dot (b ∷ rest) && not (begins_dot rest)) ≡ true = and_true (begins_dot (b ∷ rest)) (not (begins_dot rest)) (is_dot b dot) (ap not none) in
@@ -74,7 +74,7 @@ point_at b rest dot none =
 no_point : (b : ℕ) (rest : List ℕ) → (b == 46) ≡ false → point_length (b ∷ rest) ≡ 0
 no_point b rest other = ap (λ v. if v && not (begins_dot rest) then 1 + digit_count rest else 0) other
 
--- behind digits, of which there may be none, stands no dot
+-- no dot follows digits, of which there may be none
 digits_then : (digits rest : List ℕ) → list_all is_ascii_digit digits ≡ true → (digits ≡ [] → begins_dot rest ≡ false) → begins_dot (digits ++ rest) ≡ false
 digits_then [] rest h none = none refl
 digits_then (d ∷ digits) rest h none = digit_no_dot d (both_true (is_ascii_digit d) (list_all is_ascii_digit digits) h).0
@@ -112,12 +112,12 @@ parts_most whole [] exponent behind all fraction power alone = omega (arith, unp
 parts_most whole (b ∷ digits) exponent behind all fraction power alone =
     pointed whole b digits exponent behind all fraction.0 fraction.1 power (digits_then digits (exponent ++ behind) fraction.1 (λ e. alone (ap (λ c. c ∷ digits) fraction.0 ∙ ap (λ ds. 46 ∷ ds) e)))
 
--- a text is the number at its front and what stands behind it
+-- a text is the number at its start and what follows it
 whole_text : (n : ℕ) (text whole point exponent : List ℕ) → take n text ≡ whole ++ (point ++ exponent) → whole ++ (point ++ (exponent ++ drop n text)) ≡ text
 whole_text n text whole point exponent e =
     ap (λ t. whole ++ t) (sym (append_assoc point exponent (drop n text))) ∙ sym (append_assoc whole (point ++ exponent) (drop n text)) ∙ ap (λ t. t ++ drop n text) (sym e) ∙ take-append-drop n text
 
--- no number at the front of a text is longer than that with which it begins
+-- no number at the start of a text is longer than the one found there
 pub number_most : (n : ℕ) (text : List ℕ) → n ≤ length text → IsNumber (take n text) (drop n text) → n ≤ number_length text
 number_most n text le h =
     let same = whole_text n text h.whole h.point h.exponent h.spelled in
@@ -156,7 +156,7 @@ power_plain : (text : List ℕ) → AreDigits text → IsPower text
 power_plain [] h = not_both false h.0 refl
 power_plain (b ∷ digits) h = inl h
 
--- a sign and the digits behind it, by how many bytes the sign takes
+-- a sign and the digits after it, by how many bytes the sign takes
 abbrev IsPowerAt : List ℕ → ℕ → Type 0
 IsPowerAt text sign = IsPower (take (sign + digit_count (drop sign text)) text)
 
@@ -224,7 +224,7 @@ no_digits : (text : List ℕ) → begins is_ascii_digit text ≡ false → digit
 no_digits [] h = refl
 no_digits (b ∷ text) h = run_stops is_ascii_digit b text h
 
--- a digit stands before the exponent
+-- a digit precedes the exponent
 number_some : (text : List ℕ) → begins_number text ≡ true → (0 < length (take (digit_count text) text)) ⊎ (1 < length (take (point_length (drop (digit_count text) text)) (drop (digit_count text) text)))
 number_some text h = elim (true_or_false (begins is_ascii_digit text)) [
   | inl d ↦ inl (omega (arith, length-prefix_len is_ascii_digit text, run_within is_ascii_digit is_ascii_digit (λ b g. g) text d))
@@ -245,7 +245,7 @@ not_true : (b : Bool) → not b ≡ true → b ≡ false
 not_true true h = cc
 not_true false h = refl
 
--- a dot alone has no other dot behind it
+-- a dot alone has no other dot after it
 point_alone : (text : List ℕ) → take (point_length text) text ≡ 46 ∷ [] → begins_dot (drop (point_length text) text) ≡ false
 point_alone [] h = absurd (omega (arith, ap length h))
 point_alone (b ∷ rest) h = elim (true_or_false (begins_dot (b ∷ rest) && not (begins_dot rest))) [

@@ -1,4 +1,5 @@
--- In each mode, what a text begins with takes at least one byte, and no more than there are; an error stands no further ahead.
+-- In each mode, the first piece of a text has at least one byte and at most all of them; the place
+-- of an error is no further on.
 use Rattle.std.proofs.Common.{◌≡◌, inl, inr, ℕ, suc, ◌==◌, ◌&&◌, ◌||◌, ◌<◌, ◌≤◌, Bool, true, false, not, nat_lt, nat_le, if◌then◌else◌, List, [], ◌∷◌, length, drop, sym, subst, arith}
 use Rattle.std.proofs.lemmas.Bool.Decides.{nat_tests}
 use Rattle.std.proofs.lemmas.List.{length-take-le}
@@ -82,7 +83,7 @@ token_at_within current text = code_token_within Text text
 blanks_some : (text : List ℕ) → begins is_blank text ≡ true → 0 < prefix_len is_blank text
 blanks_some text h = run_within is_blank is_blank (λ b g. g) text h
 
--- what stands first in a mode outside the lines of a table
+-- the first piece in a mode outside the lines of a table
 pub plain_within : (current : Mode) (text : List ℕ) → IsWithin text (plain_piece current text)
 plain_within current text =
     if_within text (begins is_blank text) _ _
@@ -95,7 +96,7 @@ some_of_and n b h = grind (arith, nat_tests, h)
 some_of_or : (n : ℕ) (b : Bool) → (n == 0 || b) ≡ false → 0 < n
 some_of_or n b h = grind (arith, nat_tests, h)
 
--- what stands first where the lines of a table may go on
+-- the first piece where the lines of a table may continue
 pub table_within : (text : List ℕ) → IsWithin text (table_piece text)
 table_within text =
     let blanks = prefix_len is_blank text in
@@ -109,7 +110,7 @@ table_within text =
     (λ _. code_token_within Text text)
     (λ h. table_line_within bytes text (some_of_or bytes _ h) le)))
 
--- what stands first lies within the text
+-- the first piece is within the text
 pub piece_within : (current : Mode) (text : List ℕ) → IsWithin text (piece_at current text)
 piece_within TableLines text = table_within text
 piece_within current text = plain_within current text

@@ -1,4 +1,4 @@
--- Each token of a source takes bytes of it, stands at the place of the first, and is spelled as its kind.
+-- Each token of a source takes bytes of it, has the place of the first, and is spelled as its kind.
 use Rattle.std.proofs.Common.{◌≡◌, inl, ℕ, zero, suc, ◌+◌, ◌-◌, ◌≤◌, List, [], ◌∷◌, length, take, drop, All, refl, sym, ap, ◌∙◌, subst, arith}
 use Rattle.std.proofs.lemmas.List.{length-drop, drop-drop}
 use Rattle.std.proofs.lemmas.List.Elements.{All-append}
@@ -34,7 +34,7 @@ All-none P k d lt = absurd (omega arith)
 spelled_same : (source : List ℕ) (start bytes : ℕ) → start + bytes ≤ length source → IsSolid (take bytes (drop start (code_text source))) → take bytes (drop start (code_text source)) ≡ take (start + bytes - start) (drop start source)
 spelled_same source start bytes le solid = solid_same source start bytes le solid ∙ ap (λ n. take n (drop start source)) (let e : bytes ≡ start + bytes - start = omega arith in e)
 
--- no fault of a line stands in the source
+-- no line of the source has a fault
 abbrev IsSound : List ℕ → Type 0
 IsSound source = (fault : ByteFault) → IsLineFault source fault → ⊥
 
@@ -52,7 +52,7 @@ spelled source start bytes TableLine sound le named =
     subst (λ n. IsSpelled TableLine (take n (drop start source))) e (subst IsAscii same.0 named.ascii, omega (arith, length-take_most bytes (drop start source), same.1))
 spelled source start bytes End sound le named = tt
 
--- a piece of so many bytes gives a token that is placed
+-- a piece of `bytes` bytes gives a token that is placed
 token_placed : (source : List ℕ) (start bytes : ℕ) (piece : Piece) → IsSound source → start + bytes ≤ length source → IsNamed piece bytes (drop start (code_text source)) → All (IsPlaced source) (token_at (place_of source start) piece start (start + bytes))
 token_placed source start bytes Gap sound le named = All-none (IsPlaced source)
 token_placed source start bytes LineEnd sound le named = All-none (IsPlaced source)

@@ -16,19 +16,19 @@ use Rattle.gms_lex.specs.Tokens.{IsMadeOf, length_of, token_at, tokens_of, end_t
 use Rattle.gms_lex.specs.Readings.{IsReading}
 use Rattle.gms_lex.proofs.PieceLemmas.{piece_within}
 
--- no piece stands first in the text
+-- the text begins with no piece
 abbrev pub BeginsNone : Mode → List ℕ → Type 0
 BeginsNone current text = (p : Lexeme) → piece_at current text ≡ Ok p → ⊥
 
--- a piece that stands first lies within the text
+-- the first piece is within the text
 pub lexeme_within : (current : Mode) (text : List ℕ) (p : Lexeme) → piece_at current text ≡ Ok p → (0 < p.length) × (p.length ≤ length text)
 lexeme_within current text p e = subst (IsWithin text) e (piece_within current text)
 
--- an error that stands in place of a piece does so too
+-- an error instead of a piece is so too
 pub misread_within : (current : Mode) (text : List ℕ) (m : Misread) → piece_at current text ≡ Err m → m.ahead ≤ length text
 misread_within current text m e = subst (IsWithin text) e (piece_within current text)
 
--- no piece stands first in nothing
+-- an empty text begins with no piece
 BeginsNone-nothing : (current : Mode) → BeginsNone current []
 BeginsNone-nothing current p e = let h = lexeme_within current [] p e in omega arith
 
@@ -36,7 +36,7 @@ BeginsNone-nothing current p e = let h = lexeme_within current [] p e in omega a
 BeginsNone-misread : (current : Mode) (text : List ℕ) (m : Misread) → piece_at current text ≡ Err m → BeginsNone current text
 BeginsNone-misread current text m e p h = let z : Err m ≡ Ok p = sym e ∙ h in cc
 
--- pieces with nothing behind them are known by the text
+-- the text determines its pieces, if none follows them
 pub IsMadeOf-unique : (current : Mode) (text : List ℕ) (ps qs : List Lexeme) (l m : Mode) (r s : List ℕ) → BeginsNone l r → BeginsNone m s → IsMadeOf current text ps l r → IsMadeOf current text qs m s → (ps ≡ qs) × (l ≡ m) × (r ≡ s)
 IsMadeOf-unique current text [] [] l m r s stops halts p q = (refl, p.0 ∙ sym q.0, p.1 ∙ sym q.1)
 IsMadeOf-unique current text [] (y ∷ qs) l m r s stops halts p q =
@@ -79,7 +79,7 @@ pub record Opens (source text : List ℕ) (tokens : List Token) (start : ℕ) (c
   pub long : length_of pieces ≡ start
   pub tokens_are : tokens ≡ tokens_of source 0 pieces
 
--- at the front of the text
+-- at the start of the text
 pub Opens-front : (source text : List ℕ) → Opens source text [] 0 Code
 Opens-front source text = record { pieces = []; made = (refl, refl); long = refl; tokens_are = refl }
 
@@ -92,7 +92,7 @@ Opens-next source text tokens start current p opens there = record {
   tokens_are = ap (λ (ts : List Token). ts ++ token_at (place_of source start) p.piece start (start + p.length)) opens.tokens_are ∙ sym (tokens_of-step source 0 opens.pieces p start (omega (arith, opens.long)));
 }
 
--- where an error stands in place of a piece
+-- at an error instead of a piece
 pub Opens-stops : (source text : List ℕ) (tokens : List Token) (start : ℕ) (current : Mode) (m : Misread) → Opens source text tokens start current → start < length text → piece_at current (drop start text) ≡ Err m → StopsAt text record { at = start + m.ahead; error = m.error } × (start + m.ahead ≤ length text)
 Opens-stops source text tokens start current m opens some there = (
   record {
@@ -118,7 +118,7 @@ Opens-end source text tokens start current opens end long = record {
   tokens_are = ap (λ (ts : List Token). ts ++ end_token source ∷ []) opens.tokens_are;
 }
 
--- Pieces lead from the front of the text to its end, or to a byte at which an error stands in place of a piece.
+-- Pieces lead from the start of the text to its end, or to a byte with an error instead of a piece.
 pub record ReadsTo (current : Mode) (text : List ℕ) : Type 0 where
   pub pieces : List Lexeme
   pub last : Mode

@@ -1,4 +1,4 @@
--- Words, labels and quoted texts stand on one line, and are spelled as their kinds.
+-- Words, labels and quoted texts are on one line, and are spelled as their kinds.
 use Rattle.std.proofs.Common.{◌≡◌, inl, inr, ℕ, zero, suc, ◌+◌, ◌-◌, ◌==◌, ◌&&◌, ◌||◌, ◌<◌, ◌≤◌, Bool, true, false, not, nat_lt, nat_le, if◌then◌else◌, List, [], ◌∷◌, length, take, drop, get_or, Option, Some, None, Ok, Err, refl, sym, ap, ◌∙◌, subst, arith}
 use Rattle.std.proofs.lemmas.Bool.Decides.{nat_tests}
 use Rattle.std.proofs.lemmas.List.{get_or-take, length-take-le, drop_more}
@@ -34,7 +34,8 @@ use Rattle.gms_lex.proofs.LineTextLemmas.{IsSolidByte, IsSolid, length-take_most
 use Rattle.gms_lex.proofs.TableLemmas.{IsTableText}
 use Rattle.gms_lex.proofs.UnquotedLemmas.{unquoted-le}
 
--- a token whose text names something, so many bytes of a text, stands on one line and is spelled as its kind; nothing is said of others
+-- a token of n bytes whose text names something is on one line and spelled as its kind; other
+-- tokens have no condition
 abbrev pub IsNamed : Piece → ℕ → List ℕ → Type 0
 IsNamed (Token Word) n text = IsSolid (take n text) × IsSpelled Word (take n text)
 IsNamed (Token Label) n text = IsSolid (take n text) × IsSpelled Label (take n text)
@@ -65,7 +66,7 @@ label_byte b h = (grind (arith, nat_tests, h), (differs is_label_byte b 9 h refl
 quote_byte : (b : ℕ) → is_quote b ≡ true → (b < 128) × IsSolidByte b
 quote_byte b h = (grind (arith, nat_tests, h), (differs is_quote b 9 h refl, differs is_quote b 10 h refl, differs is_quote b 13 h refl, differs is_quote b 32 h refl))
 
--- what is behind a text reads as 0
+-- a byte past the end of a text reads as 0
 byte_behind : (text : List ℕ) (k : ℕ) → length text ≤ k → get_or text k 0 ≡ 0
 byte_behind [] k le = refl
 byte_behind (b ∷ text) zero le = absurd (omega arith)
@@ -122,7 +123,7 @@ plain_small b h = grind (arith, nat_tests, h)
 not_feed : (mark b : ℕ) → not (b == mark || b == 10) ≡ true → b ≡ 10 → ⊥
 not_feed mark b h e = grind (arith, nat_tests, h, e)
 
--- the byte at the front of a text that begins with a mark
+-- the first byte of a text that begins with a mark
 closed_mark : (mark : ℕ) (rest : List ℕ) {b : ℕ} {more : List ℕ} → begins (λ c. c == mark) rest ≡ true → rest ≡ b ∷ more → b ≡ mark
 closed_mark mark rest {b} {more} h e = let first : (b == mark) ≡ true = sym (ap (begins (λ c. c == mark)) e) ∙ h in grind (arith, nat_tests, first)
 
@@ -134,7 +135,7 @@ feed_front : (b : ℕ) (text : List ℕ) → (b ≡ 10 → ⊥) → ((k : ℕ) �
 feed_front b text h each zero lt = h
 feed_front b text h each (suc k) lt = each k (omega arith)
 
--- a quoted text of so many bytes between its marks
+-- a quoted text of `quoted_length` bytes between its marks
 quoted_solid : (mark : ℕ) (text : List ℕ) → is_quote mark ≡ true → is_closed mark text ≡ true → quoted_length mark text ≤ prefix_len is_plain (take (quoted_length mark text) text) → IsSolid (mark ∷ take (quoted_length mark text + 1) text)
 quoted_solid mark text quote closed plain =
     let inner = quoted_length mark text in
@@ -165,7 +166,7 @@ quoted_solid mark text quote closed plain =
       solid = is_mark.1;
     }
 
--- the front of a quoted text with both marks
+-- the start of a quoted text with both marks
 quoted_front : (mark : ℕ) (text : List ℕ) (inner : ℕ) → take (inner + 2) (mark ∷ text) ≡ mark ∷ take (inner + 1) text
 quoted_front mark text inner = ap (λ n. take n (mark ∷ text)) (let e : inner + 2 ≡ suc (inner + 1) = omega arith in e)
 
@@ -316,7 +317,7 @@ table_named text =
     (λ _. code_named Text text (quoted_text_named text))
     (λ h. if_named text (nat_lt (prefix_len is_plain (take bytes text)) bytes) _ _ (λ _. tt) (λ plain. table_text text (begins_statement (drop blanks text)) (begins_statement text) gap h plain))))
 
--- what stands first is named, where its text names something
+-- the first piece is named, if its text names something
 pub piece_named : (current : Mode) (text : List ℕ) → IsNamedRead text (piece_at current text)
 piece_named TableLines text = table_named text
 piece_named current text = plain_named current text

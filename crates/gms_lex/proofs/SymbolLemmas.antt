@@ -37,7 +37,7 @@ lower_same b c out h = elim (true_or_false (nat_lt b 65)) [
   ]
 ]
 
--- texts that are the same but for letter case are as long
+-- texts that differ only in letter case have equal lengths
 folded_long : (xs ys : List ℕ) → str_eq_ignore_ascii_case xs ys ≡ true → length xs ≡ length ys
 folded_long [] [] h = refl
 folded_long [] (y ∷ ys) h = cc
@@ -123,7 +123,7 @@ point_symbol s (suc (suc n)) (b ∷ d ∷ text) le dot digit h =
 
 -- ---- the longest
 
--- a symbol stands in a list
+-- a symbol is in a list
 abbrev Stands : Sym → List Sym → Type 0
 Stands s [] = ⊥
 Stands s (x ∷ xs) = (x ≡ s) ⊎ Stands s xs
@@ -158,7 +158,7 @@ each_stands Dollar = inr (inr (inr (inr (inr (inr (inr (inr (inr (inr (inr (inr 
 abbrev pub symbol_length : Sym → ℕ
 symbol_length s = length (written s)
 
--- each symbol of a list has at most so many bytes
+-- each symbol of a list has at most n bytes
 abbrev at_most : ℕ → List Sym → Bool
 at_most n [] = true
 at_most n (x ∷ xs) = nat_le (symbol_length x) n && at_most n xs
@@ -198,7 +198,7 @@ found_longest test (y ∷ ys) x s sorted found there passes = elim (true_or_fals
       ]
 ]
 
--- a symbol that is a front of a text is one with which it begins
+-- a symbol that is a prefix of a text is one with which it begins
 front_begins : (s : Sym) (n : ℕ) (text : List ℕ) → n ≤ length text → IsSymbol s (take n text) → (n ≡ symbol_length s) × (begins_with text (written s) ≡ true)
 front_begins s n text le h =
     let long : n ≡ symbol_length s = omega (arith, folded_long (take n text) (written s) h, length-take-le n text le) in

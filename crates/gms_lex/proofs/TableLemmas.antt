@@ -1,4 +1,4 @@
--- A line of a table stands so in the source, and is no longer than any line.
+-- A line of a table is the same in the source, and is no longer than any line.
 use Rattle.std.proofs.Common.{◌≡◌, ◌⊎◌, inl, inr, ℕ, zero, suc, ◌+◌, ◌-◌, ◌==◌, ◌&&◌, ◌||◌, ◌<◌, ◌≤◌, Bool, true, false, if◌then◌else◌, List, [], ◌∷◌, ◌++◌, length, take, drop, get_or, map, refl, sym, ap, ◌∙◌, subst, arith, length-append}
 use Rattle.std.proofs.lemmas.Bool.Decides.{nat_tests}
 use Rattle.std.proofs.lemmas.List.{get_or-take, get_or-drop, get_or_append_left, length-drop, drop-drop, length-take-le}
@@ -13,7 +13,8 @@ use Rattle.gms_lines.proofs.LineLemmas.{true_or_false, below_or, before_stops, b
 use Rattle.gms_lines.proofs.FirstLemmas.{length-read_as}
 use Rattle.gms_lex.proofs.LineTextLemmas.{HasFeed, AreEnded, lines-ended, joined, joined-lines, byte_blanked, on_line, behind_line}
 
--- so many bytes at the front of a text, of ASCII, stand before its first line end, and one of them is not blank
+-- the first n bytes of a text, all ASCII, come before its first line end, and one of them is not
+-- blank
 pub record IsTableText (n : ℕ) (text : List ℕ) : Type 0 where
   pub ascii : IsAscii (take n text)
   pub within : n ≤ before is_line_end text
@@ -88,7 +89,7 @@ bytes_end (b ∷ []) zero (inr h) = let no : ⊥ = omega (arith, h.1) in absurd 
 bytes_end (b ∷ c ∷ text) zero (inr h) = return_ends b c h.0 h.1
 bytes_end (b ∷ text) (suc k) h = bytes_end text k h
 
--- what is behind a text reads as 0
+-- a byte past the end of a text reads as 0
 none_behind : (text : List ℕ) (k : ℕ) → length text ≤ k → get_or text k 0 ≡ 0
 none_behind [] k le = refl
 none_behind (b ∷ text) zero le = absurd (omega arith)
@@ -111,7 +112,7 @@ end_kept class line rest k h = elim (end_bytes line k h) [
   | inr both ↦ bytes_end (read_as class line ++ rest) k (inr (byte_kept class line rest k 13 refl (omega arith) both.0, byte_kept class line rest (suc k) 10 refl (omega arith) both.1))
 ]
 
--- where a text passes the test, no more bytes stand before
+-- if the text from byte k on passes the test, at most k bytes come before the place
 before_most : (test : List ℕ → Bool) (text : List ℕ) (k : ℕ) → test (drop k text) ≡ true → before test text ≤ k
 before_most test [] k h = omega arith
 before_most test (b ∷ text) zero h = omega (arith, before_stops test (b ∷ text) h)
@@ -120,7 +121,7 @@ before_most test (b ∷ text) (suc k) h = elim (true_or_false (test (b ∷ text)
   | inr e ↦ omega (arith, before_more test b text e, before_most test text k h)
 ]
 
--- where fewer bytes stand before than there are, the rest passes the test
+-- if the place is within the text, the rest passes the test there
 before_ends : (test : List ℕ → Bool) (text : List ℕ) → before test text < length text → test (drop (before test text) text) ≡ true
 before_ends test [] lt = absurd (omega arith)
 before_ends test (b ∷ text) lt = elim (true_or_false (test (b ∷ text))) [
@@ -130,7 +131,7 @@ before_ends test (b ∷ text) lt = elim (true_or_false (test (b ∷ text))) [
       subst (λ k. test (drop k (b ∷ text)) ≡ true) (sym more) (before_ends test text (omega (arith, more, lt)))
 ]
 
--- a text of a table that begins on a line stands in its content
+-- a text of a table that begins on a line is within its content
 stays_in : (class : Class) (line rest : List ℕ) (lo n : ℕ) → ((rest ≡ []) ⊎ HasFeed line) → IsFedOnce line → lo < length line → IsTableText n (drop lo (read_as class line ++ rest)) → lo + n ≤ before is_line_end line
 stays_in class line rest lo n last fed below t =
     let p = before is_line_end line in
@@ -159,7 +160,7 @@ stays_in class line rest lo n last fed below t =
       ]
     ]
 
--- a byte that may stand in a line is blank where the line is read as blank
+-- a byte that a line may contain is blank if the line is read as blank
 blank_of : (b : ℕ) → is_control_byte b ≡ false → is_blank (blanked b) ≡ true
 blank_of b h = grind (arith, nat_tests, h)
 
@@ -218,7 +219,7 @@ in_lines start inside (line ∷ others) lo n ended fed sound t =
           (on_line read rest lo n (omega (arith, long, stays, within)) ∙ same_class class line rest lo n (omega (arith, stays, within)) good t ∙ sym (on_line line (joined others) lo n (omega (arith, stays, within))), omega (arith, short, size, stays))
     ]
 
--- a line of a table stands so in a source without faults of lines, and is no longer than any line
+-- a line of a table is the same in a source without faults of lines, and is no longer than any line
 pub table_same : (source : List ℕ) (lo n : ℕ) → ((fault : ByteFault) → IsLineFault source fault → ⊥) → IsTableText n (drop lo (code_text source)) → IsSame n (drop lo (code_text source)) (drop lo source)
 table_same source lo n sound t =
     let h = in_lines 0 false (lines source) lo n (lines-ended source) (lines-fed source) sound t in

@@ -1,5 +1,5 @@
--- What stands between tokens, and where a line end is a token (GAMS User's Guide, "Language Items", "GAMS Programs", data
--- declarations and lists).
+-- What separates tokens, and where a line end is a token (GAMS User's Guide, "Language Items",
+-- "GAMS Programs", data declarations and lists).
 use Rattle.std.specs.Prelude.{◌≡◌, ◌⊎◌, ℕ, ◌-◌, ◌≤◌, Bool, true, not, ◌||◌, ◌==◌, List, [], ◌∷◌, take, drop}
 use Rattle.std.specs.List.{list_all, concat, AllByRecursion}
 use Rattle.gms_lines.specs.Lines.{begins, is_blank, is_line_end}
@@ -25,14 +25,14 @@ IsSkipped text = (list_all is_space text ≡ true) ⊎ IsText text
 abbrev pub AreSkipped : List ℕ → Type 0
 AreSkipped text = (parts : List (List ℕ)) × (text ≡ concat parts) × AllByRecursion IsSkipped parts
 
--- Tokens stand one behind the other in a text, the first at this byte or behind it, and between them are only blanks, line ends and
--- descriptive texts.
+-- Tokens follow each other in a text, the first at byte `from` or after it, and only blanks, line
+-- ends and descriptive texts separate them.
 abbrev pub AreApart : List ℕ → ℕ → List Token → Type 0
 AreApart text from [] = Unit {0}
 AreApart text from (token ∷ tokens) =
     (from ≤ token.start) × AreSkipped (take (token.start - from) (drop from text)) × AreApart text token.end tokens
 
--- a line end of so many bytes that is a token
+-- a line end of `bytes` bytes that is a token
 abbrev pub break_of : ℕ → Lexeme
 break_of bytes = record { piece = piece.Token Break; length = bytes }
 
@@ -40,13 +40,15 @@ break_of bytes = record { piece = piece.Token Break; length = bytes }
 abbrev pub IsOneLineEnd : List ℕ → Type 0
 IsOneLineEnd text = (text ≡ 10 ∷ []) ⊎ (text ≡ 13 ∷ 10 ∷ [])
 
--- what stands behind all blanks and line ends is a byte before which a line end ends an item, or an element
+-- the byte after all blanks and line ends is one before which a line end ends an item, or an
+-- element
 abbrev pub IsEnding : LineEnds → List ℕ → Type 0
 IsEnding Skipped behind = ⊥
 IsEnding EndItem behind = begins (λ b. not (b == 47 || (b == 44 || b == 59))) behind ≡ true
 IsEnding EndElement behind = begins (λ b. not (b == 47 || b == 44)) behind ≡ true
 
--- A line end with which a text begins is a token in this mode: behind a declared name or in a list a line end ends the item, or the
--- element, unless the next byte that is neither blank nor a line end ends it by itself, or begins the item's list.
+-- A line end with which a text begins is a token in this mode: after a declared name or in a list a
+-- line end ends the item, or the element, unless the next byte that is neither blank nor a line end
+-- itself ends it, or begins the item's list.
 abbrev pub IsBreak : Mode → List ℕ → Type 0
 IsBreak mode text = (is_line_end text ≡ true) × IsEnding (line_ends mode) (drop (space_length text) text)

@@ -1,4 +1,5 @@
--- What the words that begin statements tell of the tokens behind them (GAMS User's Guide, "GAMS Programs").
+-- How the words that begin statements affect the tokens after them (GAMS User's Guide, "GAMS
+-- Programs").
 use Rattle.std.specs.Prelude.{ℕ, Bool, not, ◌&&◌, List, take, drop, Option, option_map, is_some}
 use Rattle.std.specs.List.{prefix_len}
 use Rattle.gms_lexemes.specs.Bytes.{is_label_byte}
@@ -10,7 +11,8 @@ use Rattle.gms_lex.specs.declared.keyword.Shape.TheVariants.{Set, Parameter, Sca
 use Rattle.gms_lex.specs.declared.keyword.Keyword.{Keyword}
 use Rattle.gms_lex.specs.declared.keyword.Keyword.TheVariants.{Declarer, Table, Other}
 
--- What follows a word that begins a statement: the items of sets, variables and equations are written alike.
+-- What follows a word that begins a statement: the items of sets, variables and equations are
+-- written alike.
 abbrev pub keyword_as : Terminal → Keyword
 keyword_as terminal.Set = Declarer Set
 keyword_as terminal.Variable = Declarer Set
@@ -21,12 +23,12 @@ keyword_as terminal.Model = Declarer Model
 keyword_as terminal.Table = Table
 keyword_as _ = Other
 
--- the statement keyword that a word is, letter case ignored
+-- the statement keyword of a word, letter case ignored
 unfoldable pub keyword_of : List ℕ → Option Keyword
 keyword_of text = option_map keyword_as (kind_among text statement_words)
 
--- A text begins with an unquoted statement keyword: the longest run of a label's bytes is one, and no dot makes it part of a
--- label.
+-- A text begins with an unquoted statement keyword: the longest run of a label's bytes is one, and
+-- no dot makes it part of a label.
 abbrev pub begins_statement : List ℕ → Bool
 begins_statement text =
     let length = prefix_len is_label_byte text in

@@ -1,5 +1,5 @@
--- Which tokens and texts may stand at the front of a text, in each mode, and which of them is the longest (GAMS User's Guide,
--- "Language Items", "GAMS Programs", data declarations, lists and tables).
+-- Which tokens and texts a text may begin with, in each mode, and which of them is the longest
+-- (GAMS User's Guide, "Language Items", "GAMS Programs", data declarations, lists and tables).
 use Rattle.std.specs.Prelude.{◌≡◌, ◌⊎◌, ℕ, zero, suc, ◌<◌, ◌≤◌, Bool, true, false, ◌||◌, ◌==◌, List, length, take, drop, get_or}
 use Rattle.gms_lines.specs.declared.fault.LexError.TheVariants.{BadByte, LongLabel}
 use Rattle.gms_lines.specs.Lines.{begins, content}
@@ -23,7 +23,7 @@ use Rattle.gms_lex.specs.Pieces.{is_item_mark, is_element_mark}
 use Rattle.gms_lex.specs.TokenTexts.{unquoted}
 use Rattle.gms_lex.specs.Spellings.{IsWord, IsLabel, IsQuoted, IsText, IsSymbol, IsNumber}
 
--- a token of code, before what stands behind it: a word, a number, a symbol, or a quoted token of this kind
+-- a token of code, followed by `behind`: a word, a number, a symbol, or a quoted token of this kind
 abbrev pub IsCode : Kind → Piece → List ℕ → List ℕ → Type 0
 IsCode quoted (Token Word) text behind = IsWord text
 IsCode quoted (Token Number) text behind = IsNumber text behind
@@ -32,7 +32,7 @@ IsCode quoted (Token Text) text behind = (quoted ≡ Text) × IsQuoted text
 IsCode quoted (Token Label) text behind = (quoted ≡ Label) × IsQuoted text
 IsCode quoted piece text behind = ⊥
 
--- a token where an element is due: a label, unquoted or quoted, or a symbol
+-- a token where an element is expected: a label, unquoted or quoted, or a symbol
 abbrev pub IsElement : Piece → List ℕ → Type 0
 IsElement (Token Label) text = IsLabel text ⊎ IsQuoted text
 IsElement (Token (Symbol symbol)) text = IsSymbol symbol text
@@ -44,19 +44,21 @@ IsMarkOrText marks (Token (Symbol symbol)) text = (begins marks text ≡ true) �
 IsMarkOrText marks Remark text = (begins marks text ≡ false) × IsText text
 IsMarkOrText marks piece text = ⊥
 
--- A token of code behind an element of a parameter's list. Right behind the element a dot joins a label, and begins no number.
+-- A token of code after an element of a parameter's list. Directly after the element a dot joins a
+-- label, and begins no number.
 abbrev pub IsValue : Stage → Piece → List ℕ → List ℕ → Type 0
 IsValue After (Token Number) text behind = IsNumber text behind × (begins_dot text ≡ false)
 IsValue stage piece text behind = IsCode Label piece text behind
 
--- behind an element outside parentheses: a value in a parameter's list; in any other `/`, `,`, `;`, `)`, `*`, `.`, or a text
+-- after an element outside parentheses: a value in a parameter's list; in any other `/`, `,`, `;`,
+-- `)`, `*`, `.`, or a text
 abbrev pub IsBehindElement : Shape → Stage → Piece → List ℕ → List ℕ → Type 0
 IsBehindElement Parameter stage piece text behind = IsValue stage piece text behind
 IsBehindElement Set stage piece text behind = IsMarkOrText is_element_mark piece text
 IsBehindElement Scalar stage piece text behind = IsMarkOrText is_element_mark piece text
 IsBehindElement Model stage piece text behind = IsMarkOrText is_element_mark piece text
 
--- within a list, in so many parentheses
+-- within a list, inside `depth` parentheses
 abbrev pub IsListed : Shape → ℕ → Stage → Piece → List ℕ → List ℕ → Type 0
 IsListed shape depth Fresh piece text behind = IsElement piece text
 IsListed shape depth Due piece text behind = IsElement piece text
@@ -65,14 +67,14 @@ IsListed shape zero Spaced piece text behind = IsBehindElement shape Spaced piec
 IsListed shape (suc depth) After piece text behind = IsElement piece text
 IsListed shape (suc depth) Spaced piece text behind = IsElement piece text
 
--- The first bytes of a text, so many, among the lines of a table: all of the line up to the `;` that ends the table; where that `;`
--- or a statement begins, a token of code.
+-- The first n bytes of a text, among the lines of a table: all of the line up to the `;` that ends
+-- the table; if that `;` or a statement begins, a token of code.
 abbrev pub IsOfTable : List ℕ → Piece → ℕ → Type 0
 IsOfTable text (Token TableLine) n = (begins_statement text ≡ false) × (0 < n) × (n ≡ table_bytes (content text))
 IsOfTable text piece n =
     ((table_bytes (content text) == 0 || begins_statement text) ≡ true) × IsCode Text piece (take n text) (drop n text)
 
--- the first bytes of a text, so many, are a token or a descriptive text that the mode allows there
+-- the first n bytes of a text are a token or a descriptive text that the mode allows there
 abbrev pub IsAllowed : Mode → List ℕ → Piece → ℕ → Type 0
 IsAllowed (Named shape) text piece n = IsMarkOrText (λ b. b == 40 || is_item_mark b) piece (take n text)
 IsAllowed TableNamed text piece n = IsMarkOrText (λ b. b == 40 || is_item_mark b) piece (take n text)
@@ -84,26 +86,28 @@ IsAllowed (Tail shape) text piece n = IsCode Label piece (take n text) (drop n t
 IsAllowed TableLines text piece n = IsOfTable text piece n
 IsAllowed current text piece n = IsCode Text piece (take n text) (drop n text)
 
--- a piece that has a text of its own: each but blanks and line ends
+-- a piece with a text: each except blanks and line ends
 abbrev pub has_text : Piece → Bool
 has_text Gap = false
 has_text LineEnd = false
 has_text (Token Break) = false
 has_text piece = true
 
--- a piece at the front of a text is one that the mode allows there, and none that it allows is longer
+-- the piece at the start of a text is one that the mode allows there, and none that it allows is
+-- longer
 pub record IsLongest (mode : Mode) (text : List ℕ) (p : Lexeme) : Type 0 where
   pub allowed : IsAllowed mode text p.piece p.length
   pub longest : (other : Piece) (n : ℕ) → n ≤ length text → IsAllowed mode text other n → n ≤ p.length
 
--- No token is this piece at the front of a text: a word or a label has over 63 bytes, quotation marks not counted; or the byte at
--- which the error stands is not of ASCII.
+-- No token is this piece at the start of a text: a word or a label has over 63 bytes, quotation
+-- marks not counted; or the byte at the error is not ASCII.
 abbrev pub IsUnlawful : Lexeme → List ℕ → Misread → Type 0
 IsUnlawful p text misread =
     ((misread.error ≡ LongLabel) × (longest_label < length (unquoted (take p.length text))))
     ⊎ ((misread.error ≡ BadByte) × (misread.ahead < p.length) × (127 < get_or text misread.ahead 0))
 
--- an error stands in place of a piece: the mode allows none there, or the longest that it allows is no token
+-- an error instead of a piece: the mode allows none there, or the longest that it allows is no
+-- token
 abbrev pub IsRefused : Mode → List ℕ → Misread → Type 0
 IsRefused mode text misread =
     ((other : Piece) (n : ℕ) → n ≤ length text → IsAllowed mode text other n → ⊥)

@@ -1,5 +1,5 @@
--- What stands first in a text, in each mode: blanks, line ends, a descriptive text, or the longest token of the mode (GAMS
--- User's Guide, "GAMS Programs", data declarations, lists and tables).
+-- The first piece of a text, in each mode: blanks, line ends, a descriptive text, or the longest
+-- token of the mode (GAMS User's Guide, "GAMS Programs", data declarations, lists and tables).
 use Rattle.std.specs.Prelude.{ℕ, Bool, true, false, not, ◌&&◌, ◌||◌, ◌==◌, nat_lt, nat_le, if◌then◌else◌, List, [], ◌∷◌, drop}
 use Rattle.std.specs.List.{prefix_len}
 use Rattle.std.specs.Char.{is_ascii_digit}
@@ -19,7 +19,8 @@ use Rattle.gms_lex.specs.declared.mode.LineEnds.{LineEnds}
 use Rattle.gms_lex.specs.declared.mode.LineEnds.TheVariants.{Skipped, EndItem, EndElement}
 use Rattle.gms_lex.specs.Keywords.{begins_statement}
 
--- what a line end means behind an element of a list, or where one is due: within parentheses nothing
+-- what a line end means after an element of a list, or where one is expected: within parentheses
+-- nothing
 abbrev pub element_line_ends : ℕ → LineEnds
 element_line_ends depth = if depth == 0 then EndElement else Skipped
 
@@ -39,13 +40,14 @@ line_ends (Element shape depth stage) = list_line_ends depth stage
 line_ends (Tail shape) = EndElement
 line_ends current = Skipped
 
--- a byte before which a line end ends nothing: one that ends the item, or the element, by itself, or begins the item's list
+-- a byte before which a line end ends nothing: one that itself ends the item, or the element, or
+-- begins the item's list
 abbrev pub passes : LineEnds → ℕ → Bool
 passes EndItem b = b == 47 || (b == 44 || b == 59)
 passes EndElement b = b == 47 || b == 44
 passes Skipped b = true
 
--- the text ends, or goes on with a byte that passes the test
+-- the text ends, or continues with a byte that passes the test
 abbrev pub ends_or_begins : (ℕ → Bool) → List ℕ → Bool
 ends_or_begins test [] = true
 ends_or_begins test (b ∷ text) = test b
@@ -62,8 +64,9 @@ space_length text = before begins_other text
 abbrev pub line_end_length : List ℕ → ℕ
 line_end_length text = if begins (λ b. b == 13) text then 2 else 1
 
--- A line end with which a text begins. Where it may end an item or an element, it does so unless the text behind it and all blank
--- lines ends, or goes on with a byte that passes; there all that is blank is one piece.
+-- A line end with which a text begins. If it may end an item or an element, it does so unless the
+-- text ends after it and all blank lines, or continues with a byte that passes; then all that is
+-- blank is one piece.
 abbrev pub line_end : LineEnds → List ℕ → Read
 line_end Skipped text = lexeme LineEnd (line_end_length text)
 line_end EndItem text = if ends_or_begins (passes EndItem) (drop (space_length text) text) then lexeme LineEnd (space_length text) else lexeme (Token Break) (line_end_length text)
@@ -73,19 +76,20 @@ line_end EndElement text = if ends_or_begins (passes EndElement) (drop (space_le
 abbrev pub is_item_mark : ℕ → Bool
 is_item_mark b = b == 47 || (b == 44 || b == 59)
 
--- behind an item's name: its domain, its list, its end, or its text
+-- after an item's name: its domain, its list, its end, or its text
 abbrev pub behind_name : List ℕ → Read
 behind_name text = if begins (λ b. b == 40 || is_item_mark b) text then symbol text else remark text
 
--- behind an item's domain
+-- after an item's domain
 abbrev pub behind_domain : List ℕ → Read
 behind_domain text = if begins is_item_mark text then symbol text else remark text
 
--- a byte that ends an element, or goes on with it: `/`, `,`, `;`, `)`, `*` and `.`
+-- a byte that ends an element, or continues it: `/`, `,`, `;`, `)`, `*` and `.`
 abbrev pub is_element_mark : ℕ → Bool
 is_element_mark b = is_item_mark b || (b == 41 || (b == 42 || b == 46))
 
--- a dot that begins a number: in a parameter's list outside parentheses, behind a blank and before a digit
+-- a dot that begins a number: in a parameter's list outside parentheses, after a blank and before a
+-- digit
 abbrev pub begins_value_dot : Shape → ℕ → Stage → List ℕ → Bool
 begins_value_dot Parameter depth Spaced text = depth == 0 && (begins_dot text && begins is_ascii_digit (drop 1 text))
 begins_value_dot shape depth stage text = false
@@ -97,19 +101,19 @@ element_tail Set text = remark text
 element_tail Scalar text = remark text
 element_tail Model text = remark text
 
--- behind an element of a list
+-- after an element of a list
 abbrev pub behind_label : Shape → ℕ → Stage → List ℕ → Read
 behind_label shape depth stage text =
     if begins is_element_mark text && not (begins_value_dot shape depth stage text) then symbol text else (if depth == 0 then element_tail shape text else label_token text)
 
--- what stands in a list, by what stands before it
+-- the piece in a list, by the stage of its element
 abbrev pub in_list : Shape → ℕ → Stage → List ℕ → Read
 in_list shape depth Fresh text = label_token text
 in_list shape depth Due text = label_token text
 in_list shape depth After text = behind_label shape depth After text
 in_list shape depth Spaced text = behind_label shape depth Spaced text
 
--- what stands at a byte that is no blank and no line end
+-- the piece at a byte that is no blank and no line end
 abbrev pub token_at : Mode → List ℕ → Read
 token_at (Named shape) text = behind_name text
 token_at TableNamed text = behind_name text
@@ -120,23 +124,23 @@ token_at (Value shape) text = code_token Label text
 token_at (Tail shape) text = code_token Label text
 token_at current text = code_token Text text
 
--- What stands first where the lines of a table may go on, of which so many bytes are blank and so many belong to the table. A
--- statement keyword ends the table, and so does a `;`.
+-- The first piece where the lines of a table may continue; `blanks` bytes are blank and `bytes`
+-- belong to the table. A statement keyword ends the table, and so does a `;`.
 abbrev pub table_piece_of : ℕ → ℕ → List ℕ → Read
 table_piece_of blanks bytes text =
     if nat_lt 0 blanks && (nat_le bytes blanks || begins_statement (drop blanks text)) then lexeme Gap blanks else (if bytes == 0 || begins_statement text then code_token Text text else table_line bytes text)
 
--- what stands first where the lines of a table may go on
+-- the first piece where the lines of a table may continue
 abbrev pub table_piece : List ℕ → Read
 table_piece text =
     if is_line_end text then lexeme LineEnd (line_end_length text) else table_piece_of (prefix_len is_blank text) (table_bytes (content text)) text
 
--- what stands first in any other mode
+-- the first piece in any other mode
 abbrev pub plain_piece : Mode → List ℕ → Read
 plain_piece current text =
     if begins is_blank text then lexeme Gap (prefix_len is_blank text) else (if is_line_end text then line_end (line_ends current) text else token_at current text)
 
--- what stands first in a text
+-- the first piece of a text
 abbrev pub piece_at : Mode → List ℕ → Read
 piece_at TableLines text = table_piece text
 piece_at current text = plain_piece current text

@@ -3,16 +3,16 @@ use Rattle.std.specs.Prelude.{◌≡◌, ◌⊎◌, ℕ, ◌<◌, ◌+◌, ◌==
 use Rattle.gms_labels.specs.declared.place.Place.{Place}
 use Rattle.gms_lexemes.specs.Columns.{column_after}
 
--- where a source begins
+-- the place where a source begins
 abbrev pub source_start : Place
 source_start = record { line = 1; column = 1 }
 
--- The place behind a byte. A line feed goes to the next line.
+-- The place after a byte. A line feed goes to the next line.
 abbrev pub place_after : Place → ℕ → Place
 place_after at b =
     if b == 10 then record { line = at.line + 1; column = 1 } else record { line = at.line; column = column_after at.column b }
 
--- the place behind these bytes
+-- the place after these bytes
 abbrev pub place_behind : Place → List ℕ → Place
 place_behind at bytes = fold place_after at bytes
 

@@ -17,7 +17,8 @@ IsWord text = (begins is_ascii_alphabetic text ≡ true) × (list_all is_name_by
 abbrev pub IsLabel : List ℕ → Type 0
 IsLabel text = (begins is_ascii_alphanumeric text ≡ true) × (list_all is_label_byte text ≡ true)
 
--- a quoted text: a quotation mark, and the same mark again, with neither it nor a line feed between the two
+-- a quoted text: a quotation mark, and the same mark again, with neither it nor a line feed between
+-- the two
 pub record IsQuoted (text : List ℕ) : Type 0 where
   pub mark : ℕ
   pub inner : List ℕ
@@ -25,7 +26,8 @@ pub record IsQuoted (text : List ℕ) : Type 0 where
   pub free : list_all (λ b. not (b == mark || b == 10)) inner ≡ true
   pub spelled : text ≡ mark ∷ (inner ++ mark ∷ [])
 
--- an unquoted descriptive text: at least one byte, none of them `/`, `,`, `;`, a line feed or a carriage return
+-- an unquoted descriptive text: at least one byte, none of them `/`, `,`, `;`, a line feed or a
+-- carriage return
 abbrev pub IsUnquotedText : List ℕ → Type 0
 IsUnquotedText text = (0 < length text) × (begins is_quote text ≡ false) × (list_all is_text_byte text ≡ true)
 
@@ -41,7 +43,7 @@ IsSymbol symbol text = str_eq_ignore_ascii_case text (written symbol) ≡ true
 abbrev pub AreDigits : List ℕ → Type 0
 AreDigits text = (begins is_ascii_digit text ≡ true) × (list_all is_ascii_digit text ≡ true)
 
--- the dot of a number with the digits behind it, of which there may be none; or nothing
+-- the dot of a number with any digits after it; or nothing
 abbrev pub IsPoint : List ℕ → Type 0
 IsPoint [] = Unit {0}
 IsPoint (b ∷ digits) = (b ≡ 46) × (list_all is_ascii_digit digits ≡ true)
@@ -56,8 +58,8 @@ abbrev pub IsExponent : List ℕ → Type 0
 IsExponent [] = Unit {0}
 IsExponent (b ∷ power) = ((b == 101 || b == 69) ≡ true) × IsPower power
 
--- A number, and what stands behind it: digits, a dot with digits, and an exponent, with at least one digit before the exponent.
--- No other dot follows its dot.
+-- A number followed by `behind`: digits, a dot with digits, and an exponent, with at least one
+-- digit before the exponent. No other dot follows its dot.
 pub record IsNumber (text behind : List ℕ) : Type 0 where
   pub whole : List ℕ
   pub point : List ℕ

@@ -1,4 +1,4 @@
--- The texts of tokens: where they stand in the source, and how words and labels are spelled.
+-- The texts of tokens: their places in the source, and how words and labels are spelled.
 use Rattle.std.specs.Prelude.{◌≡◌, ℕ, ◌-◌, ◌≤◌, true, if◌then◌else◌, List, [], ◌∷◌, length, take, drop}
 use Rattle.std.specs.Str.{IsAscii}
 use Rattle.gms_lines.specs.Lines.{begins}
@@ -19,8 +19,9 @@ abbrev pub unquoted : List ℕ → List ℕ
 unquoted [] = []
 unquoted (b ∷ text) = if is_quote b then take (length text - 1) text else b ∷ text
 
--- Words, labels, quoted texts and lines of tables are of ASCII. Words and labels have at most 63 bytes, quotation marks not counted;
--- a quoted text begins with its mark; a line of a table has no more bytes than any line.
+-- Words, labels, quoted texts and lines of tables are ASCII. Words and labels have at most 63
+-- bytes, quotation marks not counted; a quoted text begins with its mark; a line of a table has no
+-- more bytes than any line.
 abbrev pub IsSpelled : Kind → List ℕ → Type 0
 IsSpelled Word text = IsAscii text × (length text ≤ longest_label)
 IsSpelled Label text = IsAscii text × (length (unquoted text) ≤ longest_label)
@@ -31,7 +32,7 @@ IsSpelled Break text = Unit {0}
 IsSpelled TableLine text = IsAscii text × (length text ≤ longest_line)
 IsSpelled End text = Unit {0}
 
--- a token takes bytes of the source, stands at the place of the first, and is spelled as its kind
+-- a token takes bytes of the source, has the place of the first, and is spelled as its kind
 pub record IsPlaced (source : List ℕ) (token : Token) : Type 0 where
   pub starts : token.start ≤ token.end
   pub ends : token.end ≤ length source

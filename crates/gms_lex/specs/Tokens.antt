@@ -1,4 +1,5 @@
--- The tokens of a source, or its first lexical fault (GAMS User's Guide, "Language Items" and "GAMS Programs").
+-- The tokens of a source, or its first lexical fault (GAMS User's Guide, "Language Items" and "GAMS
+-- Programs").
 use Rattle.std.specs.Prelude.{◌≡◌, ◌⊎◌, ℕ, ◌+◌, ◌<◌, List, [], ◌∷◌, ◌++◌, length, take, drop, Result, Ok, Err}
 use Rattle.gms_labels.specs.declared.place.Place.{Place}
 use Rattle.gms_lines.specs.declared.fault.ByteFault.{ByteFault}
@@ -24,8 +25,8 @@ use Rattle.gms_lex.specs.Places.{place_of}
 abbrev pub most_bytes : ℕ
 most_bytes = 1048576
 
--- The text begins with these pieces, one after another, each the longest of its mode at its start; the mode is the one that the
--- pieces before it give. Behind them, in the mode `last`, stands the rest.
+-- The text begins with these pieces, each the longest of its mode at its start; the pieces before
+-- it determine the mode. The rest follows them, in the mode `last`.
 abbrev pub IsMadeOf : Mode → List ℕ → List Lexeme → Mode → List ℕ → Type 0
 IsMadeOf mode text [] last rest = (last ≡ mode) × (rest ≡ text)
 IsMadeOf mode text (p ∷ pieces) last rest =
@@ -36,7 +37,7 @@ abbrev pub length_of : List Lexeme → ℕ
 length_of [] = 0
 length_of (p ∷ pieces) = p.length + length_of pieces
 
--- the token that a piece is, which takes these bytes and stands at this place
+-- the token of a piece, which takes these bytes and has this place
 abbrev pub token_at : Place → Piece → ℕ → ℕ → List Token
 token_at at (piece.Token kind) start end = record { kind = kind; start = start; end = end; at = at } ∷ []
 token_at at piece.Gap start end = []
@@ -52,15 +53,16 @@ tokens_of source start (p ∷ pieces) = token_at (place_of source start) p.piece
 abbrev pub end_token : List ℕ → Token
 end_token source = record { kind = End; start = length source; end = length source; at = place_of source (length source) }
 
--- The tokens of the source, of which this is the text without comments and control lines: the text is made of pieces, and these are
--- the tokens among them, and the source's end.
+-- The tokens of the source, whose text without comments and control lines is `text`: the text is
+-- made of pieces, and these are the tokens among them, and the source's end.
 pub record HasTokens (source text : List ℕ) (tokens : List Token) : Type 0 where
   pub pieces : List Lexeme
   pub last : Mode
   pub made : IsMadeOf Code text pieces last []
   pub tokens_are : tokens ≡ tokens_of source 0 pieces ++ end_token source ∷ []
 
--- Pieces lead to a byte of the text at which this error stands in place of a piece, or so many bytes ahead of it.
+-- Pieces lead to a byte of the text with this error instead of a piece, or to `ahead` bytes before
+-- the error.
 pub record StopsAt (text : List ℕ) (fault : ByteFault) : Type 0 where
   pub pieces : List Lexeme
   pub last : Mode
@@ -72,11 +74,11 @@ pub record StopsAt (text : List ℕ) (fault : ByteFault) : Type 0 where
   pub at : fault.at ≡ length_of pieces + misread.ahead
   pub error : fault.error ≡ misread.error
 
--- A lexical error stands at this byte of the source: an error of a line, or one that stands where a token is due.
+-- A lexical error at this byte of the source: an error of a line, or one where a token is expected.
 abbrev pub Stands : List ℕ → ByteFault → Type 0
 Stands source fault = IsLineFault source fault ⊎ StopsAt (code_text source) fault
 
--- these are the tokens of a source in which no lexical error stands
+-- these are the tokens of a source without lexical errors
 pub record IsTokens (source : List ℕ) (tokens : List Token) : Type 0 where
   pub sound : (fault : ByteFault) → Stands source fault → ⊥
   pub has : HasTokens source (code_text source) tokens
@@ -88,12 +90,12 @@ pub record IsFault (source : List ℕ) (fault : LexFault) : Type 0 where
   pub stands : Stands source record { at = byte; error = fault.error }
   pub first : (other : ByteFault) → Stands source other → IsBefore record { at = byte; error = fault.error } other
 
--- what a source is for a reader of tokens: its tokens, or its first fault
+-- the meaning of a source for a reader of tokens: its tokens, or its first fault
 abbrev pub Means : List ℕ → Result (List Token) LexFault → Type 0
 Means source (Ok tokens) = IsTokens source tokens
 Means source (Err fault) = IsFault source fault
 
--- an answer in place of tokens: the first fault of the source, or want of memory
+-- an answer in place of tokens: the first fault of the source, or out of memory
 abbrev pub IsRefusal : List ℕ → LexFaultOrMemory → Type 0
 IsRefusal source (Fault fault) = IsFault source fault
 IsRefusal source Memory = Unit {0}

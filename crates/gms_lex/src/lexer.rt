@@ -17,16 +17,17 @@ use std::alloc::{AllocError, Global};
 /// How many bytes a source may have.
 pub const MOST_BYTES: usize = 1_048_576;
 
-/// The tokens that a source begins with, as far as they go.
+/// The tokens that a source begins with, up to an error if there is one.
 #[derive(Drop)]
 struct Reading {
-    /// The tokens, in order; with the end of the source where it was reached.
+    /// The tokens, in order, with the end of the source if it was reached.
     tokens: Vec<Token>,
-    /// The error that stands where they stop.
+    /// The error at which they stop.
     fault: Option<ByteFault>,
 }
 
-/// Appends the token that a piece is, if it is one. It takes the bytes from `start` to `end`, and stands at `at`.
+/// Appends the token of a piece, if it has one. It takes the bytes from `start` to `end`, and its
+/// place is `at`.
 fn push_token(
     tokens: &mut Vec<Token>,
     piece: Piece,
@@ -49,7 +50,7 @@ fn push_token(
     Ok(())
 }
 
-/// The tokens of a source, of which this is the text without comments and control lines.
+/// The tokens of a source, whose text without comments and control lines is `text`.
 fn read_tokens(alloc: Global, source: &[u8], code: &[u8]) -> Result<Reading, AllocError>
     requires small { length source.now ≤ most_bytes }
     requires as_long { length code.now ≡ length source.now }
@@ -87,7 +88,7 @@ fn read_tokens(alloc: Global, source: &[u8], code: &[u8]) -> Result<Reading, All
     })
 }
 
-/// Whether one fault comes before another, or is it.
+/// Whether one fault comes before another, or equals it.
 fn is_before(f: ByteFault, g: ByteFault) -> bool
     ensures { result ≡ is_before f g }
 {
@@ -106,14 +107,17 @@ fn earlier(a: Option<ByteFault>, b: Option<ByteFault>) -> Option<ByteFault>
     }
 }
 
-/// The tokens of a source, or its first lexical fault (GAMS User's Guide, "Language Items" and "GAMS Programs").
+/// The tokens of a source, or its first lexical fault (GAMS User's Guide, "Language Items" and
+/// "GAMS Programs").
 ///
-/// Each token is the longest of its mode, and the mode is the one that the tokens before it give: code, a declaration, a list, or the
-/// lines of a table. Between tokens stand blanks, descriptive texts, comments and control lines. The last token is `End`. A fault is
-/// the first by place and then by number: `BadByte` at a byte that may not stand where it stands, `OpenQuote` at a quotation mark that
-/// does not come again on its line, `OpenText` at an `$ontext` that is not ended, `LongLabel` at a word or label of over 63 bytes,
-/// `LongLine` at a line of over 32,768 bytes, `UnknownControl` at a control word that is not accepted. `Memory` comes where memory
-/// was wanting. The source has at most `MOST_BYTES` bytes.
+/// Each token is the longest of its mode, and the tokens before it determine the mode: code, a
+/// declaration, a list, or the lines of a table. Blanks, descriptive texts, comments and control
+/// lines separate tokens. The last token is `End`. A fault is the first by place and then by
+/// number: `BadByte` at a byte that cannot occur there, `OpenQuote` at a quotation mark that does
+/// not occur again on its line, `OpenText` at an `$ontext` that is not ended, `LongLabel` at a word
+/// or label of over 63 bytes, `LongLine` at a line of over 32,768 bytes, `UnknownControl` at a
+/// control word that is not accepted. `Memory` means out of memory. The source has at most
+/// `MOST_BYTES` bytes.
 pub fn lex(alloc: Global, source: &[u8]) -> Result<Vec<Token>, LexFaultOrMemory>
     requires { length source.now ≤ most_bytes }
     ensures { MatchResult result (λ tokens. IsTokens source.now tokens.items) (λ e. IsRefusal source.now e) }

@@ -1,5 +1,5 @@
-//! Floor 2, source to tree. Tokens of the whole language: words, labels, numbers, texts and symbols of a source, each with its place, or the first
-//! lexical fault of the source.
+//! Layer 2, source to tree. Tokens of the whole language: words, labels, numbers, texts and symbols
+//! of a source, each with its place, or the first lexical fault of the source.
 #![tactic(auto)]
 
 mod fault;

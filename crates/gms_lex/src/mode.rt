@@ -4,51 +4,52 @@ ghost use Rattle.gms_lex.specs.Pieces.{element_line_ends, list_line_ends, line_e
 
 use crate::keyword::Shape;
 
-/// Where in an element of a list the next token stands.
+/// The position of the next token in an element of a list.
 #[derive(Clone, Copy)]
 pub enum Stage {
-    /// An element is due: the list has begun, or a comma or a line end has ended the one before.
+    /// An element is expected: the list has begun, or a comma or a line end has ended the one
+    /// before.
     Fresh,
-    /// A label is due, behind a dot, a star or a parenthesis.
+    /// A label is expected, after a dot, a star or a parenthesis.
     Due,
-    /// Right behind a label.
+    /// Directly after a label.
     After,
-    /// Behind a label and a blank.
+    /// After a label and a blank.
     Spaced,
 }
 
-/// Where in a statement the next token stands.
+/// The position of the next token in a statement.
 #[derive(Clone, Copy)]
 pub enum Mode {
     /// Outside declarations.
     Code,
-    /// An item of a declaration is due.
+    /// An item of a declaration is expected.
     Item(Shape),
-    /// Behind an item's name.
+    /// After an item's name.
     Named(Shape),
     /// In an item's domain.
     Domain(Shape),
-    /// Behind an item's domain.
+    /// After an item's domain.
     Bare(Shape),
-    /// Behind an item's text or list.
+    /// After an item's text or list.
     Rest(Shape),
-    /// In a list of labels, in so many parentheses.
+    /// In a list of labels, inside this many parentheses.
     Element(Shape, u32, Stage),
-    /// A value or a name of a list is due.
+    /// A value or a name of a list is expected.
     Value(Shape),
-    /// Behind an element of a list, in its text or value.
+    /// After an element of a list, in its text or value.
     Tail(Shape),
-    /// A table's name is due.
+    /// A table's name is expected.
     TableName,
-    /// Behind a table's name.
+    /// After a table's name.
     TableNamed,
     /// In a table's domain.
     TableDomain,
-    /// Behind a table's domain.
+    /// After a table's domain.
     TableBare,
-    /// Behind a table's text.
+    /// After a table's text.
     TableTexted,
-    /// Where the lines of a table may go on.
+    /// Where the lines of a table may continue.
     TableLines,
 }
 
@@ -63,7 +64,7 @@ pub enum LineEnds {
     EndElement,
 }
 
-/// What a line end means behind an element of a list, or where one is due.
+/// What a line end means after an element of a list, or where one is expected.
 fn element_line_ends(depth: u32) -> LineEnds
     ensures { result ≡ element_line_ends depth }
 {

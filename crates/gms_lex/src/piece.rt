@@ -1,4 +1,4 @@
-//! What stands first in a text, in each mode.
+//! The first piece of a text, in each mode.
 ghost use Rattle.std.specs.Prelude.{◌≡◌, ◌≤◌, ◌<◌, length};
 ghost use Rattle.std.specs.List.{prefix_len};
 ghost use Rattle.gms_lines.specs.Lines.{begins, is_blank};
@@ -47,7 +47,7 @@ fn begins_other(text: &[u8]) -> bool
     !(begins_blank(text) || is_line_end(text))
 }
 
-/// A piece of so many bytes.
+/// A piece of `length` bytes.
 fn lexeme(piece: Piece, length: usize) -> Result<Lexeme, Misread>
     ensures { result ≡ Ok record { piece = piece; length = length } }
 {
@@ -61,7 +61,7 @@ fn line_end_length(text: &[u8]) -> usize
     if matches!(text, [b'\r', ..]) { 2 } else { 1 }
 }
 
-/// Whether a text ends, or goes on with a byte before which a line end ends nothing.
+/// Whether a text ends, or continues with a byte before which a line end ends nothing.
 fn goes_on(ends: LineEnds, text: &[u8]) -> bool
     ensures { result ≡ ends_or_begins (passes ends) text.now }
 {
@@ -71,7 +71,7 @@ fn goes_on(ends: LineEnds, text: &[u8]) -> bool
     }
 }
 
-/// A line end with which a text begins: a token where it ends an item or an element.
+/// A line end with which a text begins: a token if it ends an item or an element.
 fn line_end(ends: LineEnds, text: &[u8]) -> Result<Lexeme, Misread>
     ensures { result ≡ line_end ends text.now }
 {
@@ -93,7 +93,7 @@ fn is_item_mark(byte: u8) -> bool
     matches!(byte, b'/' | b',' | b';')
 }
 
-/// What stands behind an item's name.
+/// The piece after an item's name.
 fn behind_name(text: &[u8]) -> Result<Lexeme, Misread>
     ensures { result ≡ behind_name text.now }
 {
@@ -104,7 +104,7 @@ fn behind_name(text: &[u8]) -> Result<Lexeme, Misread>
     }
 }
 
-/// What stands behind an item's domain.
+/// The piece after an item's domain.
 fn behind_domain(text: &[u8]) -> Result<Lexeme, Misread>
     ensures { result ≡ behind_domain text.now }
 {
@@ -115,7 +115,7 @@ fn behind_domain(text: &[u8]) -> Result<Lexeme, Misread>
     }
 }
 
-/// Whether a byte ends an element, or goes on with it.
+/// Whether a byte ends an element, or continues it.
 fn is_element_mark(byte: u8) -> bool
     ensures { result ≡ is_element_mark byte }
 {
@@ -129,7 +129,8 @@ fn begins_element_mark(text: &[u8]) -> bool
     matches!(text, [byte, ..] if is_element_mark(*byte))
 }
 
-/// Whether a dot begins a number: in a parameter's list outside parentheses, behind a blank and before a digit.
+/// Whether a dot begins a number: in a parameter's list outside parentheses, after a blank and
+/// before a digit.
 fn begins_value_dot(shape: Shape, depth: u32, stage: Stage, text: &[u8]) -> bool
     ensures { result ≡ begins_value_dot shape depth stage text.now }
 {
@@ -149,7 +150,7 @@ fn element_tail(shape: Shape, text: &[u8]) -> Result<Lexeme, Misread>
     }
 }
 
-/// What stands behind an element of a list.
+/// The piece after an element of a list.
 fn behind_label(shape: Shape, depth: u32, stage: Stage, text: &[u8]) -> Result<Lexeme, Misread>
     ensures { result ≡ behind_label shape depth stage text.now }
 {
@@ -162,7 +163,7 @@ fn behind_label(shape: Shape, depth: u32, stage: Stage, text: &[u8]) -> Result<L
     }
 }
 
-/// What stands in a list, by what stands before it.
+/// The piece in a list, by the stage of its element.
 fn in_list(shape: Shape, depth: u32, stage: Stage, text: &[u8]) -> Result<Lexeme, Misread>
     ensures { result ≡ in_list shape depth stage text.now }
 {
@@ -172,7 +173,7 @@ fn in_list(shape: Shape, depth: u32, stage: Stage, text: &[u8]) -> Result<Lexeme
     }
 }
 
-/// What stands at a byte that is no blank and no line end.
+/// The piece at a byte that is no blank and no line end.
 fn token_at(mode: Mode, text: &[u8]) -> Result<Lexeme, Misread>
     ensures { result ≡ token_at mode text.now }
 {
@@ -185,7 +186,8 @@ fn token_at(mode: Mode, text: &[u8]) -> Result<Lexeme, Misread>
     }
 }
 
-/// What stands first where the lines of a table may go on: blanks, a line of the table, or what ends it.
+/// The first piece where the lines of a table may continue: blanks, a line of the table, or what
+/// ends it.
 fn table_piece_of(blanks: usize, bytes: usize, text: &[u8]) -> Result<Lexeme, Misread>
     requires blanks { blanks ≤ length text.now }
     requires bytes { bytes ≤ length text.now }
@@ -200,7 +202,7 @@ fn table_piece_of(blanks: usize, bytes: usize, text: &[u8]) -> Result<Lexeme, Mi
     }
 }
 
-/// What stands first where the lines of a table may go on.
+/// The first piece where the lines of a table may continue.
 fn table_piece(text: &[u8]) -> Result<Lexeme, Misread>
     ensures { result ≡ table_piece text.now }
 {
@@ -211,7 +213,7 @@ fn table_piece(text: &[u8]) -> Result<Lexeme, Misread>
     table_piece_of(blank_length(text), table_bytes(line), text)
 }
 
-/// What stands first in any other mode.
+/// The first piece in any other mode.
 fn plain_piece(mode: Mode, text: &[u8]) -> Result<Lexeme, Misread>
     ensures { result ≡ plain_piece mode text.now }
 {
@@ -224,7 +226,7 @@ fn plain_piece(mode: Mode, text: &[u8]) -> Result<Lexeme, Misread>
     }
 }
 
-/// What stands first in a text, the longest of its mode, or the error that stands in its place.
+/// The first piece of a text, the longest of its mode, or the error instead of one.
 pub(crate) fn piece_at(mode: Mode, text: &[u8]) -> Result<Lexeme, Misread>
     ensures value { result ≡ piece_at mode text.now }
     ensures within { IsWithin text.now result }

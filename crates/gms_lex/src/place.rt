@@ -1,4 +1,4 @@
-//! Places behind bytes.
+//! Places after bytes.
 ghost use Rattle.std.specs.Prelude.{◌≡◌, ◌<◌, ◌≤◌, ◌+◌, ◌*◌, ◌^◌, length};
 ghost use Rattle.gms_lex.specs.Places.{place_after, place_behind, place_of};
 ghost use Rattle.gms_lex.specs.Tokens.{most_bytes};
@@ -6,10 +6,10 @@ ghost use Rattle.gms_lex.specs.Tokens.{most_bytes};
 use gms_labels::Place;
 use gms_lexemes::column_after;
 
-/// Where a source begins.
+/// The place where a source begins.
 pub(crate) const SOURCE_START: Place = Place { line: 1, column: 1 };
 
-/// The place behind a byte; a tab goes to the next column that is one more than a multiple of 8.
+/// The place after a byte; a tab goes to the next column that is one more than a multiple of 8.
 fn place_after(at: Place, byte: u8) -> Place
     requires line { at.line + 1 < 2 ^ 32 }
     requires column { at.column + 8 < 2 ^ 32 }
@@ -27,7 +27,7 @@ fn place_after(at: Place, byte: u8) -> Place
     }
 }
 
-/// The place behind bytes.
+/// The place after bytes.
 pub(crate) fn place_behind(mut at: Place, bytes: &[u8]) -> Place
     requires line { at.line + length bytes.now < 2 ^ 32 }
     requires column { at.column + 8 * length bytes.now < 2 ^ 32 }

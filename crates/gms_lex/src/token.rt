@@ -1,25 +1,26 @@
-//! Tokens, where they stand, and their texts.
+//! Tokens, their places, and their texts.
 ghost use Rattle.std.specs.Prelude.{◌≡◌};
 ghost use Rattle.gms_lex.specs.TokenTexts.{unquoted};
 
 use gms_labels::Place;
 use gms_lexemes::Kind;
 
-/// A token: what it is, which bytes of the source it takes, and its place.
+/// A token: its kind, the bytes of the source that it takes, and its place.
 #[derive(Clone, Copy)]
 pub struct Token {
-    /// What it is.
+    /// Its kind.
     pub kind: Kind,
-    /// How many bytes of the source stand before it.
+    /// How many bytes of the source precede it.
     pub start: u32,
-    /// How many bytes of the source stand before its end.
+    /// How many bytes of the source precede its end.
     pub end: u32,
     /// The place of its first byte.
     pub at: Place,
 }
 
-/// The bytes of a text that begins with a quotation mark, without that mark and the last byte, which is the other mark of a quoted token;
-/// those of any other text as they are (GAMS User's Guide, "Language Items", quoted labels and texts).
+/// The bytes of a text that begins with a quotation mark, without that mark and the last byte,
+/// which is the other mark of a quoted token; those of any other text as they are (GAMS User's
+/// Guide, "Language Items", quoted labels and texts).
 pub fn unquoted(text: &[u8]) -> &[u8]
     ensures { result.now ≡ unquoted text.now }
 {

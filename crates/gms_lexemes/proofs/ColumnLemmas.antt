@@ -3,7 +3,7 @@ use Rattle.std.proofs.Common.{inl, inr, ℕ, ◌+◌, ◌==◌, ◌<◌, ◌≤�
 use Rattle.gms_lines.proofs.LineLemmas.{true_or_false}
 use Rattle.gms_lexemes.specs.Columns.{column_after}
 
--- the column behind a byte is at least the next, and at most eight further on
+-- the column after a byte is at least the next, and at most eight further on
 pub column_after-bounds : (column b : ℕ) → (column < column_after column b) × (column_after column b ≤ column + 8)
 column_after-bounds column b = elim (true_or_false (b == 9)) [
   | inl h ↦ rw h (omega arith, omega arith)

@@ -1,10 +1,10 @@
--- A stretch of a text stands within it.
+-- A field is within its text.
 use Rattle.std.proofs.Common.{inl, inr, ℕ, ◌≤◌, Bool, List, [], ◌∷◌, length, arith}
 use Rattle.gms_lines.proofs.LineLemmas.{true_or_false}
 use Rattle.gms_lexemes.specs.declared.stretch.Stand.{Stand}
 use Rattle.gms_lexemes.specs.Stretches.{behind, parts, stretch_length}
 
--- a stretch stands within its text
+-- a field is within its text
 pub stretch_length-le : (test : ℕ → Bool) (stand : Stand) (text : List ℕ) → stretch_length test stand text ≤ length text
 stretch_length-le test stand [] = omega arith
 stretch_length-le test stand (b ∷ rest) = elim (true_or_false (parts test stand b)) [

@@ -1,4 +1,5 @@
--- What a text begins with takes at least one byte, and no more than there are; an error stands no further ahead.
+-- The piece with which a text begins has at least one byte and at most all of them; the place of an
+-- error is no further on.
 use Rattle.std.proofs.Common.{◌≡◌, ◌⊎◌, inl, inr, ℕ, suc, ◌+◌, ◌==◌, ◌&&◌, ◌||◌, ◌<◌, ◌≤◌, Bool, true, false, not, nat_lt, nat_le, cond, if◌then◌else◌, List, [], ◌∷◌, length, take, drop, Option, Some, None, option_map, find, refl, sym, ap, ◌∙◌, subst, arith}
 use Rattle.std.proofs.lemmas.Bool.Decides.{nat_tests}
 use Rattle.std.proofs.lemmas.List.{length-drop, length-take-le}
@@ -29,7 +30,7 @@ pub if_within : (text : List ℕ) (b : Bool) (x y : Read) → (b ≡ true → Is
 if_within text true x y p q = p refl
 if_within text false x y p q = q refl
 
--- a text that begins with a byte of a kind goes on with it for at least one byte
+-- a text that begins with a byte of a kind has a run of at least one such byte
 pub run_within : (test more : ℕ → Bool) → ((b : ℕ) → test b ≡ true → more b ≡ true) → (text : List ℕ) → begins test text ≡ true → 0 < prefix_len more text
 run_within test more grows [] h = absurd (cc)
 run_within test more grows (b ∷ text) h = subst (λ v. 0 < cond v (1 + prefix_len more text) 0) (sym (grows b h)) (omega arith)
@@ -95,7 +96,7 @@ pub begins_some : (test : ℕ → Bool) (text : List ℕ) → begins test text �
 begins_some test [] h = absurd (cc)
 begins_some test (b ∷ text) h = omega arith
 
--- a mark that comes again stands behind what is quoted
+-- a closing mark comes after the quoted bytes
 pub closed_more : (mark : ℕ) (text : List ℕ) → is_closed mark text ≡ true → quoted_length mark text < length text
 closed_more mark text h = omega (arith, begins_some (λ b. b == mark) (drop (quoted_length mark text) text) h, length-drop (quoted_length mark text) text)
 

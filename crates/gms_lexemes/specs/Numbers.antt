@@ -16,8 +16,8 @@ begins_dot text = begins (λ b. b == 46) text
 abbrev pub begins_number : List ℕ → Bool
 begins_number text = begins is_ascii_digit text || (begins_dot text && begins is_ascii_digit (drop 1 text))
 
--- How many bytes the dot behind a number's digits takes, with the digits behind it, of which there may be none. The dot does
--- not belong to the number where another dot follows it.
+-- How many bytes the dot after a number's digits takes, with any digits after it. The dot does not
+-- belong to the number if another dot follows it.
 abbrev pub point_length : List ℕ → ℕ
 point_length rest = if begins_dot rest && not (begins_dot (drop 1 rest)) then 1 + digit_count (drop 1 rest) else 0
 
@@ -39,6 +39,6 @@ exponent_length rest =
 abbrev pub decimal_length : List ℕ → ℕ
 decimal_length text = digit_count text + point_length (drop (digit_count text) text)
 
--- how many bytes the number takes with which a text begins
+-- how many bytes the number at the start of a text takes
 abbrev pub number_length : List ℕ → ℕ
 number_length text = decimal_length text + exponent_length (drop (decimal_length text) text)

@@ -1,5 +1,5 @@
--- The tokens and texts with which a text can begin: words, numbers, labels, quoted tokens, symbols and descriptive texts, each
--- the longest (GAMS User's Guide, "Language Items").
+-- The tokens and texts with which a text can begin: words, numbers, labels, quoted tokens, symbols
+-- and descriptive texts, each the longest (GAMS User's Guide, "Language Items").
 use Rattle.std.specs.Prelude.{ℕ, ◌+◌, ◌<◌, ◌≤◌, Bool, true, false, not, ◌&&◌, ◌||◌, ◌==◌, nat_lt, if◌then◌else◌, List, [], ◌∷◌, length, take, drop, Option, Some, None, Result, Ok, Err}
 use Rattle.std.specs.List.{prefix_len}
 use Rattle.std.specs.Char.{is_ascii_alphabetic, is_ascii_alphanumeric}
@@ -17,19 +17,20 @@ use Rattle.gms_lexemes.specs.Bytes.{is_name_byte, is_label_byte, is_quote, is_te
 use Rattle.gms_lexemes.specs.Numbers.{begins_number, number_length}
 use Rattle.gms_lexemes.specs.Symbols.{symbol_at}
 
--- a piece of so many bytes, or the error that stands in its place
+-- the piece at the start of a text, or the error instead of one
 abbrev pub Read : Type 0
 Read = Result Lexeme Misread
 
--- a piece of so many bytes
+-- a piece of `length` bytes
 abbrev pub lexeme : Piece → ℕ → Read
 lexeme piece length = Ok record { piece = piece; length = length }
 
--- an error so many bytes ahead
+-- an error `ahead` bytes after the start
 abbrev pub misread : LexError → ℕ → Read
 misread error ahead = Err record { error = error; ahead = ahead }
 
--- a piece takes at least one byte and at most all of the text; an error stands at one of its bytes, or at its end
+-- a piece has at least one byte and at most all of the text; an error is at one of its bytes, or at
+-- its end
 abbrev pub IsWithin : List ℕ → Read → Type 0
 IsWithin text (Ok p) = (0 < p.length) × (p.length ≤ length text)
 IsWithin text (Err m) = m.ahead ≤ length text
@@ -38,11 +39,11 @@ IsWithin text (Err m) = m.ahead ≤ length text
 abbrev pub longest_label : ℕ
 longest_label = 63
 
--- a word or a label of so many bytes
+-- a word or a label of `length` bytes
 abbrev pub bounded : Kind → ℕ → Read
 bounded kind length = if nat_lt longest_label length then misread LongLabel 0 else lexeme (Token kind) length
 
--- the symbol that was found
+-- the result for the symbol found, or a bad byte without one
 abbrev pub symbol_of : Option (ℕ × Sym) → Read
 symbol_of None = misread BadByte 0
 symbol_of (Some symbol) = lexeme (Token (Symbol symbol.1)) symbol.0
@@ -51,11 +52,11 @@ symbol_of (Some symbol) = lexeme (Token (Symbol symbol.1)) symbol.0
 abbrev pub symbol : List ℕ → Read
 symbol text = symbol_of (symbol_at text)
 
--- how many bytes stand before the mark comes again, or the line feed
+-- how many bytes come before the closing mark, or the line feed
 abbrev pub quoted_length : ℕ → List ℕ → ℕ
 quoted_length mark text = prefix_len (λ b. not (b == mark || b == 10)) text
 
--- the mark comes again on its line
+-- the mark occurs again on its line
 abbrev pub is_closed : ℕ → List ℕ → Bool
 is_closed mark text = begins (λ b. b == mark) (drop (quoted_length mark text) text)
 
@@ -64,8 +65,8 @@ abbrev pub is_label : Piece → Bool
 is_label (Token Label) = true
 is_label piece = false
 
--- The quoted piece of so many bytes, its marks not counted, with so many bytes of ASCII at its front: it is closed on its line; a
--- label is not too long; each byte is of ASCII.
+-- The quoted piece of `inner` bytes between its marks, of which the first `plain` are ASCII. It
+-- must be closed on its line, a label must not be too long, and each byte must be ASCII.
 abbrev pub quoted_of : Piece → Bool → ℕ → ℕ → Read
 quoted_of piece closed inner plain =
     if not closed then misread OpenQuote 0 else (if is_label piece && nat_lt longest_label inner then misread LongLabel 0 else (if nat_lt plain inner then misread BadByte (1 + plain) else lexeme piece (inner + 2)))
@@ -82,12 +83,12 @@ abbrev pub code_token : Kind → List ℕ → Read
 code_token kind text =
     if begins is_ascii_alphabetic text then bounded Word (prefix_len is_name_byte text) else (if begins_number text then lexeme (Token Number) (number_length text) else (if begins is_quote text then quoted (Token kind) text else symbol text))
 
--- a token of a list where an element is due: a label, unquoted or quoted, or a symbol
+-- a token of a list where an element is expected: a label, unquoted or quoted, or a symbol
 abbrev pub label_token : List ℕ → Read
 label_token text =
     if begins is_ascii_alphanumeric text then bounded Label (prefix_len is_label_byte text) else (if begins is_quote text then quoted (Token Label) text else symbol text)
 
--- an unquoted descriptive text of so many bytes
+-- an unquoted descriptive text of `length` bytes
 abbrev pub remark_of : ℕ → Read
 remark_of length = if length == 0 then misread BadByte 0 else lexeme Remark length
 

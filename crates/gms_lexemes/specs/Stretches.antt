@@ -1,5 +1,5 @@
--- The stretches of a text between the bytes that part it, as it is read byte by byte; a label in quotation marks is not parted (GAMS
--- User's Guide, "Data Entry: Parameters, Scalars and Tables").
+-- The fields of a text between the bytes that split it, read byte by byte; a label in quotation
+-- marks is not split (GAMS User's Guide, "Data Entry: Parameters, Scalars and Tables").
 use Rattle.std.specs.Prelude.{ℕ, suc, Bool, false, ◌&&◌, ◌||◌, ◌==◌, if◌then◌else◌, List, [], ◌∷◌}
 use Rattle.std.specs.List.{list_any}
 use Rattle.gms_lines.specs.Lines.{is_blank}
@@ -19,28 +19,29 @@ is_separator Semicolon b = b == 59
 is_separator Blank b = is_blank b
 is_separator Dot b = is_dot b
 
--- how the byte stands that follows one which is no quotation mark of a label: a label may begin behind a blank and behind a dot
+-- the state after a byte that is no quotation mark of a label: a label may begin after a blank and
+-- after a dot
 abbrev pub behind_plain : ℕ → Stand
 behind_plain b = if is_blank b || is_dot b then First else Inner
 
--- How the byte stands that follows this one, which stands before the rest of its text. A quotation mark begins a label where one may
--- begin, and only if it comes again.
+-- The state after a byte, which the rest of its text follows. A quotation mark begins a label where
+-- one may begin, and only if the mark occurs again.
 abbrev pub behind : Stand → ℕ → List ℕ → Stand
 behind First b rest = if is_quote b && list_any (λ c. c == b) rest then Marked b else behind_plain b
 behind Inner b rest = behind_plain b
 behind (Marked mark) b rest = if b == mark then Inner else Marked mark
 
--- a byte parts a text: it passes the test, and stands outside labels in quotation marks
+-- a byte splits a text: it passes the test, and is outside labels in quotation marks
 abbrev pub parts : (ℕ → Bool) → Stand → ℕ → Bool
 parts test First b = test b
 parts test Inner b = test b
 parts test (Marked mark) b = false
 
--- how many bytes stand before the first that parts the text, of which the first stands so
+-- how many bytes come before the first that splits the text, beginning in this state
 abbrev pub stretch_length : (ℕ → Bool) → Stand → List ℕ → ℕ
 stretch_length test stand [] = 0
 stretch_length test stand (b ∷ rest) = if parts test stand b then 0 else suc (stretch_length test (behind stand b rest) rest)
 
--- how many bytes stand before the first that parts the text, or all
+-- how many bytes come before the first that splits the text, or all
 abbrev pub stretch_bytes : (ℕ → Bool) → List ℕ → ℕ
 stretch_bytes test text = stretch_length test First text

@@ -1,4 +1,5 @@
--- The symbols of the language (GAMS User's Guide, "Language Items", delimiters, and the operators of expressions and equations).
+-- The symbols of the language (GAMS User's Guide, "Language Items", delimiters, and the operators
+-- of expressions and equations).
 use Rattle.std.specs.Prelude.{ℕ, Bool, ◌&&◌, nat_le, List, [], ◌∷◌, length, take, Option, option_map, codes, find}
 use Rattle.std.specs.Str.{str_eq_ignore_ascii_case}
 use Rattle.gms_lexemes.specs.declared.kind.Sym.{Sym}

@@ -1,4 +1,5 @@
--- Where a line of a table ends: before the `;` that ends the table, or with the line (GAMS User's Guide, "Data Entry: Tables").
+-- Where a line of a table ends: before the `;` that ends the table, or with the line (GAMS User's
+-- Guide, "Data Entry: Tables").
 use Rattle.std.specs.Prelude.{ℕ, nat_lt, if◌then◌else◌, List, take}
 use Rattle.std.specs.List.{prefix_len}
 use Rattle.gms_lines.specs.declared.fault.LexError.TheVariants.{BadByte}
@@ -13,10 +14,10 @@ use Rattle.gms_lexemes.specs.Shapes.{Read, lexeme, misread}
 abbrev pub table_bytes : List ℕ → ℕ
 table_bytes line = stretch_bytes (is_separator Semicolon) line
 
--- so many bytes of a line of a table, of which so many at the front are of ASCII
+-- `length` bytes of a line of a table, of which the first `plain` are ASCII
 abbrev pub table_line_of : ℕ → ℕ → Read
 table_line_of length plain = if nat_lt plain length then misread BadByte plain else lexeme (Token TableLine) length
 
--- so many bytes of a line of a table
+-- the token of `length` bytes of a line of a table
 abbrev pub table_line : ℕ → List ℕ → Read
 table_line length line = table_line_of length (prefix_len is_plain (take length line))

@@ -2,7 +2,7 @@
 ghost use Rattle.std.specs.Prelude.{◌≡◌, ◌<◌, ◌+◌, ◌^◌};
 ghost use Rattle.gms_lexemes.specs.Columns.{column_after};
 
-/// The column behind a byte; a tab goes to the next column that is one more than a multiple of 8.
+/// The column after a byte; a tab goes to the next column that is one more than a multiple of 8.
 pub fn column_after(column: u32, byte: u8) -> u32
     requires { column + 8 < 2 ^ 32 }
     ensures { result ≡ column_after column byte }

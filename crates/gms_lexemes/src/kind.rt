@@ -1,4 +1,4 @@
-//! What tokens are.
+//! The kinds of tokens.
 ghost use Rattle.std.specs.Prelude.{◌≡◌};
 ghost use Rattle.gms_lexemes.specs.Symbols.{written};
 
@@ -89,7 +89,7 @@ impl Sym {
     }
 }
 
-/// What a token is.
+/// The kind of a token.
 #[derive(Clone, Copy)]
 pub enum Kind {
     /// A name or a keyword: a letter, then letters, digits and `_`.

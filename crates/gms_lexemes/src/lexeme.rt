@@ -1,8 +1,8 @@
-//! What stands first in a text, and how many bytes it takes.
+//! The piece at the start of a text, and how many bytes it takes.
 use crate::kind::Kind;
 use gms_lines::LexError;
 
-/// What stands first in a text.
+/// A kind of piece at the start of a text.
 #[derive(Clone, Copy)]
 pub enum Piece {
     /// Blanks.
@@ -15,20 +15,20 @@ pub enum Piece {
     Token(Kind),
 }
 
-/// What stands first in a text, and how many bytes it takes.
+/// The piece at the start of a text, and how many bytes it takes.
 #[derive(Clone, Copy)]
 pub struct Lexeme {
-    /// What it is.
+    /// Its kind.
     pub piece: Piece,
     /// How many bytes it takes.
     pub length: usize,
 }
 
-/// Why nothing stands first in a text.
+/// Why a text begins with no piece.
 #[derive(Clone, Copy)]
 pub struct Misread {
     /// The error.
     pub error: LexError,
-    /// How many bytes of the text stand before it.
+    /// How many bytes of the text precede it.
     pub ahead: usize,
 }

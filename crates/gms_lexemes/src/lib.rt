@@ -1,4 +1,5 @@
-//! Floor 2, source to tree. The shapes of tokens: with which words, numbers, labels, quoted tokens, symbols and texts a text can begin.
+//! Layer 2, source to tree. The shapes of tokens: the words, numbers, labels, quoted tokens,
+//! symbols and texts with which a text can begin.
 #![tactic(auto)]
 
 mod column;

@@ -26,7 +26,7 @@ pub(crate) fn begins_number(text: &[u8]) -> bool
     matches!(text, [b'0'..=b'9', ..] | [b'.', b'0'..=b'9', ..])
 }
 
-/// How many bytes the dot behind a number's digits takes, with the digits behind it.
+/// How many bytes the dot after a number's digits takes, with the digits after it.
 fn point_length(rest: &[u8]) -> usize
     ensures value { result ≡ point_length rest.now }
     ensures within { result ≤ length rest.now }
@@ -76,7 +76,7 @@ fn decimal_length(text: &[u8]) -> usize
     whole + point_length(&text[whole..])
 }
 
-/// How many bytes the number takes with which a text begins.
+/// How many bytes the number at the start of a text takes.
 pub(crate) fn number_length(text: &[u8]) -> usize
     ensures value { result ≡ number_length text.now }
     ensures within { result ≤ length text.now }

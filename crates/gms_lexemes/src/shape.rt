@@ -1,4 +1,4 @@
-//! What tokens and texts a text can begin with, each the longest.
+//! The tokens and texts with which a text can begin, each the longest.
 ghost use Rattle.std.specs.Prelude.{◌≡◌, ◌≤◌, ◌<◌, ◌+◌, ◌^◌, length};
 ghost use Rattle.std.specs.List.{prefix_len};
 ghost use Rattle.std.specs.Char.{is_ascii_alphabetic, is_ascii_alphanumeric};
@@ -15,21 +15,21 @@ use gms_lines::LexError;
 /// How many bytes a name or a label may have, quotation marks not counted.
 const LONGEST_LABEL: usize = 63;
 
-/// Whether a name goes on with the byte.
+/// Whether a name may continue with the byte.
 fn is_name_byte(byte: u8) -> bool
     ensures { result ≡ is_name_byte byte }
 {
     byte.is_ascii_alphanumeric() || byte == b'_'
 }
 
-/// How many bytes the name takes with which a text begins.
+/// How many bytes the name at the start of a text takes.
 fn name_length(text: &[u8]) -> usize
     ensures { result ≡ prefix_len is_name_byte text.now }
 {
     text.iter().take_while(|byte| is_name_byte(**byte)).count()
 }
 
-/// Whether a label goes on with the byte.
+/// Whether a label may continue with the byte.
 fn is_label_byte(byte: u8) -> bool
     ensures { result ≡ is_label_byte byte }
 {
@@ -51,7 +51,7 @@ pub(crate) fn plain_length(text: &[u8]) -> usize
     text.iter().take_while(|byte| **byte <= 127).count()
 }
 
-/// Whether an unquoted descriptive text goes on with the byte.
+/// Whether an unquoted descriptive text may continue with the byte.
 fn is_text_byte(byte: u8) -> bool
     ensures { result ≡ is_text_byte byte }
 {
@@ -86,7 +86,7 @@ fn begins_quote(text: &[u8]) -> bool
     matches!(text, [b'"' | b'\'', ..])
 }
 
-/// A word or a label of so many bytes.
+/// A word or a label of `length` bytes.
 fn bounded(kind: Kind, length: usize) -> Result<Lexeme, Misread>
     ensures { result ≡ bounded kind length }
 {
@@ -102,7 +102,7 @@ fn bounded(kind: Kind, length: usize) -> Result<Lexeme, Misread>
     })
 }
 
-/// The longest symbol with which a text begins. `BadByte` comes where it begins with none.
+/// The longest symbol with which a text begins. `BadByte` if it begins with none.
 pub fn read_symbol(text: &[u8]) -> Result<Lexeme, Misread>
     ensures { result ≡ symbol text.now }
 {
@@ -118,7 +118,7 @@ pub fn read_symbol(text: &[u8]) -> Result<Lexeme, Misread>
     }
 }
 
-/// How many bytes stand before the mark comes again, or the line feed.
+/// How many bytes come before the closing mark, or the line feed.
 fn quoted_length(mark: u8, text: &[u8]) -> usize
     ensures value { result ≡ quoted_length mark text.now }
     ensures within { result ≤ length text.now }
@@ -128,7 +128,7 @@ fn quoted_length(mark: u8, text: &[u8]) -> usize
         .count()
 }
 
-/// Whether the mark comes again on its line.
+/// Whether the mark occurs again on its line.
 fn is_closed(mark: u8, text: &[u8]) -> bool
     ensures { result ≡ is_closed mark text.now }
 {
@@ -136,7 +136,7 @@ fn is_closed(mark: u8, text: &[u8]) -> bool
     matches!(rest, [byte, ..] if *byte == mark)
 }
 
-/// The quoted piece of `inner` bytes between its marks, with `plain` bytes of ASCII at its front.
+/// The quoted piece of `inner` bytes between its marks, of which the first `plain` are ASCII.
 fn quoted_of(piece: Piece, closed: bool, inner: usize, plain: usize) -> Result<Lexeme, Misread>
     requires { inner + 2 < 2 ^ 64 }
     ensures { result ≡ quoted_of piece closed inner plain }
@@ -159,8 +159,8 @@ fn quoted_of(piece: Piece, closed: bool, inner: usize, plain: usize) -> Result<L
 
 /// The quoted piece with which a text begins.
 ///
-/// `OpenQuote` comes where its mark does not come again on the line, `LongLabel` where it is a label of over 63 bytes, and
-/// `BadByte` at the first of its bytes that is above 127.
+/// `OpenQuote` if its mark does not occur again on the line, `LongLabel` if it is a label of over
+/// 63 bytes, and `BadByte` at the first of its bytes above 127.
 fn quoted(piece: Piece, text: &[u8]) -> Result<Lexeme, Misread>
     ensures { result ≡ quoted piece text.now }
 {
@@ -175,10 +175,12 @@ fn quoted(piece: Piece, text: &[u8]) -> Result<Lexeme, Misread>
     quoted_of(piece, is_closed(*mark, rest), inner, plain)
 }
 
-/// The token of code with which a text begins: a word, a number, a quoted token of this kind, or a symbol.
+/// The token of code with which a text begins: a word, a number, a quoted token of this kind, or a
+/// symbol.
 ///
-/// `BadByte` comes at a character that begins none, and at one above 127 in a quoted token; `OpenQuote` at a mark that does not
-/// come again on its line; `LongLabel` at a word of over 63 bytes, and at a quoted token of that length if it is a label.
+/// `BadByte` at a character that begins no token, and at one above 127 in a quoted token;
+/// `OpenQuote` at a mark that does not occur again on its line; `LongLabel` at a word of over 63
+/// bytes, and at a quoted label of that length.
 pub fn code_token(kind: Kind, text: &[u8]) -> Result<Lexeme, Misread>
     ensures { result ≡ code_token kind text.now }
 {
@@ -197,10 +199,12 @@ pub fn code_token(kind: Kind, text: &[u8]) -> Result<Lexeme, Misread>
     read_symbol(text)
 }
 
-/// The token of a list with which a text begins where an element is due: a label, unquoted or quoted, or a symbol.
+/// The token of a list with which a text begins where an element is expected: a label, unquoted or
+/// quoted, or a symbol.
 ///
-/// `BadByte` comes at a character that begins none, and at one above 127 in a quoted label; `OpenQuote` at a mark that does not
-/// come again on its line; `LongLabel` at a label of over 63 bytes.
+/// `BadByte` at a character that begins no token, and at one above 127 in a quoted label;
+/// `OpenQuote` at a mark that does not occur again on its line; `LongLabel` at a label of over 63
+/// bytes.
 pub fn label_token(text: &[u8]) -> Result<Lexeme, Misread>
     ensures { result ≡ label_token text.now }
 {
@@ -213,10 +217,11 @@ pub fn label_token(text: &[u8]) -> Result<Lexeme, Misread>
     read_symbol(text)
 }
 
-/// The descriptive text with which a text begins: a quoted one ends at its mark, another before `/`, `,`, `;` or the line's end.
+/// The descriptive text with which a text begins: a quoted one ends at its mark, another before
+/// `/`, `,`, `;` or the line's end.
 ///
-/// `OpenQuote` comes at a mark that does not come again on its line, `BadByte` at a byte above 127 in a quoted text, and where
-/// an unquoted one would have no byte.
+/// `OpenQuote` at a mark that does not occur again on its line; `BadByte` at a byte above 127 in a
+/// quoted text, and if an unquoted text would be empty.
 pub fn remark(text: &[u8]) -> Result<Lexeme, Misread>
     ensures { result ≡ remark text.now }
 {

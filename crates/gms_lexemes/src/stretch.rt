@@ -1,4 +1,5 @@
-//! The stretches of a text between semicolons, blanks or dots, where labels in quotation marks may hold all of them.
+//! The fields of a text between semicolons, blanks or dots, where labels in quotation marks may
+//! contain all of them.
 ghost use Rattle.std.specs.Prelude.{◌≡◌, ◌≤◌, ◌&&◌, ◌==◌, length};
 ghost use Rattle.std.specs.List.{list_any};
 ghost use Rattle.gms_lexemes.specs.Bytes.{is_quote};
@@ -6,10 +7,10 @@ ghost use Rattle.gms_lexemes.specs.Stretches.{is_separator, behind, parts, stret
 
 use gms_lines::is_blank;
 
-/// What parts a text.
+/// What splits a text.
 #[derive(Clone, Copy)]
 pub enum Separator {
-    /// A semicolon, behind a table.
+    /// A semicolon, after a table.
     Semicolon,
     /// Blanks, between words.
     Blank,
@@ -17,14 +18,14 @@ pub enum Separator {
     Dot,
 }
 
-/// What a byte of a text may be.
+/// The state before a byte of a text: what the byte may be.
 #[derive(Clone, Copy)]
 enum Stand {
-    /// The first of a label.
+    /// The first byte of a label.
     First,
-    /// One of a label in quotation marks, which the next of these marks ends.
+    /// A byte of a label in quotation marks, which the next of these marks ends.
     Marked(u8),
-    /// Any other.
+    /// Any other byte.
     Inner,
 }
 
@@ -40,7 +41,7 @@ impl Separator {
         }
     }
 
-    /// Whether the byte parts a text where it stands so.
+    /// Whether the byte, read in this state, splits a text.
     fn parts(self, stand: Stand, byte: u8) -> bool
         ensures { result ≡ parts (is_separator self) stand byte }
     {
@@ -51,7 +52,7 @@ impl Separator {
     }
 }
 
-/// Whether a byte is a quotation mark that comes again in the rest of its text.
+/// Whether a byte is a quotation mark that occurs again in the rest of its text.
 fn opens(byte: u8, rest: &[u8]) -> bool
     ensures { result ≡ (is_quote byte && list_any (λ c. c == byte) rest.now) }
 {
@@ -59,7 +60,7 @@ fn opens(byte: u8, rest: &[u8]) -> bool
 }
 
 impl Stand {
-    /// How the byte stands that follows this one, which stands before the rest of the text.
+    /// The state after a byte, which the rest of the text follows.
     fn behind(self, byte: u8, rest: &[u8]) -> Stand
         ensures { result ≡ behind self byte rest.now }
     {
@@ -78,8 +79,8 @@ impl Stand {
     }
 }
 
-/// How many bytes of a text stand before the first that parts it, or all. A label in quotation marks, which begins the text or stands behind
-/// a blank or a dot, is not parted.
+/// How many bytes of a text come before the first that splits it, or all. A label in quotation
+/// marks is not split if it begins the text or follows a blank or a dot.
 pub fn stretch_length(separator: Separator, text: &[u8]) -> usize
     ensures value { result ≡ stretch_bytes (is_separator separator) text.now }
     ensures within { result ≤ length text.now }

@@ -16,7 +16,7 @@ pub fn table_bytes(line: &[u8]) -> usize
     stretch_length(Separator::Semicolon, line)
 }
 
-/// The token that so many bytes of a table's line are. `BadByte` comes at the first byte above 127.
+/// The token of `bytes` bytes of a table's line. `BadByte` at the first byte above 127.
 pub fn table_line(bytes: usize, line: &[u8]) -> Result<Lexeme, Misread>
     requires { bytes ≤ length line.now }
     ensures { result ≡ table_line bytes line.now }

@@ -1,4 +1,4 @@
--- The error that is found first in lines is the first that stands in them.
+-- The search finds the first error of the lines.
 use Rattle.std.proofs.Common.{◌≡◌, ◌⊎◌, inl, inr, ℕ, suc, ◌+◌, ◌==◌, ◌&&◌, ◌<◌, ◌≤◌, Bool, true, false, not, nat_lt, if◌then◌else◌, List, [], ◌∷◌, ◌++◌, length, Option, Some, None, option_map, refl, sym, ap, ◌∙◌, subst, arith, append_assoc}
 use Rattle.std.proofs.lemmas.Bool.Decides.{nat_tests}
 use Rattle.std.proofs.lemmas.List.Sums.{prefix_len-le-length, prefix_len_passes, prefix_len_stops}
@@ -16,7 +16,7 @@ use Rattle.gms_lines.specs.LineFaults.{longest_line, is_bad, is_unknown, IsLineE
 use Rattle.gms_lines.specs.LineSearch.{fault_at, good_length, head_error, first_of_line, first_in_line, first_in_lines}
 use Rattle.gms_lines.proofs.LineLemmas.{true_or_false, below_or, before-le-length}
 
--- the fault stands in a line that begins at this byte
+-- the fault is in a line that begins at this byte
 abbrev pub StandsInLine : ℕ → Bool → List ℕ → List (List ℕ) → ByteFault → Type 0
 StandsInLine start inside line others fault = (k : ℕ) × (fault.at ≡ start + k) × IsLineError inside line others k fault.error
 
@@ -29,7 +29,7 @@ least_code LongLabel = omega arith
 least_code LongLine = omega arith
 least_code UnknownControl = omega arith
 
--- the least of three errors that may stand at a first byte
+-- the least of three errors that the first byte may have
 abbrev head : Bool → Bool → Bool → Option LexError
 head a b c = if a then Some OpenText else (if b then Some LongLine else (if c then Some UnknownControl else None))
 
@@ -67,7 +67,7 @@ both_true false b h = cc
 true_both : (a b : Bool) → a ≡ true → b ≡ false → (a && not b) ≡ true
 true_both a b h g = grind arith
 
--- the error at the first byte stands there
+-- the error found for the first byte is an error of the line there
 head_stands : (inside : Bool) (line : List ℕ) (others : List (List ℕ)) (e : LexError) → head_error inside line others ≡ Some e → IsLineError inside line others 0 e
 head_stands inside line others e h =
     elim (head_is (opens inside line && not (list_any closes others)) (nat_lt longest_line (length (content line))) (is_unknown (class_of inside line) line) e h) [
@@ -78,7 +78,7 @@ head_stands inside line others e h =
       ]
     ]
 
--- it is the least of those that stand there, bad bytes apart
+-- it is the least of the errors at the first byte, bad bytes apart
 head_least : (inside : Bool) (line : List ℕ) (others : List (List ℕ)) (k : ℕ) (e : LexError) → IsLineError inside line others k e → (e ≡ BadByte) ⊎ ((k ≡ 0) × AtMost (head_error inside line others) (error_code e))
 head_least inside line others k BadByte h = inl refl
 head_least inside line others k OpenText h = inr (h.0, head_open _ _ _ (true_both (opens inside line) (list_any closes others) h.1 h.2))
@@ -89,7 +89,8 @@ head_least inside line others k UnknownControl h = inr (h.0, head_unknown (opens
 head_least inside line others k OpenQuote h = absurd h
 head_least inside line others k LongLabel h = absurd h
 
--- what is known of a line's errors: so many bytes are good, and the error at the first byte, bad bytes apart
+-- what is known of a line's errors: the first `good` bytes are good, and the error at the first
+-- byte, bad bytes apart
 record Searched (inside : Bool) (line : List ℕ) (others : List (List ℕ)) (good : ℕ) (found : Option LexError) : Type 0 where
   within : good ≤ length (content line)
   clean : (k : ℕ) → IsLineError inside line others k BadByte → good ≤ k
@@ -97,7 +98,8 @@ record Searched (inside : Bool) (line : List ℕ) (others : List (List ℕ)) (go
   stands : (e : LexError) → found ≡ Some e → IsLineError inside line others 0 e
   least : (k : ℕ) (e : LexError) → IsLineError inside line others k e → (e ≡ BadByte) ⊎ ((k ≡ 0) × AtMost found (error_code e))
 
--- a fault that stands is a bad byte behind the good ones, or at the first byte with no lesser number than the error there
+-- a fault is either a bad byte after the good ones, or at the first byte, with a number no less
+-- than that of the error found there
 fault_cases : (start : ℕ) (inside : Bool) (line : List ℕ) (others : List (List ℕ)) (good : ℕ) (found : Option LexError) → Searched inside line others good found → (f : ByteFault) → StandsInLine start inside line others f → ((k : ℕ) × (f.at ≡ start + k) × (good ≤ k) × (k < length (content line)) × (error_code f.error ≡ 1)) ⊎ ((f.at ≡ start) × AtMost found (error_code f.error))
 fault_cases start inside line others good found s f (k, at, h) = elim (s.least k f.error h) [
   | inl e ↦ let bad : IsLineError inside line others k BadByte = subst (IsLineError inside line others k) e h in inl (k, at, s.clean k bad, bad.0, ap error_code e)
@@ -213,7 +215,7 @@ lines-AreSome (b ∷ text) = elim (true_or_false (b == 10)) [
   | inr h ↦ subst AreSome (sym (ap (λ v. if v then (b ∷ []) ∷ lines text else put_first b (lines text)) h)) (put_first-AreSome b (lines text) (lines-AreSome text))
 ]
 
--- an error of a line stands at one of its bytes
+-- an error of a line is at one of its bytes
 error_within : (inside : Bool) (line : List ℕ) (others : List (List ℕ)) (k : ℕ) (e : LexError) → 0 < length line → IsLineError inside line others k e → k < length line
 error_within inside line others k BadByte some h = omega (arith, h.0, length-take-le (before is_line_end line) line, before-le-length is_line_end line)
 error_within inside line others k OpenText some h = omega (arith, h.0)
@@ -222,13 +224,13 @@ error_within inside line others k UnknownControl some h = omega (arith, h.0)
 error_within inside line others k OpenQuote some h = absurd h
 error_within inside line others k LongLabel some h = absurd h
 
--- an error of lines stands at or behind their first byte
+-- an error of lines is at their first byte or after it
 stands_behind : (start : ℕ) (inside : Bool) (ls : List (List ℕ)) (f : ByteFault) → StandsInLines start inside ls f → start ≤ f.at
 stands_behind start inside [] f h = absurd h
 stands_behind start inside (line ∷ others) f (inl (k, at, h)) = omega arith
 stands_behind start inside (line ∷ others) f (inr h) = omega (arith, stands_behind (start + length line) (inside_after inside line) others f h)
 
--- the first error of a line, or else of those behind it, is the first of all
+-- the first error of a line, or else of those after it, is the first of all
 first_joined : (start : ℕ) (inside : Bool) (line : List ℕ) (others : List (List ℕ)) (a b : Option ByteFault) → 0 < length line → IsFirstFault (StandsInLine start inside line others) a → IsFirstFault (StandsInLines (start + length line) (inside_after inside line) others) b → IsFirstFault (StandsInLines start inside (line ∷ others)) (option_or a b)
 first_joined start inside line others None None some p q = λ f h. elim h [ inl g ↦ p f g | inr g ↦ q f g ]
 first_joined start inside line others None (Some y) some p q = (inr q.0, λ f h. elim h [ inl g ↦ absurd (p f g) | inr g ↦ q.1 f g ])
@@ -298,6 +300,6 @@ stands_within start inside [] f some h = absurd h
 stands_within start inside (line ∷ others) f some (inl (k, at, h)) = omega (arith, error_within inside line others k f.error some.0 h)
 stands_within start inside (line ∷ others) f some (inr h) = omega (arith, stands_within (start + length line) (inside_after inside line) others f some.1 h)
 
--- an error of a line stands at a byte of the source
+-- an error of a line is at a byte of the source
 pub fault_within : (source : List ℕ) (f : ByteFault) → IsLineFault source f → f.at < length source
 fault_within source f h = omega (arith, stands_within 0 false (lines source) f (lines-AreSome source) h, total-lines source)

@@ -1,4 +1,4 @@
--- How the lines of a text and what they hold are found from its front.
+-- How the lines of a text, and what they contain, are found from its start.
 use Rattle.std.proofs.Common.{◌≡◌, ◌⊎◌, inl, inr, ℕ, suc, ◌+◌, ◌==◌, ◌<◌, ◌≤◌, Bool, true, false, nat_lt, if◌then◌else◌, List, [], ◌∷◌, length, take, drop, get_or, refl, sym, ap, ◌∙◌, subst, arith, drop-cons}
 use Rattle.std.proofs.lemmas.Grind.{common_steps}
 use Rattle.std.proofs.lemmas.Bool.Decides.{nat_tests}
@@ -27,7 +27,7 @@ lines-feed b text h = ap (λ v. if v then (b ∷ []) ∷ lines text else put_fir
 lines-cons : (b : ℕ) (text : List ℕ) → (b == 10) ≡ false → lines (b ∷ text) ≡ put_first b (lines text)
 lines-cons b text h = ap (λ v. if v then (b ∷ []) ∷ lines text else put_first b (lines text)) h
 
--- what follows so many bytes begins with the next one
+-- what follows n bytes begins with the next one
 pub drop_cons : (text : List ℕ) (n : ℕ) → n < length text → drop n text ≡ get_or text n 0 ∷ drop (n + 1) text
 drop_cons text n h = grind (arith, common_steps, drop-cons)
 
@@ -35,7 +35,7 @@ drop_cons text n h = grind (arith, common_steps, drop-cons)
 abbrev FirstLine : List ℕ → ℕ → Type 0
 FirstLine text n = lines text ≡ take n text ∷ lines (drop n text)
 
--- a text is its first line and the lines behind it
+-- a text is its first line followed by the other lines
 pub lines_split : (b : ℕ) (text : List ℕ) → FirstLine (b ∷ text) (line_length (b ∷ text))
 lines_split b [] = elim (true_or_false (b == 10)) [
   | inl h ↦ subst (FirstLine (b ∷ [])) (sym (line_length-feed b [] h)) (lines-feed b [] h)
@@ -46,21 +46,21 @@ lines_split b (c ∷ text) = elim (true_or_false (b == 10)) [
   | inr h ↦ subst (FirstLine (b ∷ c ∷ text)) (sym (line_length-cons b (c ∷ text) h)) (lines-cons b (c ∷ text) h ∙ ap (put_first b) (lines_split c text))
 ]
 
--- where the rest passes the test, no more bytes stand before
+-- if the rest passes the test, no bytes precede it
 pub before_stops : (test : List ℕ → Bool) (text : List ℕ) → test text ≡ true → before test text ≡ 0
 before_stops test [] h = refl
 before_stops test (b ∷ text) h = ap (λ v. if v then 0 else 1 + before test text) h
 
--- a text that is not empty is its first line and the lines behind it
+-- a nonempty text is its first line followed by the other lines
 pub first_line : (text : List ℕ) (n : ℕ) → 0 < length text → n ≡ line_length text → FirstLine text n
 first_line [] n some e = absurd (omega arith)
 first_line (b ∷ text) n some e = subst (FirstLine (b ∷ text)) (sym e) (lines_split b text)
 
--- the same at the front of a text
+-- if the text does not pass the test, its first byte is one more before the place
 pub before_more : (test : List ℕ → Bool) (b : ℕ) (text : List ℕ) → test (b ∷ text) ≡ false → before test (b ∷ text) ≡ 1 + before test text
 before_more test b text h = ap (λ v. if v then 0 else 1 + before test text) h
 
--- where it does not, one more byte stands before
+-- if the rest does not pass, its first byte is one more before the place
 pub before_goes : (test : List ℕ → Bool) (text : List ℕ) (n : ℕ) → n < length text → test (drop n text) ≡ false → before test (drop n text) ≡ 1 + before test (drop (n + 1) text)
 before_goes test text n h e =
     let same : drop n text ≡ get_or text n 0 ∷ drop (n + 1) text = drop_cons text n h in
@@ -70,7 +70,7 @@ before_goes test text n h e =
 pub length_some : (text : List ℕ) → (length text == 0) ≡ false → 0 < length text
 length_some text h = grind (arith, nat_tests)
 
--- no more bytes stand before a place than there are
+-- at most all bytes precede a place
 pub before-le-length : (test : List ℕ → Bool) (text : List ℕ) → before test text ≤ length text
 before-le-length test [] = omega arith
 before-le-length test (b ∷ text) = elim (true_or_false (test (b ∷ text))) [

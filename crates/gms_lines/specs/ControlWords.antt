@@ -7,11 +7,11 @@ use Rattle.std.specs.Str.{str_eq_ignore_ascii_case}
 abbrev pub block_word : List ℕ
 block_word = codes "$ontext"
 
--- the front of the line that ends a block of comment
+-- the prefix of the line that ends a block of comment
 abbrev pub block_end : List ℕ
 block_end = codes "$offtext"
 
--- the control words; all but `$ontext` and `$offtext` have no effect
+-- the control words; all except `$ontext` and `$offtext` have no effect
 abbrev pub control_words : List (List ℕ)
 control_words =
     codes "$title" ∷ codes "$ontext" ∷ codes "$offtext" ∷ codes "$offsymxref" ∷ codes "$offsymlist" ∷ codes "$offlisting" ∷ codes "$onlisting" ∷ codes "$offupper" ∷ codes "$onupper" ∷ codes "$eject" ∷ []

@@ -26,7 +26,7 @@ error_name UnknownControl = codes "UnknownControl"
 abbrev pub IsBefore : ByteFault → ByteFault → Type 0
 IsBefore f g = (f.at < g.at) ⊎ ((f.at ≡ g.at) × (error_code f.error ≤ error_code g.error))
 
--- Of the faults that stand, this is the first; or none stands.
+-- Of these faults, this is the first; or there is none.
 abbrev pub IsFirstFault : (ByteFault → Type 0) → Option ByteFault → Type 0
 IsFirstFault Stands None = (f : ByteFault) → Stands f → ⊥
 IsFirstFault Stands (Some f) = Stands f × ((g : ByteFault) → Stands g → IsBefore f g)

@@ -1,5 +1,6 @@
--- The lexical errors of lines: bytes that may stand in no such line, long lines, control words that are not accepted, and
--- blocks of comment that are not ended (GAMS User's Guide, "Dollar Control Options").
+-- The lexical errors of lines: bytes that no such line may contain, long lines, control words that
+-- are not accepted, and blocks of comment that are not ended (GAMS User's Guide, "Dollar Control
+-- Options").
 use Rattle.std.specs.Prelude.{◌≡◌, ◌⊎◌, ℕ, ◌+◌, ◌<◌, Bool, true, false, not, ◌&&◌, ◌||◌, ◌==◌, nat_lt, List, [], ◌∷◌, length, get_or}
 use Rattle.std.specs.List.{list_any}
 use Rattle.gms_lines.specs.declared.line.Class.{Class}
@@ -18,7 +19,8 @@ longest_line = 32768
 abbrev pub is_control_byte : ℕ → Bool
 is_control_byte b = (nat_lt b 32 && not (b == 9)) || b == 127
 
--- A byte that may not stand in a line of this class, whatever stands around it. Code may hold bytes above 127 in texts.
+-- A byte that no line of this class may contain, whatever surrounds it. Code may contain bytes
+-- above 127 in texts.
 abbrev pub is_bad : Class → ℕ → Bool
 is_bad Comment b = is_control_byte b
 is_bad Control b = is_control_byte b || nat_lt 127 b
@@ -30,7 +32,7 @@ is_unknown Control line = not (is_among (first_word line) control_words)
 is_unknown Comment line = false
 is_unknown Code line = false
 
--- The error stands at byte k of this line, before these others.
+-- The error is at byte k of this line, which these others follow.
 abbrev pub IsLineError : Bool → List ℕ → List (List ℕ) → ℕ → LexError → Type 0
 IsLineError inside line others k BadByte = (k < length (content line)) × (is_bad (class_of inside line) (get_or (content line) k 0) ≡ true)
 IsLineError inside line others k OpenText = (k ≡ 0) × (opens inside line ≡ true) × (list_any closes others ≡ false)
@@ -39,12 +41,13 @@ IsLineError inside line others k UnknownControl = (k ≡ 0) × (is_unknown (clas
 IsLineError inside line others k OpenQuote = ⊥
 IsLineError inside line others k LongLabel = ⊥
 
--- The fault stands in these lines, of which the first begins at this byte, inside a block of comment or outside.
+-- The fault is in these lines, of which the first begins at byte `start`, inside a block of comment
+-- or outside.
 abbrev pub StandsInLines : ℕ → Bool → List (List ℕ) → ByteFault → Type 0
 StandsInLines start inside [] fault = ⊥
 StandsInLines start inside (line ∷ others) fault =
     ((k : ℕ) × (fault.at ≡ start + k) × IsLineError inside line others k fault.error) ⊎ StandsInLines (start + length line) (inside_after inside line) others fault
 
--- the fault stands in a line of the source
+-- the fault is in a line of the source
 abbrev pub IsLineFault : List ℕ → ByteFault → Type 0
 IsLineFault source fault = StandsInLines 0 false (lines source) fault

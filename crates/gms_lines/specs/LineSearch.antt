@@ -13,17 +13,17 @@ use Rattle.gms_lines.specs.LineFaults.{longest_line, is_bad, is_unknown}
 abbrev pub fault_at : ℕ → LexError → ByteFault
 fault_at at error = record { at = at; error = error }
 
--- how many bytes of a line stand before its first bad one
+-- how many bytes of a line come before its first bad one
 abbrev pub good_length : Class → List ℕ → ℕ
 good_length class content = prefix_len (λ b. not (is_bad class b)) content
 
--- the least error that stands at a line's first byte, bad bytes apart
+-- the least error at a line's first byte, bad bytes apart
 abbrev pub head_error : Bool → List ℕ → List (List ℕ) → Option LexError
 head_error inside line others =
     if opens inside line && not (list_any closes others) then Some OpenText else (if nat_lt longest_line (length (content line)) then Some LongLine else (if is_unknown (class_of inside line) line then Some UnknownControl else None))
 
--- The first error of a line of which so many bytes are good, with this error at its first byte. A bad byte that is the first
--- is the least error there.
+-- The first error of a line whose first `good` of `all` bytes are good, and whose first byte has
+-- the error `head`. A bad first byte is the least error there.
 abbrev pub first_of_line : ℕ → ℕ → ℕ → Option LexError → Option ByteFault
 first_of_line start good all head =
     if good == all then option_map (fault_at start) head else (if good == 0 then Some (fault_at start BadByte) else option_or (option_map (fault_at start) head) (Some (fault_at (start + good) BadByte)))

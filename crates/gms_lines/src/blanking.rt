@@ -1,4 +1,4 @@
-//! The text of a source as tokens are read off it.
+//! The text of a source from which tokens are read.
 ghost use Rattle.std.specs.Prelude.{◌≡◌, ◌++◌, length, map, IfOk, OnOk};
 ghost use Rattle.gms_lines.specs.Errors.{IsFirstFault};
 ghost use Rattle.gms_lines.specs.Lines.{blanked, read_as, code_text};
@@ -12,14 +12,16 @@ use std::alloc::{AllocError, Global};
 /// A source without its comments and control lines.
 #[derive(Drop)]
 pub struct CodeText {
-    /// The source with blanks in place of each comment and control line. Each byte stands where it stands in the source.
+    /// The source with blanks in place of each comment and control line. Each byte keeps its
+    /// position in the source.
     pub text: Vec<u8>,
-    /// The first lexical error of a line: a control character other than tab, a byte above 127 in a control line, an
-    /// `$ontext` that is not ended, a line of over 32,768 bytes, and a control word that is not accepted.
+    /// The first lexical error of a line: a control character other than tab, a byte above 127 in a
+    /// control line, an `$ontext` that is not ended, a line of over 32,768 bytes, or a control word
+    /// that is not accepted.
     pub fault: Option<ByteFault>,
 }
 
-/// A byte of a line without tokens as blank.
+/// A byte of a line without tokens, replaced by a blank.
 fn blanked(byte: u8) -> u8
     ensures { result ≡ blanked byte }
 {
@@ -39,7 +41,7 @@ fn append_blanked(code: &mut Vec<u8>, line: &[u8]) -> Result<(), AllocError>
     Ok(())
 }
 
-/// Appends a line as tokens are read off it.
+/// Appends a line as tokens are read from it.
 fn append_line(code: &mut Vec<u8>, class: Class, line: &[u8]) -> Result<(), AllocError>
     ensures { OnOk result (code.new.items ≡ code.old.items ++ read_as class line.now) }
 {
@@ -49,11 +51,12 @@ fn append_line(code: &mut Vec<u8>, class: Class, line: &[u8]) -> Result<(), Allo
     }
 }
 
-/// The text of a source as tokens are read off it, and the first lexical error of its lines (GAMS User's Guide, "Language
-/// Items" and "Dollar Control Options").
+/// The text of a source from which tokens are read, and the first lexical error of its lines (GAMS
+/// User's Guide, "Language Items" and "Dollar Control Options").
 ///
-/// A line with `*` in column 1 is comment, and so is each line behind `$ontext` up to and with the one that begins with
-/// `$offtext`. A line with `$` in column 1 is a control line. `AllocError` comes where memory was wanting.
+/// A line with `*` in column 1 is comment. So are the lines after `$ontext`, up to and including
+/// the one that begins with `$offtext`. A line with `$` in column 1 is a control line. The only
+/// error is out of memory.
 pub fn code_text(alloc: Global, source: &[u8]) -> Result<CodeText, AllocError>
     ensures text { IfOk result (λ code. code.text.items ≡ code_text source.now) }
     ensures as_long { IfOk result (λ code. length code.text.items ≡ length source.now) }

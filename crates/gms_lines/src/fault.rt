@@ -1,4 +1,4 @@
-//! Lexical errors, and the bytes at which they stand.
+//! Lexical errors, and the bytes at which they occur.
 ghost use Rattle.std.specs.Prelude.{◌≡◌};
 ghost use Rattle.gms_lines.specs.Errors.{error_code, error_name};
 
@@ -7,8 +7,8 @@ use thiserror::Error;
 /// A lexical error, by its cause.
 #[derive(Clone, Copy, Debug, Error)]
 pub enum LexError {
-    /// A byte that cannot occur here: a control character other than tab; a byte above 127 outside comments and
-    /// unquoted descriptive texts; in code, a character that begins no token.
+    /// A byte that cannot occur here: a control character other than tab; a byte above 127 outside
+    /// comments and unquoted descriptive texts; in code, a character that begins no token.
     #[error("a byte that cannot occur here")]
     BadByte,
     /// A quotation mark that is not closed on its line.

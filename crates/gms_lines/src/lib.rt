@@ -1,4 +1,5 @@
-//! Floor 2, source to tree. Lines: what each line of a source is, the text that is left for tokens, and the lexical errors of lines.
+//! Layer 2, source to tree. Lines: the class of each line of a source, the text that remains for
+//! tokens, and the lexical errors of lines.
 #![tactic(auto)]
 
 mod blanking;

@@ -1,4 +1,4 @@
-//! What a line is: where it ends, its class, and the blocks of comment that it begins and ends.
+//! Lines: where each ends, its class, and the blocks of comment that it begins and ends.
 ghost use Rattle.std.specs.Prelude.{◌≡◌, ◌<◌, ◌≤◌, ◌+◌, not, length, [], ◌∷◌, IfSome, IfNone};
 ghost use Rattle.gms_lines.specs.Lines.{before, is_line_end, content, class_by_column, class_of, first_word, closes, opens, inside_after, is_blank, before_feed, line_length, lines};
 ghost use Rattle.std.specs.Str.{str_eq_ignore_ascii_case};
@@ -8,7 +8,7 @@ ghost use Rattle.gms_lines.specs.ControlWords.{control_words, is_among};
 /// What a line is.
 #[derive(Clone, Copy)]
 pub enum Class {
-    /// It begins with `*`, or stands inside a block of comment.
+    /// It begins with `*`, or is inside a block of comment.
     Comment,
     /// It begins with `$`.
     Control,
@@ -30,7 +30,7 @@ const CONTROL_WORDS: [&str; 10] = [
     "$eject",
 ];
 
-/// How many bytes stand before the first line feed.
+/// How many bytes come before the first line feed.
 fn before_feed(text: &[u8]) -> usize
     ensures value { result ≡ before_feed text.now }
     ensures within { result ≤ length text.now }
@@ -52,7 +52,7 @@ pub(crate) fn line_length(text: &[u8]) -> usize
     }
 }
 
-/// The first line of a text with its end, and what follows it; nothing where the text is empty.
+/// The first line of a text with its end, and what follows it; nothing for an empty text.
 pub(crate) fn split_line(text: &[u8]) -> Option<(&[u8], &[u8])>
     ensures none { IfNone result (text.now ≡ []) }
     ensures first { IfSome result (λ p. lines text.now ≡ p.0.now ∷ lines p.1.now) }
@@ -66,14 +66,14 @@ pub(crate) fn split_line(text: &[u8]) -> Option<(&[u8], &[u8])>
     Some(text.split_at(length))
 }
 
-/// Whether a text begins with a line end: a line feed, or a carriage return right before one.
+/// Whether a text begins with a line end: a line feed, or a carriage return directly before one.
 pub fn is_line_end(text: &[u8]) -> bool
     ensures { result ≡ is_line_end text.now }
 {
     matches!(text, [b'\n', ..] | [b'\r', b'\n', ..])
 }
 
-/// How many bytes of a text stand before its first line end.
+/// How many bytes of a text come before its first line end.
 pub fn content_length(text: &[u8]) -> usize
     ensures value { result ≡ before is_line_end text.now }
     ensures within { result ≤ length text.now }
@@ -129,7 +129,7 @@ fn first_word(line: &[u8]) -> &[u8]
     &content[..word_length(content)]
 }
 
-/// How many bytes stand before the first blank.
+/// How many bytes come before the first blank.
 fn word_length(content: &[u8]) -> usize
     ensures { result ≡ prefix_len (λ b. not (is_blank b)) content.now }
 {
@@ -151,7 +151,7 @@ pub(crate) fn opens(inside: bool, line: &[u8]) -> bool
     !inside && first_word(line).eq_ignore_ascii_case(b"$ontext")
 }
 
-/// Whether the line after this one stands inside a block of comment.
+/// Whether the line after this one is inside a block of comment.
 pub(crate) fn inside_after(inside: bool, line: &[u8]) -> bool
     ensures { result ≡ inside_after inside line.now }
 {

@@ -18,7 +18,7 @@ fn is_control_byte(byte: u8) -> bool
     (byte < 32 && byte != b'\t') || byte == 127
 }
 
-/// Whether a byte may not stand in a line of this class, whatever stands around it.
+/// Whether a line of this class may not contain a byte, whatever surrounds it.
 fn is_bad(class: Class, byte: u8) -> bool
     ensures { result ≡ is_bad class byte }
 {
@@ -28,7 +28,7 @@ fn is_bad(class: Class, byte: u8) -> bool
     }
 }
 
-/// How many bytes of a line stand before its first bad one.
+/// How many bytes of a line come before its first bad one.
 fn good_length(class: Class, content: &[u8]) -> usize
     ensures value { result ≡ good_length class content.now }
     ensures within { result ≤ length content.now }
@@ -63,7 +63,7 @@ fn closes_later(text: &[u8]) -> bool
     false
 }
 
-/// The least error that stands at a line's first byte, bad bytes apart. The line stands before the text `others`.
+/// The least error at a line's first byte, bad bytes apart. The text `others` follows the line.
 fn head_error(inside: bool, line: &[u8], others: &[u8]) -> Option<LexError>
     ensures { result ≡ head_error inside line.now (lines others.now) }
 {
@@ -78,7 +78,8 @@ fn head_error(inside: bool, line: &[u8], others: &[u8]) -> Option<LexError>
     }
 }
 
-/// The first error of a line that begins at the byte `start`, of which `good` of `all` bytes stand before the first bad one.
+/// The first error of a line that begins at the byte `start`, of which `good` of `all` bytes come
+/// before the first bad one.
 fn first_of_line(start: usize, good: usize, all: usize, head: Option<LexError>) -> Option<ByteFault>
     requires { start + good < 2 ^ 64 }
     ensures { result ≡ first_of_line start good all head }
@@ -97,7 +98,7 @@ fn first_of_line(start: usize, good: usize, all: usize, head: Option<LexError>) 
     }))
 }
 
-/// The first error of a line that begins at the byte `start` and stands before the text `others`.
+/// The first error of a line that begins at the byte `start` and is followed by the text `others`.
 pub(crate) fn first_in_line(
     start: usize,
     inside: bool,

@@ -270,7 +270,7 @@ options_got value {reader = reader} {t = t} {settings = settings} n got = got_by
     (λ sense m. view-Options value settings ∙ ap sets_options (all_meant (IsSetting value reader.source.now) (λ pair. (pair.0, setting_in value pair.1)) (setting_of reader.source.now sense.names sense.labels) sense (λ tree x k. k) got.tree settings (got.means sense m)))
     (let a = n.further in let b = got.further in omega arith)
 
--- ---- a part behind two others
+-- ---- a part after two others
 
 module _ {p q r : GamsPart} {ts : List Seen} where
   regrouped_reads : {between rest : List Seen} {a b : Derivation} → Reads productions look_ahead (p · q) ts (read a between) → Reads productions look_ahead r between (read b rest) →
@@ -290,7 +290,7 @@ module _ {p q r : GamsPart} {ts : List Seen} where
       subst (λ (u : List Seen). Takes productions look_ahead (p · (q · r)) ts u rest) (sym (append_assoc (yield a) (yield b) front)) (takes_second h (takes_second k l))
 
 module _ {limit : ℕ} {source : List ℕ} {p q r : GamsPart} {w : Walk} {ts : List Seen} where
-  -- the same as the first of two, and the second with another behind it
+  -- the first of two, and the second followed by another
   pub gives_regrouped : {v x : Walk} {between rest : List Seen} {a b : Derivation} → Gives limit source (p · q) w ts a v between → Gives limit source r v between b x rest →
       Gives limit source (p · (q · r)) w ts (pair (first_in a) (pair (second_in a) b)) x rest
   gives_regrouped {a = a} {b = b} g h =
@@ -302,7 +302,7 @@ module _ {limit : ℕ} {source : List ℕ} {p q r : GamsPart} {w : Walk} {ts : L
   refuses_grouped : {e : SourceFaultOrMemory} → Refuses limit source ((p · q) · r) w ts e → Refuses limit source (p · (q · r)) w ts e
   refuses_grouped c = by_cause c (λ fault s. stuck_as s (grouped_reads s.reads)) (λ fault s. wrong_as s (grouped_takes s.takes))
 
-  -- the first two are refused, and what stands behind them
+  -- the first two are refused, and what follows them
   pub refuses_pair : {e : SourceFaultOrMemory} → Refuses limit source (p · q) w ts e → Refuses limit source (p · (q · r)) w ts e
   refuses_pair c = refuses_grouped (refuses_first c)
 

@@ -1,5 +1,5 @@
--- The tokens of an expression leave the same names, labels and parentheses, and have the same faults, whether they are looked at as those
--- of an expression or as those of a program.
+-- The tokens of an expression leave the same names, labels and parentheses, and have the same
+-- faults, whether they are read as those of an expression or as those of a program.
 use Rattle.std.proofs.Math.Bool.{or-false, and-false}
 use Rattle.std.proofs.Common.{◌≡◌, ℕ, ◌<◌, Bool, true, false, not, ◌&&◌, ◌||◌, ◌==◌, cond, List, [], ◌∷◌, refl, sym, ap, ap₂, ◌∙◌, subst, arith}
 use Rattle.gms_labels.specs.Labels.{entered, IsFullFor}
@@ -30,7 +30,7 @@ abbrev pub is_inner : Terminal → Bool
 is_inner = is_among
     (Name ∷ Suffix ∷ Function ∷ OrdCard ∷ FoldOp ∷ Infinity ∷ NotAvailable ∷ YesNo ∷ Not ∷ And ∷ Or ∷ RelationWord ∷ Number ∷ Text ∷ Power ∷ Relation ∷ Circular ∷ Sign ∷ Star ∷ Slash ∷ Equals ∷ LeftParen ∷ RightParen ∷ Comma ∷ Dot ∷ Dollar ∷ [])
 
--- two walks agree
+-- two states agree
 pub record Agrees (w : Walk) (x : inner.Walk) : Type 0 where
   pub open_count : w.open_count ≡ x.open_count
   pub names : w.names ≡ x.names
@@ -54,7 +54,7 @@ inner_keyword w source t ahead h = keyword_after source w t ahead (not-true (beg
 same_name : (w : Walk) (x : inner.Walk) (kind : Terminal) → Agrees w x → is_name w kind ≡ inner.is_name x kind
 same_name w x kind a = ap (λ b. is_among (Name ∷ Suffix ∷ []) kind && not b) (ap₂ (λ b c. b || c) a.dotted a.optionless ∙ or-false x.dotted)
 
--- a text that stands deep enough is an index
+-- a text inside deep enough parentheses is an index
 deep_index : (w : Walk) (kind : Terminal) → (kind ≡ Text → w.level < w.open_count) → is_index w kind ≡ is Text kind
 deep_index w Text h = let l = h refl in ap not (ap (λ b. is_among (Display ∷ Abort ∷ []) w.keyword && b) (not_true (w.open_count == w.level) (λ e. let k = eqb-true w.open_count w.level e in omega (arith, l, k))) ∙ and-false _)
 deep_index w _ h = refl
@@ -117,7 +117,7 @@ module _ (limit : ℕ) (source : List ℕ) where
       let new_are : new_labels source w t ahead ≡ text ∷ [] = same_new source w t ahead h d ∙ ap (λ b. cond b (text ∷ []) []) there in
       many_labels (ap (is TableLine) e) (subst (λ (ls : List (List ℕ)). LacksRoom w.labels ls) (sym new_are) (lacks_append w.labels [] text [] (subst (λ (ls : List (List ℕ)). IsFullFor ls text) (sym a.labels) k)))
 
-  -- a sound token leaves walks that agree
+  -- a sound token leaves states that agree
   agrees_on : (w : Walk) (x : inner.Walk) (t : Seen) (ahead : Terminal) → is_inner t.0 ≡ true → (t.0 ≡ Text → w.level < w.open_count) → Agrees w x →
       Agrees (walk_after source w t ahead) (inner.walk_after source x t)
   agrees_on w x t ahead h d a =
@@ -131,7 +131,7 @@ module _ (limit : ℕ) (source : List ℕ) where
         tableless = ap (is Table) k.0 ∙ a.tableless;
       }
 
-  -- tokens that are sound for one are so for the other, and leave walks that agree
+  -- tokens that are sound for one are so for the other, and leave states that agree
   pub record Agreed (w : Walk) (x : inner.Walk) (ts : List Seen) (ahead : Terminal) : Type 0 where
     pub sound : AreSound limit source w ts ahead
     pub agrees : Agrees (walk_behind source w ts ahead) (inner.walk_behind source x ts ahead)

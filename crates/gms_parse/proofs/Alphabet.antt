@@ -1,4 +1,4 @@
--- Which kinds of tokens stand anywhere in a part of the grammar.
+-- Which kinds of tokens occur anywhere in a part of the grammar.
 use Rattle.std.proofs.Common.{◌≡◌, Bool, true, not, ◌&&◌, ◌||◌, List, [], ◌∷◌, ◌++◌}
 use Rattle.std.specs.Bool.{⊤}
 use Rattle.gms_grammar.specs.declared.terminal.Terminal.{Terminal}

@@ -22,7 +22,7 @@ use Rattle.gms_parse.proofs.Steps.{got_by, gives_both, gives_the, gives_none, gi
 use Rattle.gms_parse.proofs.Nexts.{past, led_next, gives_exact, plain_stays, plain_starts, stays_same, stays_then, earlier, optionless_on, tableless_on}
 pub use Rattle.gms_expressions.proofs.Sums.{leads_condition}
 
--- a name may stand behind a part of an expression as it may before it
+-- a name may follow a part of an expression if it may precede it
 pub open_starts : {reader : Reader} {old new : Tables} {w v : Walk} → Starts reader old w → StaysOpen reader new w v → Starts reader new v
 open_starts s o = record { has = o.stays.has; undotted = o.undotted; optionless = optionless_on o.stays.keyword s.optionless }
 
@@ -33,7 +33,7 @@ module _ {limit : ℕ} {reader : Reader} {at : ℕ} {tables : Tables} {w : Walk}
   pub not_none : leads productions look_ahead (token Not) (seen_from reader at) ≡ false → IsGot limit IsNot (StaysOpen reader tables w) (opt (token Not)) reader at tables w false at
   not_none unled = got_by (gives_none unled) (record { stays = stays_same s.has; undotted = s.undotted }) (λ sense m operand. refl) (omega arith)
 
--- an operand behind `not`, or behind none
+-- an operand after `not`, or after none
 pub guard_got : {F : Type 0} (value : F → Number) {limit : ℕ} {reader : Reader} {at start next : ℕ} {old new : Tables} {w : Walk} {not : Bool} {operand e : Expr F} → Starts reader old w →
     (g : IsGot limit IsNot (StaysOpen reader old w) (opt (token Not)) reader at old w not start) → IsGot limit (IsOperand value reader.source.now) (StaysOpen reader new g.behind) (the Primary) reader start new g.behind operand next →
     shown_tree value e ≡ cond not (not_so (shown_tree value operand)) (shown_tree value operand) → IsGot limit (IsGuard value reader.source.now) (StaysOpen reader new w) (opt (token Not) · the Primary) reader at new w e next
@@ -45,7 +45,7 @@ pub condition_none : {F : Type 0} (value : F → Number) {limit : ℕ} {reader :
 condition_none value {reader = reader} {at = at} {w = w} s unled = got_by (gives_none (leads_condition (seen_from reader at) ∙ unled)) (record { stays = stays_same s.has; undotted = s.undotted }) (λ sense m. refl) (omega arith)
 
 module _ {reader : Reader} {at : ℕ} {old : Tables} {w : Walk} {t : Token} {behind : ℕ} (s : Starts reader old w) (n : IsNext (is Dollar) reader at t behind) where
-  -- behind the dollar
+  -- after the dollar
   pub dollar_starts : Starts reader old (past reader w Dollar t behind)
   dollar_starts = plain_starts reader w Dollar t behind refl refl s.has s.optionless
 

@@ -1,4 +1,4 @@
--- Within expressions each text is an index, which stands in parentheses; and parentheses close.
+-- Within expressions each text is an index in parentheses; and parentheses close.
 use Rattle.std.proofs.Common.{◌≡◌, ℕ, ◌+◌, ◌-◌, ◌<◌, ◌≤◌, Bool, true, false, not, List, [], ◌∷◌, ◌++◌, cond, refl, sym, ap, ◌∙◌, subst, arith}
 use Rattle.std.specs.Bool.{⊤}
 use Rattle.gms_grammar.specs.declared.terminal.Terminal.{Terminal}
@@ -12,12 +12,12 @@ use Rattle.gms_parse.specs.Walks.{Seen}
 use Rattle.gms_parse.specs.Readings.{Derivation, GamsPart}
 use Rattle.gms_parse.proofs.TokenKinds.{same_kind}
 
--- how many parentheses are open behind tokens
+-- how many parentheses are open after tokens
 abbrev pub depth_after : ℕ → List Seen → ℕ
 depth_after n [] = n
 depth_after n (t ∷ ts) = depth_after (open_after n t.0) ts
 
--- where so many parentheses are open before tokens, each text among them stands where more than `least` are
+-- with n parentheses open before tokens, each text among them is inside more than `least`
 abbrev pub TextsAbove : ℕ → ℕ → List Seen → Type 0
 TextsAbove least n [] = ⊤
 TextsAbove least n (t ∷ ts) = (t.0 ≡ Text → least < n) × TextsAbove least (open_after n t.0) ts
@@ -38,7 +38,7 @@ above_front least n (t ∷ u) v h = (h.0, above_front least (open_after n t.0) u
 abbrev pub is_level : Terminal → Bool
 is_level kind = not (is_among (LeftParen ∷ RightParen ∷ Text ∷ []) kind)
 
--- the nonterminals of expressions whose texts stand in parentheses of their own
+-- the nonterminals of expressions whose texts are inside their parentheses
 abbrev pub is_deep : Nonterminal → Bool
 is_deep Expression = true
 is_deep Conjunction = true
@@ -61,13 +61,13 @@ is_deep Control = true
 is_deep NameList = true
 is_deep _ = false
 
--- those of indices, which stand in parentheses
+-- those of indices, which are inside parentheses
 abbrev pub is_shallow : Nonterminal → Bool
 is_shallow IndexList = true
 is_shallow Index = true
 is_shallow _ = false
 
--- a part of an expression; of one that stands in parentheses, where texts may stand
+-- a part of an expression, or of one inside parentheses, where texts may occur
 pub data Fits : Bool → GamsPart → Type 0 where
   fits_one : {b : Bool} {test : Terminal → Bool} → implies test is_level ≡ true → Fits b (one test)
   fits_text : Fits true (token Text)
@@ -106,7 +106,7 @@ shallow_fits IndexList h = fits_both (fits_index refl) (fits_many (fits_both (fi
 shallow_fits Index h = fits_or fits_text (fits_both (fits_one refl) (fits_opt (fits_the refl)))
 shallow_fits _ h = cc
 
--- so many parentheses are open that what is in them is above `least`
+-- enough parentheses are open to be above `least`
 abbrev pub Open : Bool → ℕ → ℕ → Type 0
 Open b least n = cond b (least + 1) least ≤ n
 

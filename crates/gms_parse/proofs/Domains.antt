@@ -1,4 +1,4 @@
--- Domains: sets and `*` in parentheses behind a name.
+-- Domains: sets and `*` in parentheses after a name.
 use Rattle.std.proofs.Common.{◌≡◌, ℕ, Bool, true, false, cond, List, [], ◌∷◌, Option as Maybe, Some, None, Vec, Result, Ok, Err, not, ◌||◌, refl, sym, ap, ◌∙◌, subst, arith}
 use Rattle.std.specs.declared.alloc.Global.{Global}
 use Rattle.std.proofs.lemmas.List.{map-id}

@@ -37,7 +37,7 @@ first_ranges tree = listed_in (λ range. range) tree
 abbrev pub other_ranges : Derivation → List Derivation
 other_ranges tree = each_in (λ other. second_in other) tree
 
--- so many ranges were added to a position
+-- the ranges added so far to a position
 pub record Gathering (limit : ℕ) (reader : Reader) (start : ℕ) (w : Walk) (new : Tables) (part : Position) (at : ℕ) : Type 0 where
   pub context : Derivation → Derivation
   pub behind : Walk

@@ -1,4 +1,5 @@
--- The end of a source is its last token, and no other token is an end; nor is any token of a program.
+-- The end of a source is its last token, and no other token is an end; nor is any token of a
+-- program.
 use Rattle.gms_grammar.proofs.Basics.{not_true}
 use Rattle.std.proofs.Common.{◌≡◌, ℕ, ◌+◌, ◌==◌, ◌&&◌, ◌||◌, Bool, true, false, not, nat_lt, nat_le, if◌then◌else◌, List, [], ◌∷◌, ◌++◌, take, drop, Option, Some, None, Ok, Err, refl, sym, ap, ◌∙◌, subst}
 use Rattle.std.proofs.lemmas.List.{map_push}
@@ -206,6 +207,6 @@ ends_at_once (x ∷ u) (y ∷ v) rest end e h k is_end =
     let tails : u ++ (End, end) ∷ [] ≡ v ++ rest = cc in
     ends_at_once u v rest end tails h.1 k.1 is_end
 
--- behind the tokens of a program, the end stands alone
+-- after the tokens of a program, there is only the end
 pub end_alone : {ts : List Seen} → (h : HasEnd ts) (tree : Derivation) (rest : List Seen) → IsTree productions (the Program) tree → ts ≡ yield tree ++ rest → kind_of rest ≡ End → rest ≡ (End, h.end) ∷ []
 end_alone h tree rest k e is_end = ends_at_once h.before (yield tree) rest h.end (sym h.parts ∙ e) h.others (tree_other tree k) is_end

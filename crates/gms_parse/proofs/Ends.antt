@@ -1,4 +1,4 @@
--- The end of the source is a token: behind any other there is a further one.
+-- The end of the source is a token: after any other there is a further one.
 use Rattle.gms_grammar.proofs.Orders.{order, at_once, earlier, later, some_there}
 use Rattle.std.proofs.Common.{◌≡◌, ℕ, ◌-◌, ◌<◌, Bool, true, false, List, [], ◌∷◌, ◌++◌, length, map, take, drop, refl, sym, ap, ◌∙◌, arith}
 use Rattle.std.proofs.lemmas.List.{length-drop, length-map, take-append-drop}
@@ -43,7 +43,7 @@ module _ {reader : Reader} {test : Terminal → Bool} {at behind : ℕ} {t : Tok
   one_left (u ∷ []) e = let p : seen_token reader u ≡ (n.kind, t) = cc in ap (λ (x : Seen). x.1 ∷ []) p
   one_left (u ∷ (v ∷ us)) e = cc
 
-  -- behind another token than the end there is one
+  -- after a token other than the end there is another token
   pub more_behind : is End n.kind ≡ false → behind < length reader.tokens.now
   more_behind other = go (seen_from reader behind) refl
     where

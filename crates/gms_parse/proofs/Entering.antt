@@ -39,7 +39,7 @@ use Rattle.gms_parse.proofs.Nexts.{past, exact, led_next, refuses_lacking, gives
 abbrev pub is_named : Terminal → Bool
 is_named = is_among (Name ∷ Suffix ∷ [])
 
--- a name stands here
+-- the next token is a name
 named_there : {reader : Reader} {at behind : ℕ} {t : Token} {old : Tables} {w : Walk} (n : IsNext is_named reader at t behind) → Starts reader old w → is_name w n.kind ≡ true
 named_there n s = ap₂ (λ a b. a && not b) n.passes (ap₂ (λ a b. a || b) s.undotted s.optionless)
 
@@ -61,7 +61,7 @@ name_got {limit} {reader} {at} {behind} {t} {old} {w} n s number texts is names 
     (ap (λ c. cond c (entered w.names text) w.names) (named_there n s) ∙ ap (λ (ns : List (List ℕ)). entered ns text) s.has.holds.names ∙ sym table.table ∙ sym same) (ap (all_entered w.labels) m.1 ∙ s.has.holds.labels ∙ sym labels))
     (λ sense m. ap (λ v. record { at = t.at; name = v }) (sym (ap or_0 (m.names text number (ap (λ (ns : List (List ℕ)). place_of ns text) same ∙ table.place))))) (let g = n.further in omega arith)
 
--- there is no room for a name
+-- the table of names is full for a name
 pub name_refused : {limit : ℕ} {reader : Reader} {at behind : ℕ} {t : Token} {old : Tables} {w : Walk} (n : IsNext is_named reader at t behind) → Starts reader old w → {e : SourceFaultOrMemory} (texts : List ℕ) → texts ≡ token_text reader.source.now t → IsNotEntered old.names texts t.at e →
     Refuses limit reader.source.now name w (seen_from reader at) e
 name_refused {reader = reader} {t = t} {old = old} n s texts is r = elim r.why [
@@ -90,7 +90,7 @@ number_sound limit source w t ahead x means fits fault (many_labels e d) = room_
 number_sound limit source w t ahead x means fits fault (in_table e d f) = cc
 number_sound limit source w t ahead x means fits fault (without_lines e d f) = cc
 
--- a number stands here, where it may stand
+-- the next token is a number, which is allowed there
 pub number_gives : {limit : ℕ} {test : Terminal → Bool} {reader : Reader} {at behind : ℕ} {t : Token} {w : Walk} (x : Rational) → IsNext (is Number) reader at t behind → test Number ≡ true →
     MeansNumber (token_text reader.source.now t) x → FitsLiteral limit x → Gives limit reader.source.now (one test) w (seen_from reader at) (leaf (Number, t)) (past reader w Number t behind) (seen_from reader behind)
 number_gives {limit = limit} {reader = reader} {behind = behind} {t = t} {w = w} x n h means fits = gives_one (exact n) h (number_sound limit reader.source.now w t (kind_of (seen_from reader behind)) x means fits) refl

@@ -37,7 +37,7 @@ open_behind : (source : List ℕ) (w : Walk) (u : List Seen) (ahead : Terminal) 
 open_behind source w [] ahead = refl
 open_behind source w (t ∷ u) ahead = open_behind source (walk_after source w t (kind_ahead u ahead)) u ahead
 
--- the walk that the other crate begins with
+-- the state that the other crate begins with
 abbrev before : Reader → Tables → inner.Walk
 before reader old = walk_from reader.unclosed old.names old.labels
 

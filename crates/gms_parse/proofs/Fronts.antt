@@ -1,4 +1,5 @@
--- Where tokens cease to begin a nonterminal, a reader by the table finds what the laws of the grammar say.
+-- Where tokens cease to begin a nonterminal, a predictive reader finds what the laws of the grammar
+-- state.
 use Rattle.std.proofs.Common.{◌≡◌, List, [], ◌∷◌, ◌++◌, refl, sym, ap, ◌∙◌, subst, append_assoc}
 use Rattle.gms_grammar.specs.Grammar.{one, the, many, yield, IsTree, Derives, Stops}
 use Rattle.gms_grammar.specs.Reading.{Found, read, stuck, Reads, Takes, taken, refused, entered, entered_stuck, both, first_stuck, second_stuck, in_left, in_left_stuck, in_right, in_right_stuck, in_neither, left_out, there, there_stuck, no_more, again, again_stuck, later_stuck, takes_one, takes_the, takes_first, takes_second, takes_left, takes_right, takes_opt, takes_many, takes_later}
@@ -13,7 +14,7 @@ use Rattle.gms_expressions.specs.ExpressionTrees.{no_token}
 use Rattle.gms_parse.specs.Walks.{Seen}
 use Rattle.gms_parse.specs.Readings.{Derivation, GamsPart}
 
--- Of two lists one after another a token stands in the first or in the second.
+-- A token of two appended lists is in the first or in the second.
 data Split {T : Type 0} (a b u : List T) (x : T) (v : List T) : Type 0 where
   inside : (w : List T) → a ≡ u ++ (x ∷ w) → v ≡ w ++ b → Split a b u x v
   beyond : (w : List T) → u ≡ a ++ w → b ≡ w ++ (x ∷ v) → Split a b u x v
@@ -54,7 +55,7 @@ joined {p} {q} {r} {ts} {between} {rest} a c first second f g is u x v e = elim 
   | beyond w h k ↦ subst (λ z. Takes productions look_ahead r ts z (v ++ rest)) (sym (append_assoc (yield a) w (x ∷ [])) ∙ ap (λ y. y ++ x ∷ []) (sym h)) (second _ _ (g w x v k))
 ]
 
--- each token that was gone over ends a front
+-- each token that was read ends a prefix of those read
 pub takes_front : {p : GamsPart} {ts : List Seen} {found : Found Seen} → Reads productions look_ahead p ts found → (u : List Seen) (x : Seen) (v : List Seen) → front_of found ≡ u ++ (x ∷ v) → Takes productions look_ahead p ts (u ++ x ∷ []) (v ++ rest_of found)
 takes_front (taken {test = test} {token = token} {rest = rest} h) [] x v e =
     let same : token ≡ x = cc in

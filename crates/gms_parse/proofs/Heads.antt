@@ -1,4 +1,5 @@
--- Assignments and definitions begin alike: what a reader finds of a target it finds of the statement that begins with its name.
+-- Assignments and definitions begin alike: what a reader finds of a target it finds of the
+-- statement that begins with its name.
 use Rattle.std.proofs.Common.{◌≡◌, ◌⊎◌, inl, inr, ℕ, Bool, true, false, not, cond, List, [], ◌∷◌, ◌++◌, codes, refl, sym, ap, ◌∙◌, subst, append_assoc}
 use Rattle.gq_number.specs.Number.{Number}
 use Rattle.gms_ast.specs.declared.expression.Suffix.{Suffix}
@@ -21,7 +22,7 @@ use Rattle.gms_parse.specs.Readings.{Derivation, GamsPart, Sense}
 use Rattle.gms_parse.specs.Meanings.{has_lag, is_unsuffixed, is_plain_target}
 use Rattle.gms_parse.proofs.TokenKinds.{leads_alike, unled_less, led_more, unled_next, led_first, unled_either}
 
--- ---- a part that goes on with another behind some tokens
+-- ---- a part that continues with another after some tokens
 
 pub record Leading (part : GamsPart) (ts front : List Seen) (inner : GamsPart) (rest : List Seen) (context : Derivation → Derivation) : Type 0 where
   pub reads : (a : Derivation) (behind : List Seen) → Reads productions look_ahead inner rest (read a behind) → Reads productions look_ahead part ts (read (context a) behind)
@@ -103,7 +104,7 @@ plain_led ts h = led_more (bracketed (the IndexList)) plain_rest ts refl refl re
 
 -- ---- an index
 
--- behind a name without a lag
+-- after a name without a lag
 behind_name : (ts : List Seen) → leads productions look_ahead (the Lag) ts ≡ false → Leading (the AfterHeadName) ts [] (the AfterHeadIndex) ts (λ b. node (right b))
 behind_name ts h = record {
   reads = λ a behind r. entered (in_right (sym (lag_alike ts) ∙ h) (led r) r);
@@ -124,7 +125,7 @@ behind_name ts h = record {
     sticks_on (entered_stuck (in_right_stuck j k r)) = in_right_stuck (sym (lag_alike ts) ∙ h) (led_more (token RightParen · the AfterHead) (the AfterHeadIndex) ts refl refl refl k) (entered_stuck (in_right_stuck j k r))
     sticks_on (entered_stuck (in_neither j k)) = in_neither (sym (lag_alike ts) ∙ h) (alike ∙ unled_either (token Comma · the HeadIndices) (token RightParen · the AfterHead) ts j k)
 
--- an index without a lag: a comma and a further index, or the parenthesis that closes, stand behind it
+-- an index without a lag: a comma and a further index, or the closing parenthesis, follow it
 record PlainIndex (first : Derivation) (ts between : List Seen) : Type 0 where
   wrap : Derivation → Derivation
   leading : Leading (the HeadIndices) ts (yield first) (the AfterHeadIndex) between wrap
@@ -134,7 +135,7 @@ record PlainIndex (first : Derivation) (ts between : List Seen) : Type 0 where
   indices_closed : (source : List ℕ) (s : Sense) (closing t : Derivation) → head_indices source s.names s.labels (wrap (node (right (pair closing t)))) ≡ index source s.names s.labels first no_index
   lagless : (source : List ℕ) (s : Sense) (rest : Indices Number) → has_lag (index source s.names s.labels first rest) ≡ has_lag rest
 
--- an index with a lag, behind which an assignment goes on
+-- an index with a lag, after which an assignment continues
 record LaggedIndex (first : Derivation) (ts between : List Seen) : Type 0 where
   wrap : Derivation → Derivation
   leading : Leading (the HeadIndices) ts (yield first) (the AfterLag) between wrap
@@ -189,7 +190,7 @@ record LaggedList (first others : Derivation) (ts rest : List Seen) : Type 0 whe
   indices_are : (source : List ℕ) (s : Sense) (t : Derivation) → head_indices source s.names s.labels (wrap t) ≡ index source s.names s.labels first (more_indices source s.names s.labels others)
   lagged : (source : List ℕ) (s : Sense) → has_lag (index source s.names s.labels first (more_indices source s.names s.labels others)) ≡ true
 
--- behind an index with a lag others are listed
+-- others are listed after an index with a lag
 lag_goes : {ts between rest : List Seen} (first others : Derivation) → LaggedIndex first ts between → Reads productions look_ahead (many (token Comma · the Index)) between (read others rest) → LaggedList first others ts rest
 lag_goes first others l m = record {
   wrap = λ b. l.wrap (node (pair others b));
@@ -256,7 +257,7 @@ index_taken (takes_the (takes_left (takes_one h))) = takes_the (takes_left (take
 index_taken (takes_the (takes_right (takes_first (takes_one h)))) = takes_the (takes_right (takes_first (takes_one h)))
 index_taken (takes_the (takes_right (takes_second r (takes_opt t)))) = takes_the (takes_right (takes_second r (takes_the (takes_left (takes_first t)))))
 
--- behind an index: either form goes on
+-- after an index: either form continues
 stuck_behind : {ts between u behind : List Seen} {first : Derivation} → Reads productions look_ahead (the Index) ts (read first between) → Reads productions look_ahead (the AfterHeadIndex) between (stuck u behind) → Reads productions look_ahead (many (token Comma · the Index)) between (stuck u behind) →
     Reads productions look_ahead (the HeadIndices) ts (stuck (yield first ++ u) behind)
 stuck_behind {u = u} {behind = behind} r a m = elim (index_goes r) [ inl p ↦ p.leading.sticks u behind a | inr l ↦ l.leading.sticks u behind (entered_stuck (first_stuck m)) ]
@@ -316,14 +317,14 @@ target_taken (takes_the (takes_second r (takes_second (left_out h) (takes_opt (t
 target_taken (takes_the (takes_second r (takes_second (left_out h) (takes_opt (takes_second s (takes_first t)))))) = takes_the (takes_second r (takes_the (takes_right (takes_left (takes_second s (list_taken t))))))
 target_taken (takes_the (takes_second r (takes_second (left_out h) (takes_opt (takes_second s (takes_second m t)))))) = takes_the (takes_second r (takes_the (takes_right (takes_left (takes_second s (closed_taken m t))))))
 
--- the statement goes on as an assignment or a definition: the target has no suffix and no lag
+-- the statement continues as an assignment or a definition: the target has no suffix and no lag
 pub record Headed (tree : Derivation) (ts rest : List Seen) : Type 0 where
   pub wrap : Derivation → Derivation
   pub leading : Leading (the NamedStatement) ts (yield tree) (the AfterHead) rest wrap
   pub acts : (source : List ℕ) (s : Sense) (b : Derivation) → named_act source s.names s.labels (wrap b) ≡ after_head source s.names s.labels (target_in source s.names s.labels tree) b
   pub plain : (source : List ℕ) (s : Sense) → is_plain_target (target_in source s.names s.labels tree) ≡ true
 
--- it goes on as an assignment
+-- it continues as an assignment
 pub record Aimed (tree : Derivation) (ts rest : List Seen) : Type 0 where
   pub wrap : Derivation → Derivation
   pub leading : Leading (the NamedStatement) ts (yield tree) (the AfterTarget) rest wrap
@@ -334,13 +335,13 @@ either_suffixed : (c : Bool) (a b : Suffix) → is_unsuffixed a ≡ false → is
 either_suffixed true a b h k = h
 either_suffixed false a b h k = k
 
--- a word behind a dot is a suffix
+-- a word after a dot is a suffix
 suffixed : (text : List ℕ) → is_unsuffixed (suffix_of text) ≡ false
 unfolding suffix_of
 suffixed text =
     either_suffixed (is_word text (codes "lo")) _ _ refl (either_suffixed (is_word text (codes "up")) _ _ refl (either_suffixed (is_word text (codes "l")) _ _ refl (either_suffixed (is_word text (codes "m")) _ _ refl (either_suffixed (is_word text (codes "fx")) _ _ refl (either_suffixed (is_word text (codes "modelstat")) _ _ refl refl)))))
 
--- and so has a reference that goes on with one
+-- and so has a reference that continues with one
 attributed : {ts rest : List Seen} {attribute : Derivation} → Reads productions look_ahead (the Attribute) ts (read attribute rest) → (source : List ℕ) (s : Sense) → is_unsuffixed (suffix_in source s.names s.labels (some attribute)) ≡ false
 attributed (entered (both {b = word} p q)) source s = suffixed (token_text source (token_of word))
 

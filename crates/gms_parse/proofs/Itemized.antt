@@ -1,4 +1,5 @@
--- The items of a declaration, which the grammar nests, read in a loop: a reading of the rest is one of the whole.
+-- The items of a declaration, which the grammar nests, read in a loop: a reading of the rest is one
+-- of the whole.
 use Rattle.std.proofs.Common.{◌≡◌, ℕ, ◌-◌, ◌<◌, ◌≤◌, false, List, [], ◌∷◌, ◌++◌, map, length, refl, sym, ap, ◌∙◌, subst, arith, append_assoc, inl, inr}
 use Rattle.std.proofs.lemmas.List.{append-nil, map-append}
 use Rattle.gms_grammar.specs.declared.terminal.Terminal.TheVariants.{Comma, Break}
@@ -17,7 +18,7 @@ use Rattle.gms_parse.proofs.TokenKinds.{unled_next, led_either, led_other, unled
 use Rattle.gms_parse.proofs.Steps.{got_by, Within, within_second, within_some, within_left, within_right, within_then, gives_both, gives_right, gives_none, gives_some, refuses_first}
 use Rattle.gms_parse.proofs.Nexts.{past, exact, led_next, leads_next, falls, gives_exact, plain_stays, plain_starts, stays_then, earlier}
 
--- behind an item: perhaps a comma and further items, or a line end and perhaps further items
+-- after an item: perhaps a comma and further items, or a line end and perhaps further items
 abbrev pub further_of : Nonterminal → GamsPart
 further_of again = opt (token Comma · the again ∣ token Break · opt (the again))
 
@@ -30,7 +31,7 @@ pub record ItemPart (item again : Nonterminal) : Type 0 where
 abbrev pub AreItems : {T A : Type 0} → (T → A) → (Sense → Derivation → A) → Sense → Derivation → List T → Type 0
 AreItems show meaning sense tree xs = map show xs ≡ items_in (meaning sense) tree
 
--- so many items were read
+-- the items read so far
 pub record Itemizing {T A : Type 0} (limit : ℕ) (show : T → A) (meaning : Sense → Derivation → A) (again : Nonterminal) (reader : Reader) (start : ℕ) (w : Walk) (new : Tables) (xs : List T) (at : ℕ) : Type 0 where
   pub context : Derivation → Derivation
   pub behind : Walk
@@ -39,7 +40,7 @@ pub record Itemizing {T A : Type 0} (limit : ℕ) (show : T → A) (meaning : Se
   pub means : (sense : Sense) → IsSense new sense → (b : Derivation) → items_in (meaning sense) (context b) ≡ map show xs ++ further_items (meaning sense) b
   pub further : start ≤ at
 
--- the walk behind the comma or the line end before a further item
+-- the state after the comma or the line end before a further item
 abbrev pub further_walk : (reader : Reader) (at behind : ℕ) → Walk → IsFurther reader at behind → Walk
 further_walk reader at behind v (inl p) = past reader v Comma p.token behind
 further_walk reader at behind v (inr p) = past reader v Break p.0.token behind
@@ -60,7 +61,7 @@ further_ahead : (reader : Reader) (at behind : ℕ) → IsFurther reader at behi
 further_ahead reader at behind (inl p) = let f = p.next.further in omega arith
 further_ahead reader at behind (inr p) = let f = p.0.next.further in omega arith
 
--- a further item stands in the tree behind the one before
+-- a further item follows the one before it in the tree
 abbrev further_tree : (reader : Reader) (at behind : ℕ) → IsFurther reader at behind → Derivation → Derivation
 further_tree reader at behind (inl p) tree = some (left (pair (leaf (Comma, p.token)) tree))
 further_tree reader at behind (inr p) tree = some (right (pair (leaf (Break, p.0.token)) (some tree)))
@@ -128,7 +129,7 @@ module _ {T A : Type 0} {limit : ℕ} {show : T → A} {meaning : Sense → Deri
         (stays_then l.stays (plain_stays reader l.behind Break p.token next refl l.stays.has)) (λ sense s. sym (l.means sense s (some (right (pair (leaf (Break, p.token)) none))) ∙ append-nil (map show xs)))
         (let a = l.further in let f = p.next.further in omega arith)
 
--- the place behind the last item
+-- the place after the last item
 pub behind_break : {reader : Reader} {at behind : ℕ} → IsNotFurther reader at → IsPassed Break reader at behind → IsBehindLast reader at behind
 behind_break {reader} {at} {behind} u p = elim u.1 [ inl h ↦ (let k = led_next p.next in cc) | inr q ↦ inr (p, sym (ap (leads productions look_ahead name) (same_rest q.1)) ∙ q.2) ]
   where

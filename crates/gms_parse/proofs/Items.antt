@@ -37,7 +37,7 @@ use Rattle.gms_parse.proofs.Listing.{AreAll, all_meant, list_of, Listing, listin
 
 -- ---- elements
 
--- so many positions of an element were read
+-- the positions of an element read so far
 pub record Positions (limit : ℕ) (reader : Reader) (start : ℕ) (w : Walk) (new : Tables) (parts : List (List ℕ)) (bad : Bool) (at : ℕ) : Type 0 where
   pub ghost : List Position
   pub parts_are : parts ≡ map (λ (p : Position). p.labels.items) ghost

@@ -23,7 +23,7 @@ use Rattle.gms_parse.proofs.TokenKinds.{is_plain, unled_next}
 use Rattle.gms_parse.proofs.Steps.{got_by, Within, within_second, within_then, within_again, gives_both, gives_no_more, refuses_again, refuses_second}
 use Rattle.gms_parse.proofs.Nexts.{past, gives_plain, leads_next, earlier, plain_stays, stays_then, optionless_on}
 
--- the parts of a list behind its first one, each with a separator before it
+-- the parts of a list after its first one, each with a separator before it
 abbrev pub AreEach : {T : Type 0} → (Sense → Derivation → T → Type 0) → Sense → Derivation → List T → Type 0
 AreEach Means sense (more other others) (x ∷ xs) = Means sense (second_in other) x × AreEach Means sense others xs
 AreEach Means sense none [] = ⊤
@@ -58,7 +58,7 @@ is_starless kind = not (is Star kind)
 abbrev pub list_of : (Terminal → Bool) → GamsPart → GamsPart
 list_of separator p = p · many (one separator · p)
 
--- so many parts of a list were read
+-- the parts of a list read so far
 pub record Listing {T : Type 0} (limit : ℕ) (Means : Sense → Derivation → T → Type 0) (separator : Terminal → Bool) (p : GamsPart) (reader : Reader) (start : ℕ) (w : Walk) (new : Tables) (items : List T) (at : ℕ) : Type 0 where
   pub context : Derivation → Derivation
   pub behind : Walk
@@ -80,20 +80,20 @@ module _ {T : Type 0} {limit : ℕ} {Means : Sense → Derivation → T → Type
   }
 
   module _ {new : Tables} {items : List T} {at : ℕ} (l : Listing limit Means separator p reader start w new items at) where
-    -- the walk behind a separator
+    -- the state after a separator
     abbrev pub separated_walk : {t : Token} {behind : ℕ} → IsNext separator reader at t behind → Walk
     separated_walk {t} {behind} n = past reader l.behind n.kind t behind
 
     pub separated_stays : {t : Token} {behind : ℕ} (n : IsNext separator reader at t behind) → implies separator is_plain ≡ true → Stays reader new w (separated_walk n)
     separated_stays {t = t} {behind = behind} n plain = stays_then l.stays (plain_stays reader l.behind n.kind t behind (also separator is_plain plain n.kind n.passes) l.stays.has)
 
-    -- a name may stand behind it
+    -- a name may follow it
     pub separated_starts : {t : Token} {behind : ℕ} (n : IsNext separator reader at t behind) → implies separator is_plain ≡ true → implies separator is_undotted ≡ true → {old : Tables} → Starts reader old w → Starts reader new (separated_walk n)
     separated_starts n plain undotted s =
         let k = separated_stays n plain in
         record { has = k.has; undotted = not-true _ (also separator is_undotted undotted n.kind n.passes); optionless = optionless_on k.keyword s.optionless }
 
-    -- a range may begin behind it
+    -- a range may begin after it
     pub separated_starless : {t : Token} {behind : ℕ} (n : IsNext separator reader at t behind) → implies separator is_starless ≡ true → is Star (last_kind (separated_walk n).before) ≡ false
     separated_starless n starless = not-true _ (also separator is_starless starless n.kind n.passes)
 

@@ -59,12 +59,12 @@ module _ {F : Type 0} (value : F → Number) where
   put_push [] x others = refl
   put_push (y ∷ xs) x others = ap (statement_view value y) (put_push xs x others)
 
--- ---- the walk behind statements
+-- ---- the state after statements
 
 pub ends_of : {reader : Reader} {new : Tables} {w v : Walk} → Stays reader new w v → Tableless w → Ends reader new v
 ends_of s h = record { holds = s.has.holds; tableless = tableless_on s.keyword h }
 
--- behind a semicolon
+-- after a semicolon
 module _ {reader : Reader} {at behind : ℕ} {t : Token} {tables : Tables} {w : Walk} (h : Holds reader tables w) (n : IsNext (is Semicolon) reader at t behind) where
   pub semicolon_starts : Starts reader tables (past reader w Semicolon t behind)
   semicolon_starts = begun_starts reader w Semicolon t behind refl refl refl refl h
@@ -97,12 +97,12 @@ module _ {F : Type 0} (value : F → Number) {limit : ℕ} {r : Reader} {start :
       (λ sense s. ap₂ loops (c.means sense (earlier (gives_both (gives_exact {kind = Comma} m refl) b.gives) c.leaves.stays.has.holds b.leaves.holds s)) (b.means sense s)) (let e = c.further in let f = m.further in let g = b.further in omega arith)
 
 module _ {reader : Reader} {at opening : ℕ} {word : Token} {old : Tables} {w : Walk} (h : Holds reader old w) (n : IsNext (is Loop) reader at word opening) where
-  -- behind the keyword
+  -- after the keyword
   pub loop_has : Has reader old (past reader w Loop word opening)
   loop_has = begun_has reader w Loop word opening refl refl h
 
   module _ {inner : Reader} {start : ℕ} (o : IsOpened reader opening inner start) where
-    -- behind the parenthesis
+    -- after the parenthesis
     pub control_starts : Starts inner old (opened (past reader w Loop word opening) o)
     control_starts = open_starts o loop_has refl
 
@@ -161,7 +161,7 @@ module _ {F : Type 0} (value : F → Number) where
 
 -- ---- the body of a loop
 
--- so many statements of a body were read
+-- the statements of a body read so far
 pub record Bodying {F : Type 0} (limit : ℕ) (value : F → Number) (reader : Reader) (start : ℕ) (w : Walk) (new : Tables) (xs : List (Stmt F)) (at : ℕ) : Type 0 where
   pub context : Derivation → Derivation
   pub behind : Walk
@@ -196,7 +196,7 @@ module _ {F : Type 0} (value : F → Number) {limit : ℕ} {reader : Reader} {st
       semicolon_within : Within limit reader.source.now (the LoopBody) w (seen_from reader start) (opt (the LoopBody)) (past reader l.behind Semicolon t behind) (seen_from reader behind) (λ b. l.context (some (pair (leaf (Semicolon, t)) b)))
       semicolon_within = within_then l.within (within_then (within_some (leads_next (opt (the LoopBody)) n)) (within_second (gives_exact {kind = Semicolon} n refl)))
 
-      -- the semicolon behind the last statement
+      -- the semicolon after the last statement
       pub body_ended : leads productions look_ahead (any_of inner_kinds) (seen_from reader behind) ≡ false → (all : Vec (Stmt F) Global) → all.items ≡ xs → IsGot limit (IsBody value reader.source.now) (Ends reader new) (the LoopBody) reader start new w all behind
       body_ended unled all same = got_by (semicolon_within.gives none _ _ (gives_none (leads_body (seen_from reader behind) ∙ unled))) (semicolon_ends l.ends.holds n)
           (λ sense s. ap (λ (ys : List (Stmt F)). in_order value (map {B = Statements Number → Statements Number} (statement_view value) ys)) same ∙ in_order_is value xs ∙ sym (l.means sense s (some (pair (leaf (Semicolon, t)) none))))

@@ -14,7 +14,7 @@ use Rattle.std.proofs.lemmas.Str.Parse.{numerals_by_value, tells_by_index, digit
 use Rattle.gms_grammar.proofs.Checks.{left_and, right_and}
 use Rattle.gms_set.specs.Ranges.{text_length, text_of, digits_of, number_of, is_padded, is_numbered, go_together, is_range, width_of, written, members}
 
--- texts that are the same but for case are of one length
+-- texts that differ only in case have equal lengths
 same_length : (a b : List ℕ) → str_eq_ignore_ascii_case a b ≡ true → length a ≡ length b
 same_length a b h = sym (length-map a to_ascii_lowercase) ∙ ap length ((bytes_eq-Decides (str_to_ascii_lowercase a) (str_to_ascii_lowercase b)).0 h) ∙ length-map b to_ascii_lowercase
 
@@ -70,7 +70,7 @@ ranges_of from to h =
       order = at_least (number_of from) (number_of to) (left_and _ _ short);
     }
 
--- a number up to the last, behind the text of the first
+-- a number up to the last, after the text of the first
 numbered_short : (from to : List ℕ) (n : ℕ) → Ranges from to → n ≤ number_of to → length from ≤ 63 → length to ≤ 63 → length (text_of from ++ written (width_of (digits_of from)) n) ≤ 63
 numbered_short from to n r h f t =
     let k = length (digits_of to) in

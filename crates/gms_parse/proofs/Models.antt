@@ -38,7 +38,7 @@ equations_got {reader = reader} {equations = equations} got = got_by got.gives g
 
 -- ---- the list of a model
 
--- a list between slashes, where there is one
+-- a list between slashes, if any
 abbrev pub model_lists : GamsPart
 model_lists = opt (token Slash · the ModelList · token Slash)
 

@@ -34,7 +34,7 @@ module _ {limit : ℕ} {source : List ℕ} where
   target_refused r = by_cause r (λ fault s. stuck_as s (target_stuck s.reads)) (λ fault s. wrong_as s (target_taken s.takes))
 
   module _ {p inner : GamsPart} {w v : Walk} {ts rest : List Seen} {tree : Derivation} {c : Derivation → Derivation} (g : Gives limit source (the Target) w ts tree v rest) (l : Leading p ts (yield tree) inner rest c) where
-    -- behind the tokens of a target another part is read
+    -- another part is read after the tokens of a target
     pub within_of : Within limit source p w ts inner v rest c
     within_of = record {
       gives = λ a x behind h. gives_as (gives_both g h) (l.reads a behind h.reads) (sym (l.yields a));
@@ -90,7 +90,7 @@ module _ {F : Type 0} (value : F → Number) {limit : ℕ} {reader : Reader} {at
             (λ sense s. r.means sense s ∙ both_means sense s ∙ sym (a.acts reader.source.now sense (node (pair c.tree r.tree)))) (let x = t.further in let y = c.further in let z = r.further in omega arith)
       ]
 
-    -- it is refused, where no `..` stands behind a plain target
+    -- it is refused, unless `..` follows a plain target
     pub assigned_refused : {e : SourceFaultOrMemory} → (is_plain_target (shown_target value target) ≡ true → leads productions look_ahead (token DotDot) (seen_from reader further) ≡ false) → Refuses limit reader.source.now (token Equals · the Expression) c.behind (seen_from reader further) e →
         Refuses limit reader.source.now (the NamedStatement) w (seen_from reader at) e
     assigned_refused {e} unless r = elim (target_goes t.gives.reads) [
@@ -124,7 +124,7 @@ module _ {F : Type 0} (value : F → Number) {limit : ℕ} {reader : Reader} {at
             (let x = t.further in let y = c.further in let z = n.further in let u = d.further in omega arith)
       ]
 
--- behind `..` the left side may begin
+-- after `..` the left side may begin
 pub dots_starts : {reader : Reader} {at behind : ℕ} {dots : Token} {old new : Tables} {w v : Walk} → Starts reader old w → StaysOpen reader new w v → IsNext (is DotDot) reader at dots behind → Starts reader new (past reader v DotDot dots behind)
 dots_starts {reader} {behind = behind} {dots = dots} {v = v} s o n = plain_starts reader v DotDot dots behind refl refl o.stays.has (optionless_on o.stays.keyword s.optionless)
 

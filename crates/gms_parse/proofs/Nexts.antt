@@ -41,11 +41,11 @@ exact_kind {kind = kind} n = same_kind kind n.kind n.passes
 pub exact : {kind : Terminal} {reader : Reader} {at behind : ℕ} {t : Token} → IsNext (is kind) reader at t behind → seen_from reader at ≡ (kind, t) ∷ seen_from reader behind
 exact {reader = reader} {behind = behind} {t = t} n = n.is ∙ ap (λ (k : Terminal). (k, t) ∷ seen_from reader behind) (sym (exact_kind n))
 
--- another token is due
+-- another token is expected
 pub refuses_lacking : {limit : ℕ} {test : Terminal → Bool} {reader : Reader} {at : ℕ} {w : Walk} {e : SourceFaultOrMemory} → IsLacking test reader at e → Refuses limit reader.source.now (one test) w (seen_from reader at) e
 refuses_lacking l = refuses_at (refused l.not_led) l.is
 
--- ---- walks
+-- ---- states
 
 -- where the keyword is the same
 pub optionless_on : {j k : Terminal} → k ≡ j → is Option j ≡ false → is Option k ≡ false
@@ -69,20 +69,20 @@ earlier {source = source} {w = w} {v = v} {rest = rest} {tree = tree} g h k s = 
 }
 
 module _ (reader : Reader) (w : Walk) (kind : Terminal) (t : Token) (behind : ℕ) where
-  -- behind a quiet token
+  -- after a quiet token
   pub quiet_holds : {tables : Tables} → is_quiet kind ≡ true → Holds reader tables w → Holds reader tables (past reader w kind t behind)
   quiet_holds q h =
       let k = quiet_after reader.source.now w kind t (kind_of (seen_from reader behind)) q in
       record { open_count = k.open_count ∙ h.open_count; names = k.names ∙ h.names; labels = k.labels ∙ h.labels }
 
-  -- behind a token within a statement that leaves the parentheses as they were
+  -- after a token within a statement that leaves the parentheses as they were
   pub stays_by : {old new : Tables} → begins kind ≡ false → Has reader old w → open_after w.open_count kind ≡ w.open_count → (past reader w kind t behind).names ≡ new.names → (past reader w kind t behind).labels ≡ new.labels → Stays reader new w (past reader w kind t behind)
   stays_by b h opens names labels =
       let k = keyword_after reader.source.now w (kind, t) (kind_of (seen_from reader behind)) b in
       let l = h.level in
       record { has = record { holds = record { open_count = opens ∙ h.holds.open_count; names = names; labels = labels }; level = omega (arith, k.1, opens, l) }; keyword = k.0; level = k.1 }
 
-  -- behind a plain token
+  -- after a plain token
   pub plain_stays : {tables : Tables} → is_plain kind ≡ true → Has reader tables w → Stays reader tables w (past reader w kind t behind)
   plain_stays p h =
       let q = left_and (is_quiet kind) (not (begins kind)) p in
@@ -92,7 +92,7 @@ module _ (reader : Reader) (w : Walk) (kind : Terminal) (t : Token) (behind : �
   pub plain_starts : {tables : Tables} → is_plain kind ≡ true → is_among (Dot ∷ Using ∷ []) kind ≡ false → Has reader tables w → Optionless w → Starts reader tables (past reader w kind t behind)
   plain_starts p d h o = let s = plain_stays p h in record { has = s.has; undotted = d; optionless = optionless_on s.keyword o }
 
-  -- behind a keyword or a semicolon
+  -- after a keyword or a semicolon
   pub begun_has : {tables : Tables} → is_quiet kind ≡ true → begins kind ≡ true → Holds reader tables w → Has reader tables (past reader w kind t behind)
   begun_has q b h =
       let k = quiet_after reader.source.now w kind t (kind_of (seen_from reader behind)) q in
@@ -139,7 +139,7 @@ pub refuses_within : {limit : ℕ} {p : GamsPart} {reader inner : Reader} {at st
     Refuses limit inner.source.now p w (seen_from inner from) e → Refuses limit reader.source.now p w (seen_from reader from) e
 refuses_within {limit = limit} {p = p} from {w = w} {e = e} o r = subst (λ (r : Reader). Refuses limit r.source.now p w (seen_from r from) e) o.inner_is r
 
--- behind the parenthesis that opens
+-- after the opening parenthesis
 abbrev pub opened : {reader : Reader} {at start : ℕ} {inner : Reader} → Walk → IsOpened reader at inner start → Walk
 opened {reader} {at} {start} w o = past reader w LeftParen o.token start
 
@@ -153,7 +153,7 @@ module _ {reader : Reader} {at start : ℕ} {inner : Reader} {old : Tables} {w :
   pub open_starts : Optionless w → Starts inner old (opened w o)
   open_starts n = record { has = open_has; undotted = refl; optionless = n }
 
-  -- behind the parenthesis that closes
+  -- after the closing parenthesis
   pub close_stays : {new : Tables} {v : Walk} → Stays inner new (opened w o) v → (t : Token) (behind : ℕ) → Stays reader new w (past reader v RightParen t behind)
   close_stays s t behind =
       let c = s.has.holds.open_count ∙ ap (λ (r : Reader). r.unclosed) o.inner_is in
@@ -204,21 +204,21 @@ module _ {reader : Reader} {at start : ℕ} {inner : Reader} {old : Tables} {w :
           Refuses limit reader.source.now (bracketed p) w (seen_from reader at) e
       refuses_unclosed g l = refuses_second gives_open (refuses_second g (refuses_lacking l))
 
--- a statement that is no table goes on behind a parenthesis
+-- a statement that is no table continues after a parenthesis
 pub closes_on : (k : Terminal) (b : Bool) → is Table k ≡ false → (is Table k && b) ≡ false
 closes_on k b h = ap (λ a. a && b) h
 
--- no parenthesis opens where one is due
+-- no parenthesis opens where one is expected
 pub refuses_unopened : {limit : ℕ} {reader : Reader} {at : ℕ} {e : SourceFaultOrMemory} {tables : Tables} {w : Walk} (p : GamsPart) → IsUnopened reader at e → Holds reader tables w → Refuses limit reader.source.now (bracketed p) w (seen_from reader at) e
 refuses_unopened {limit = limit} {tables = tables} {w = w} p u h = refuses_first (u.refuses limit tables w h)
 
--- where a loop's step is looked at by itself: some walk that a name may follow
+-- some state that a name may follow, to view a loop's step by itself
 abbrev pub somewhere : Reader → Tables → Walk
 somewhere reader tables = record { open_count = reader.unclosed; names = tables.names; labels = tables.labels; before = []; keyword = Semicolon; level = 0 }
 
 pub starts_somewhere : (reader : Reader) (tables : Tables) → Starts reader tables (somewhere reader tables)
 starts_somewhere reader tables = record { has = record { holds = record { open_count = refl; names = refl; labels = refl }; level = omega arith }; undotted = refl; optionless = refl }
 
--- behind a token of this plain kind
+-- after a token of this plain kind
 pub kind_stays : (kind : Terminal) {reader : Reader} {at behind : ℕ} {t : Token} {tables : Tables} {w : Walk} → IsNext (is kind) reader at t behind → is_plain kind ≡ true → Has reader tables w → Stays reader tables w (past reader w kind t behind)
 kind_stays kind {reader} {behind = behind} {t = t} {w = w} n p h = plain_stays reader w kind t behind p h

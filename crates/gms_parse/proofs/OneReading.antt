@@ -31,7 +31,7 @@ use Rattle.gms_parse.proofs.EndTokens.{begins_other, is_other}
 use Rattle.gms_parse.proofs.Walks.{room_for_none}
 use Rattle.gms_parse.proofs.TableFaults.{one_line_fault}
 
--- what has the same names, labels and statements is seen alike
+-- programs with the same names, labels and statements have the same view
 same_view : (one other : ProgramView) → one.names ≡ other.names → one.labels ≡ other.labels → one.statements ≡ other.statements → one ≡ other
 same_view one other names labels statements =
     ap₂ (λ (x : List (List ℕ) × List (List ℕ)) (s : Statements Rational). record { names = x.0; labels = x.1; statements = s }) (ap₂ (λ (a : List (List ℕ)) (b : List (List ℕ)). (a, b)) names labels) statements
@@ -50,7 +50,7 @@ module _ (limit : ℕ) (source : List ℕ) where
         cc;
   }
 
-  -- two programs of the same tokens are seen alike
+  -- two programs of the same tokens have the same view
   one_view : (tokens : List Seen) (one other : ProgramView) → IsProgramOf limit source tokens one.names one.labels one.statements → IsProgramOf limit source tokens other.names other.labels other.statements → one ≡ other
   one_view tokens one other p q =
       let yields = stops_once productions (the Program) tokens (yield p.tree) ((End, p.end) ∷ []) (yield q.tree) ((End, q.end) ∷ []) (program_stops p) (program_stops q) in
@@ -65,7 +65,7 @@ module _ (limit : ℕ) (source : List ℕ) where
       ∙ sym q.statements_are in
       same_view one other names labels statements
 
-  -- two programs of a source are seen alike
+  -- two programs of a source have the same view
   pub one_program : (one other : ProgramView) → HasProgram limit source one → HasProgram limit source other → one ≡ other
   one_program one other p q =
       let are : Ok p.tokens ≡ Ok q.tokens = means_only source (Ok p.tokens) (Ok q.tokens) p.are_tokens q.are_tokens in

@@ -73,7 +73,7 @@ all_lines [] h = tt
 all_lines (u ∷ us) h =
     (ap (is TableLine) (All-head (λ (token : Seen). token.0 ≡ TableLine) u us h), all_lines us (All-tail (λ (token : Seen). token.0 ≡ TableLine) u us h))
 
--- the tokens that a walk has gone over
+-- the tokens that a state has recorded
 gone_over : (source : List ℕ) (w : Walk) (us : List Seen) (ahead : Terminal) → (walk_behind source w us ahead).before ≡ reverse us ++ w.before
 gone_over source w [] ahead = refl
 gone_over source w (u ∷ us) ahead = gone_over source (walk_after source w u (kind_ahead us ahead)) us ahead ∙ sym (turned u us w.before)
@@ -119,7 +119,7 @@ module _ (limit : ℕ) (source : List ℕ) (tokens : List Seen) (sound : AreSoun
         sound_at (source_rule (limit, source)) start front (TableLine, line) k.behind End fault (subst (λ (us : List Seen). AreSound limit source start us End) tokens_are sound)
         (in_table refl no_line_ahead (subst (λ (ls : List Seen). IsLineFault limit source (table_name here.before) here.labels ls fault) (sym lines_here) f))
 
-    -- the walk behind the last line
+    -- the state after the last line
     abbrev past : Walk
     past = walk_after source here (TableLine, line) ahead
 

@@ -49,7 +49,7 @@ label_spelled {source} {t} l = let s : IsSpelled token_kind.Label (token_text so
 
 -- ---- texts that are entered
 
--- one more text finds no room, or one before it does not
+-- the table is full for one more text, or was for one before it
 pub data Lacking (labels texts : List (List ℕ)) (text : List ℕ) : Type 0 where
   earlier_one : LacksRoom labels texts → Lacking labels texts text
   this_one : IsFullFor (all_entered labels texts) text → Lacking labels texts text
@@ -64,7 +64,7 @@ lacking_of labels texts text l = elim (order l.before l.text l.behind texts text
 pub full_of : (labels : List (List ℕ)) (text : List ℕ) → LacksRoom labels (text ∷ []) → IsFullFor labels text
 full_of labels text l = elim (lacking_of labels [] text l) [ earlier_one k ↦ absurd (room_for_none _ [] refl k) | this_one f ↦ f ]
 
--- so many texts were entered, and have these numbers
+-- the texts entered so far have these numbers
 pub record Entering (old now : List (List ℕ)) (texts : List (List ℕ)) (was numbers : List ℕ) : Type 0 where
   pub table : now ≡ all_entered old texts
   pub room : LacksRoom old texts → ⊥
@@ -102,7 +102,7 @@ entering_on old now texts was numbers e new text n f more is_more =
 pub lacks_append : (old texts : List (List ℕ)) (text : List ℕ) (more : List (List ℕ)) → IsFullFor (all_entered old texts) text → LacksRoom old (texts ++ text ∷ more)
 lacks_append old texts text more f = record { before = texts; text = text; behind = more; parts = refl; full = f }
 
--- a text finds no room behind others
+-- the table is full for a text after others
 pub entering_full : (old now : List (List ℕ)) (texts : List (List ℕ)) (was numbers : List ℕ) → Entering old now texts was numbers → (text : List ℕ) (more : List (List ℕ)) → IsFullFor now text → LacksRoom old (texts ++ text ∷ more)
 entering_full old now texts was numbers e text more f = lacks_append old texts text more (subst (λ (z : List (List ℕ)). IsFullFor z text) e.table f)
 
@@ -114,7 +114,7 @@ no_range [] h = refl
 no_range (star ∷ []) h = refl
 no_range (star ∷ (first ∷ others)) h = ap (λ b. cond (b && is Label first.0) (Some first.1) None) h
 
--- a label that is no end of a range enters itself, or none where a range goes on
+-- a label that does not end a range enters itself, or nothing if a range continues
 label_new : (source : List ℕ) (w : Walk) (t : Token) (ahead : Terminal) → Starless w → new_labels source w (Label, t) ahead ≡ cond (is Star ahead) [] (unquoted (token_text source t) ∷ [])
 label_new source w t ahead h = ap (λ o. list_labels source o ahead t) (no_range w.before h)
 
@@ -137,7 +137,7 @@ label_refuses {w = w} texts n is h lacks e =
 -- ---- a label, or a range
 
 module _ {reader : Reader} {at : ℕ} {old : Tables} {w : Walk} {first : Token} {next : ℕ} (h : Has reader old w) (clean : Starless w) (n : IsNext (is Label) reader at first next) where
-  -- the label that stands alone
+  -- a label by itself
   alone_new : leads productions look_ahead (token Star) (seen_from reader next) ≡ false → new_labels reader.source.now w (Label, first) (kind_of (seen_from reader next)) ≡ text_of_label reader.source.now first ∷ []
   alone_new unled = label_new reader.source.now w first (kind_of (seen_from reader next)) clean ∙ ap (λ b. cond b [] (text_of_label reader.source.now first ∷ [])) (sym (leads_by_kind (token Star) (seen_from reader next) refl) ∙ unled)
 
@@ -200,7 +200,7 @@ module _ {reader : Reader} {at : ℕ} {old : Tables} {w : Walk} {first : Token} 
         | inr f ↦ refuses_the Range (refuses_second begun_gives (refuses_some (leads_next (token Label) m) (refuses_second (gives_exact {kind = Star} m refl) (label_refuses (range_texts reader.source.now (text_of_label reader.source.now first) (text_of_label reader.source.now last)) k refl star_stays.has.holds f.1 f.0))))
       ]
 
--- ---- members, one after another
+-- ---- members, in order
 
 parted_at : {T : Type 0} (xs : List T) (i : ℕ) (d : T) → i < length xs → (rest : List T) × (xs ≡ take i xs ++ get_or xs i d ∷ rest)
 parted_at [] i d h = absurd (omega (arith, h))
@@ -241,7 +241,7 @@ no_members source tables was now first last lacking items bad =
       bad_range = bad ∙ sym (ap (λ b. was.bad_range || not b) lacking ∙ or-true was.bad_range);
     }
 
--- a member finds no room
+-- the table is full for a member
 pub member_refused : (source : List ℕ) (old : Tables) (first last : Token) (now all : List (List ℕ)) (i : ℕ) (was numbers : List ℕ) → Entering old.labels now (take i all) was numbers → i < length all → range_texts source (text_of_label source first) (text_of_label source last) ≡ all → (text : List ℕ) → text ≡ get_or all i [] →
     (e : SourceFaultOrMemory) → IsNotEntered now text last.at e → IsNotEnteredRange source old first last e
 member_refused source old first last now all i was numbers g within texts text is e r = record { why = elim r.why [ inl m ↦ inl m | inr f ↦ inr (f.0, lacks f.1) ] }

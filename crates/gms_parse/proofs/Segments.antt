@@ -1,4 +1,5 @@
--- What stands between two semicolons: perhaps a statement that begins with a name, and statements that begin with keywords.
+-- The statements between two semicolons: perhaps one that begins with a name, and those that begin
+-- with keywords.
 use Rattle.std.proofs.Common.{◌≡◌, ℕ, ◌-◌, ◌<◌, ◌≤◌, true, false, List, [], ◌∷◌, ◌++◌, length, Vec, refl, sym, ap, ap₂, ◌∙◌, arith, append_assoc}
 use Rattle.std.specs.declared.alloc.Global.{Global}
 use Rattle.std.proofs.lemmas.List.{append-nil, length-append}
@@ -36,7 +37,7 @@ use Rattle.gms_parse.proofs.Ends.{length_seen}
 use Rattle.gms_expressions.proofs.Chains.{place_read}
 use Rattle.gms_parse.proofs.Looped.{view-Stmt, in_order_is}
 
--- ---- statements one after another
+-- ---- statements in order
 
 module _ {F : Type 0} (value : F → Number) where
   pub put_append : (xs ys : List (Stmt F)) (others : Statements Number) → put_before value (xs ++ ys) others ≡ put_before value xs (put_before value ys others)
@@ -58,7 +59,7 @@ some_read p {ts = ts} {rest = rest} {tree = tree} full g =
     go [] s e = cc
     go (t ∷ u) s e = let l = ap length e in let m = length-append u rest in omega (arith, l, m)
 
--- fewer tokens are left behind it
+-- fewer tokens remain after it
 pub fewer : {T : Type 0} {limit : ℕ} {Means : Sense → Derivation → T → Type 0} {Leaves : Walk → Type 0} (p : GamsPart) {reader : Reader} {at next : ℕ} {new : Tables} {w : Walk} {x : T} → may_be_empty look_ahead p ≡ false → IsGot limit Means Leaves p reader at new w x next → length reader.tokens.now - next < length reader.tokens.now - at
 fewer p {reader = reader} {at = at} {next = next} full got =
     let l = some_read p full got.gives in
@@ -103,7 +104,7 @@ abbrev SegmentMeans : {F : Type 0} → (F → Number) → List ℕ → (Derivati
 SegmentMeans {F} value source context old xs sense =
     (added : List (Stmt F)) × (xs ≡ old ++ added) × ((b : Derivation) → segment source sense.names sense.labels (context b) ≡ put_before value added (keyword_statements source sense.names sense.labels b))
 
--- so many statements of a segment were read
+-- the statements of a segment read so far
 pub record Segmenting {F : Type 0} (limit : ℕ) (value : F → Number) (reader : Reader) (start : ℕ) (w : Walk) (old : List (Stmt F)) (new : Tables) (xs : List (Stmt F)) (at : ℕ) : Type 0 where
   pub context : Derivation → Derivation
   pub behind : Walk

@@ -1,4 +1,5 @@
--- How what was read of parts, or why they were refused, makes up that of larger parts, by the rule of faults of a source.
+-- How readings or refusals of parts make up those of larger parts, by the rule of faults of a
+-- source.
 use Rattle.std.proofs.Common.{◌≡◌, ℕ, ◌≤◌, Bool, true, List, [], ◌∷◌}
 use Rattle.gms_grammar.specs.declared.terminal.Terminal.{Terminal}
 use Rattle.gms_grammar.specs.Grammar.{one, leaf}
@@ -39,11 +40,12 @@ module _ {limit : ℕ} {source : List ℕ} where
       IsFaulty limit source w token (kind_of rest) found → e ≡ Fault found → Refuses limit source p w ts e
   refuses_token t f is = steps.refuses_token {rules = source_rule} {key = (limit, source)} t f (told_once is)
 
-  -- want of memory
+  -- out of memory
   pub refuses_memory : {p : GamsPart} {w : Walk} {ts : List Seen} {e : SourceFaultOrMemory} → e ≡ Memory → Refuses limit source p w ts e
   refuses_memory {e = e} h = record { why = λ fault k. let told : e ≡ Fault fault = k in cc }
 
--- A part was read at a place: what its tokens give, what they leave, what was read of it means, and the place behind it.
+-- A part was read at a place: what its tokens give, the state after them, its meaning, and the
+-- place after it.
 pub got_by : {T : Type 0} {limit : ℕ} {Means : Sense → Derivation → T → Type 0} {Leaves : Walk → Type 0} {part : GamsPart} {reader : Reader} {at : ℕ} {new : Tables} {w v : Walk} {x : T} {next : ℕ} {tree : Derivation} →
     Gives limit reader.source.now part w (seen_from reader at) tree v (seen_from reader next) → Leaves v → ((sense : Sense) → IsSense new sense → Means sense tree x) → at ≤ next → IsGot limit Means Leaves part reader at new w x next
 got_by {v = v} {tree = tree} gives leaves means further = record { tree = tree; behind = v; gives = gives; leaves = leaves; means = means; further = further }

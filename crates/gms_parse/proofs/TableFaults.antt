@@ -26,7 +26,7 @@ error_is NoHeading = refl
 error_is Labels = refl
 
 module _ (limit : ℕ) (labels : List (List ℕ)) where
-  -- nothing stands at a sound part
+  -- a sound part has no error
   pub stands_not : (done before : List Part) (part : Part) (behind : List Part) (error : TableError) → AreSound limit labels done (before ++ (part ∷ behind)) → Stands limit labels (done ++ before) part error → ⊥
   stands_not done [] part behind error sound h = sound.0 error (subst (λ (ps : List Part). Stands limit labels ps part error) (append-nil done) h)
   stands_not done (p ∷ before) part behind error sound h =

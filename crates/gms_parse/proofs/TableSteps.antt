@@ -146,7 +146,7 @@ run_one u before h =
 pub run_other : (x : Seen) (before : List Seen) → is TableLine x.0 ≡ false → run_of (x ∷ before) ≡ []
 run_other x before h = ap (λ b. take (cond b (1 + prefix_len (λ (token : Seen). is TableLine token.0) before) 0) (x ∷ before)) h
 
--- within the lines of a table of which these were read, and whose name stands here
+-- within the lines of a table, of which these were read, and whose name has this place
 record AtLines (w : Walk) (run : List Seen) (at : Place) : Type 0 where
   run_is : run_of w.before ≡ run
   named : table_name w.before ≡ at
@@ -257,7 +257,7 @@ told limit labels error.RepeatedEntry at place before part h = refl
 told limit labels error.BadRow at place before part h = refl
 told limit labels error.Labels at place before part h = refl
 
--- ---- what stands before the lines
+-- ---- what precedes the lines
 
 -- a name is no table and no line
 named_other : (kind : Terminal) → is_among (Name ∷ Suffix ∷ []) kind ≡ true → (is Table kind ≡ false) × (is TableLine kind ≡ false)

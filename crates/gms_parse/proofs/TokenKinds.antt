@@ -1,4 +1,5 @@
--- Kinds of tokens, told apart, and what the kind of the next token says of the parts that it leads into.
+-- Kinds of tokens, told apart, and what the kind of the next token determines of the parts that it
+-- leads into.
 use Rattle.std.proofs.Common.{◌≡◌, Bool, true, false, not, ◌&&◌, ◌||◌, List, [], ◌∷◌, sym, ◌∙◌}
 use Rattle.std.proofs.lemmas.Bool.{eqb-true}
 use Rattle.gms_grammar.specs.declared.terminal.Terminal.{Terminal}

@@ -85,7 +85,7 @@ pub not_available_got : {F : Type 0} (value : F → Rational) {limit : ℕ} {rea
 not_available_got value {reader = reader} {behind = behind} {t = t} {w = w} n h = got_by (gives_the Value (gives_left (led_next n) (gives_exact {kind = NotAvailable} n refl))) (plain_stays reader w NotAvailable t behind refl h) (λ sense s. refl)
     (let g = n.further in omega arith)
 
--- ---- values of entries, perhaps behind `=`
+-- ---- values of entries, perhaps after `=`
 
 pub equals_got : {F : Type 0} (value : F → Rational) {limit : ℕ} {reader : Reader} {at behind next : ℕ} {t : Token} {tables : Tables} {w : Walk} {v : Ext F} → Has reader tables w → IsNext (is Equals) reader at t behind →
     IsGot limit (IsGiven value reader.source.now) (Stays reader tables (past reader w Equals t behind)) (the Value) reader behind tables (past reader w Equals t behind) v next →

@@ -1,4 +1,4 @@
--- What tokens leave, one after another.
+-- The state after tokens, token by token.
 use Rattle.std.proofs.Common.{◌≡◌, ℕ, Bool, true, false, not, ◌&&◌, ◌||◌, cond, List, [], ◌∷◌, Some, refl, sym, ap, ◌∙◌}
 use Rattle.std.proofs.lemmas.Bool.{not-true}
 use Rattle.gms_labels.specs.Labels.{place_of, entered, IsFullFor}
@@ -61,7 +61,7 @@ quiet_after source w kind token ahead h =
     let m = mute_after source w kind token ahead (also is_quiet is_mute refl kind h) in
     record { open_count = m.0; names = ap (λ c. cond c (entered w.names (token_text source token)) w.names) (quiet_unnamed w kind h); labels = ap (all_entered w.labels) m.1 }
 
--- within a statement, its keyword and where that stands are as they were
+-- within a statement, its keyword and its level are unchanged
 pub keyword_after : (source : List ℕ) (w : Walk) (token : Seen) (ahead : Terminal) → begins token.0 ≡ false → ((walk_after source w token ahead).keyword ≡ w.keyword) × ((walk_after source w token ahead).level ≡ w.level)
 keyword_after source w token ahead h = (ap (λ c. cond c token.0 w.keyword) h, ap (λ c. cond c w.open_count w.level) h)
 
@@ -69,7 +69,7 @@ keyword_after source w token ahead h = (ap (λ c. cond c token.0 w.keyword) h, a
 pub begun_after : (source : List ℕ) (w : Walk) (token : Seen) (ahead : Terminal) → begins token.0 ≡ true → ((walk_after source w token ahead).keyword ≡ token.0) × ((walk_after source w token ahead).level ≡ w.open_count)
 begun_after source w token ahead h = (ap (λ c. cond c token.0 w.keyword) h, ap (λ c. cond c w.open_count w.level) h)
 
--- no texts find room
+-- no texts always fit into the table
 pub room_for_none : (labels texts : List (List ℕ)) → texts ≡ [] → LacksRoom labels texts → ⊥
 room_for_none labels texts e l = some_there l.before l.text l.behind (sym e ∙ l.parts)
 
@@ -77,7 +77,7 @@ room_for_none labels texts e l = some_there l.before l.text l.behind (sym e ∙ 
 abbrev pub is_free : Terminal → Bool
 is_free kind = not (is_among (LeftParen ∷ RightParen ∷ Number ∷ TableLine ∷ []) kind)
 
--- it has no fault, where there is room for the name and the labels that it enters
+-- it has no fault, if the tables have space for the name and the labels that it enters
 pub free_sound : (limit : ℕ) (source : List ℕ) (w : Walk) (kind : Terminal) (token : Token) (ahead : Terminal) → is_free kind ≡ true → (is_name w kind ≡ true → IsFullFor w.names (token_text source token) → ⊥) → (LacksRoom w.labels (new_labels source w (kind, token) ahead) → ⊥) →
     (fault : SourceFault) → IsFaulty limit source w (kind, token) ahead fault → ⊥
 free_sound limit source w kind token ahead h named room fault (deep e d) = let f : is_free kind ≡ false = ap is_free e in cc

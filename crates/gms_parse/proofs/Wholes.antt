@@ -1,4 +1,4 @@
--- A whole program: what stands between semicolons, up to the end.
+-- A whole program: what is between semicolons, up to the end.
 use Rattle.std.proofs.Common.{◌≡◌, ℕ, Bool, true, false, not, ◌||◌, List, [], ◌∷◌, ◌++◌, map, Vec, refl, sym, ap, ◌∙◌, subst, arith, inl, inr}
 use Rattle.std.specs.declared.alloc.Global.{Global}
 use Rattle.std.proofs.lemmas.List.{append-nil, map-append}
@@ -40,14 +40,14 @@ starts_whole outside names labels = record {
   optionless = refl;
 }
 
--- ---- statements behind others
+-- ---- statements after others
 
 module _ {F : Type 0} (value : F → Number) where
   followed : (xs : List (Stmt F)) (others : Statements Number) → followed_by (put_before value xs no_statement) others ≡ put_before value xs others
   followed [] others = refl
   followed (x ∷ xs) others = ap (λ ys. followed_by ys others) (view-Stmt value x (put_before value xs no_statement)) ∙ ap (statement x.at (act_view value x.act)) (followed xs others) ∙ sym (view-Stmt value x (put_before value xs others))
 
--- so many segments of a program were read, and these statements are what they mean
+-- the segments of a program read so far, and the statements that they mean
 pub record Whole {F : Type 0} (limit : ℕ) (value : F → Number) (reader : Reader) (new : Tables) (xs : List (Stmt F)) (at : ℕ) : Type 0 where
   pub context : Derivation → Derivation
   pub behind : Walk
@@ -110,7 +110,7 @@ endless : (n : Nonterminal) → (not (everywhere n) || only everywhere no_end (p
 endless Expression = refl
 endless _ = refl
 
--- the end of the source stands among its tokens
+-- the end of the source is among its tokens
 ends : {reader : Reader} → IsReady reader → AllPass no_end (seen_from reader 0) → ⊥
 ends {reader} ready pass =
     let front = tokens_of reader.source.now 0 ready.tokens.has.pieces in
@@ -120,7 +120,7 @@ ends {reader} ready pass =
     let q : no_end (seen_token reader last).0 ≡ true = p.0 in
     cc
 
--- behind a program stands a token
+-- a token follows a program
 not_ended : {limit : ℕ} {reader : Reader} {v : Walk} {tree : Derivation} (rest : List Seen) → IsReady reader → Gives limit reader.source.now (the Program) start (seen_from reader 0) tree v rest → leads productions look_ahead (token End) rest ≡ false → kind_of rest ≡ End → ⊥
 not_ended {tree = tree} [] ready g unled e =
     let found = sound productions look_ahead g.reads in

@@ -1,5 +1,5 @@
--- The data that the derivations of lists mean: elements with their labels, ranges as their members, and values (GAMS User's Guide,
--- "Sets", "Data Entry: Parameters, Scalars and Tables").
+-- The data that the derivations of lists mean: elements with their labels, ranges as their members,
+-- and values (GAMS User's Guide, "Sets", "Data Entry: Parameters, Scalars and Tables").
 use Rattle.std.specs.Prelude.{ℕ, Bool, false, not, ◌||◌, if◌then◌else◌, List, [], ◌∷◌, ◌++◌, map, Option, Some, None}
 use Rattle.gms_labels.specs.Labels.{place_of}
 use Rattle.gms_lex.specs.declared.token.Token.{Token}
@@ -25,16 +25,16 @@ each_in meaning _ = []
 abbrev pub listed_in : {A T : Type 0} → (Tree T → A) → Tree T → List A
 listed_in meaning tree = meaning (first_in tree) ∷ each_in (λ other. meaning (second_in other)) (second_in tree)
 
--- what an optional part means, or what stands for it where it is left out
+-- what an optional part means, or the default if it is left out
 abbrev pub optional_in : {A T : Type 0} → A → (Tree T → A) → Tree T → A
 optional_in absent meaning (some tree) = meaning tree
 optional_in absent meaning _ = absent
 
--- what stands between two marks
+-- what is between two marks
 abbrev pub between : {T : Type 0} → Tree T → Tree T
 between tree = first_in (second_in tree)
 
--- all lists one after another
+-- all lists appended
 abbrev pub joined : {A : Type 0} → List (List A) → List A
 joined [] = []
 joined (xs ∷ others) = xs ++ joined others
@@ -51,14 +51,14 @@ opposed PlusInf = MinusInf
 opposed MinusInf = PlusInf
 opposed Na = Na
 
--- a value with the sign that stands before it, where there is one
+-- a value with the sign before it, if any
 abbrev pub signed_value : Tree (Terminal × Token) → Ext Rational → Ext Rational
 signed_value (some sign) value = if is_minus (token_of sign).kind then opposed value else value
 signed_value _ value = value
 
 -- In a source with these labels.
 module _ (source : List ℕ) (labels : List (List ℕ)) where
-  -- the label that a token is
+  -- the label of a token
   abbrev pub label_text : Tree (Terminal × Token) → List ℕ
   label_text tree = unquoted (token_text source (token_of tree))
 
@@ -66,7 +66,7 @@ module _ (source : List ℕ) (labels : List (List ℕ)) where
   abbrev pub number_of_label : List ℕ → ℕ
   number_of_label text = or_0 (place_of labels text)
 
-  -- the numbers of the members of a range, and none where it is no range
+  -- the numbers of the members of a range, and none for an invalid range
   abbrev pub range_labels : List ℕ → List ℕ → List ℕ
   range_labels from to = if is_range from to then map number_of_label (members from to) else []
 
@@ -75,7 +75,7 @@ module _ (source : List ℕ) (labels : List (List ℕ)) where
   labels_in_range tree =
       optional_in (number_of_label (label_text (first_in (inside tree))) ∷ []) (λ last. range_labels (label_text (first_in (inside tree))) (label_text (second_in last))) (second_in (inside tree))
 
-  -- a range is none
+  -- a range is invalid
   abbrev pub is_bad_range : Tree (Terminal × Token) → Bool
   is_bad_range tree = optional_in false (λ last. not (is_range (label_text (first_in (inside tree))) (label_text (second_in last)))) (second_in (inside tree))
 
@@ -89,7 +89,7 @@ module _ (source : List ℕ) (labels : List (List ℕ)) where
   abbrev pub labels_in_part : Tree (Terminal × Token) → List ℕ
   labels_in_part tree = joined (map labels_in_range (ranges_in_part (inside tree)))
 
-  -- a position of an element has a range that is none
+  -- a position of an element has an invalid range
   abbrev pub has_bad_range : Tree (Terminal × Token) → Bool
   has_bad_range tree = any_true (map is_bad_range (ranges_in_part (inside tree)))
 
@@ -102,7 +102,7 @@ module _ (source : List ℕ) (labels : List (List ℕ)) where
   value_in (right tree) = signed_value (first_in tree) (value_of_token (second_in tree))
   value_in _ = Na
 
-  -- the item of data that an element is, with a value or without
+  -- the item of data of an element, with a value or without
   abbrev pub item_of : Tree (Terminal × Token) → Option (Ext Rational) → Item Rational
   item_of element value =
       record {
@@ -112,7 +112,7 @@ module _ (source : List ℕ) (labels : List (List ℕ)) where
         bad_range = any_true (listed_in has_bad_range (inside element));
       }
 
-  -- the item that an entry of a parameter is: an element, perhaps `=`, and a value
+  -- the item of an entry of a parameter: an element, perhaps `=`, and a value
   abbrev pub entry_of : Tree (Terminal × Token) → Item Rational
   entry_of tree = item_of (first_in (inside tree)) (Some (value_in (inside (second_in (second_in (inside tree))))))
 

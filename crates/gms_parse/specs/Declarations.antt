@@ -1,5 +1,6 @@
--- What the derivations of declarations mean: names of a kind, each with its domain and its data; and models with their equations
--- (GAMS User's Guide, "Sets", "Data Entry", "Variables", "Equations", "Model and Solve Statements").
+-- What the derivations of declarations mean: names of a kind, each with its domain and its data;
+-- and models with their equations (GAMS User's Guide, "Sets", "Data Entry", "Variables",
+-- "Equations", "Model and Solve Statements").
 use Rattle.std.specs.Prelude.{ℕ, Bool, true, false, if◌then◌else◌, List, [], ◌∷◌, Option, Some, None, codes}
 use Rattle.gq_number.specs.Number.{Number}
 use Rattle.gms_lex.specs.declared.token.Token.{Token}
@@ -17,8 +18,8 @@ use Rattle.gms_ast.specs.StatementTrees.{Act, declares, declares_models}
 use Rattle.gms_parse.specs.DataLists.{listed_in, optional_in, between, elements_in, entries_in, scalar_in}
 use Rattle.gms_parse.specs.Tables.{items_given}
 
--- The items of a declaration, which its grammar nests: behind an item there may be a comma and further items, or a line end and
--- perhaps further items.
+-- The items of a declaration, which its grammar nests: after an item there may be a comma and
+-- further items, or a line end and perhaps further items.
 abbrev mutual
   pub items_in : {A T : Type 0} → (Tree T → A) → Tree T → List A
   items_in meaning (node (pair item others)) = meaning item ∷ further_items meaning others
@@ -29,7 +30,7 @@ abbrev mutual
   further_items meaning (some (right (pair _ (some tree)))) = items_in meaning tree
   further_items meaning _ = []
 
--- what `variable` declares behind a type
+-- what `variable` declares after a type
 abbrev pub variable_kind : List ℕ → DeclKind
 variable_kind word =
     if is_word word (codes "free") then kind.Free else (if is_word word (codes "positive") then kind.Positive else (if is_word word (codes "negative") then kind.Negative else kind.Discrete))
@@ -50,7 +51,7 @@ module _ (source : List ℕ) (names labels : List (List ℕ)) where
   domain_in (node (pair _ (pair (node list) _))) = listed_in position_in list
   domain_in _ = []
 
-  -- the domain that stands behind a name, or one without positions
+  -- the domain after a name, or one without positions
   abbrev pub optional_domain : Tree (Terminal × Token) → List (Option Named)
   optional_domain tree = optional_in [] domain_in tree
 
@@ -95,9 +96,10 @@ module _ (source : List ℕ) (names labels : List (List ℕ)) where
   abbrev pub model_act : Tree (Terminal × Token) → Act Number
   model_act statement = declares_models (items_in model_in (second_in (inside statement)))
 
--- The same for data, which are numbers.
+-- Declarations with data, which are numbers.
 module _ (source : List ℕ) (names labels : List (List ℕ)) where
-  -- what stands behind the name of a set or a parameter: its domain, and its data between slashes, which mean these items
+  -- what follows the name of a set or a parameter: its domain, and its data between slashes, which
+  -- mean these items
   abbrev pub data_in : (Tree (Terminal × Token) → List (Item Number)) → Tree (Terminal × Token) → Decl Number
   data_in meaning item =
       record {

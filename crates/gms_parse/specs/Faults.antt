@@ -1,5 +1,5 @@
--- The numbers and names of source errors, and what faults of tokens and of expressions are among them (GAMS User's Guide, "GAMS
--- Output", compilation errors; the numbers are this project's own).
+-- The numbers and names of source errors, and which of them the faults of tokens and of expressions
+-- are (GAMS User's Guide, "GAMS Output", compilation errors; the numbers are this project's).
 use Rattle.std.specs.Prelude.{ℕ, List, codes}
 use Rattle.gms_labels.specs.declared.place.Place.{Place}
 use Rattle.gms_lines.specs.Errors.{error_code as lexical_code, error_name as lexical_name}
@@ -36,15 +36,16 @@ error_name (Lexical error) = lexical_name error
 error_name (Syntax error) = syntax_name error
 error_name (Table error) = table_name error
 
--- what the fault of a part of an expression is among those of a source
+-- the source fault of a fault in a part of an expression
 abbrev pub source_fault : SyntaxFault → SourceFault
 source_fault fault = record { error = Syntax fault.error; at = fault.at }
 
--- what the fault of a source's tokens is among those of the source
+-- the source fault of a fault of the source's tokens
 abbrev pub lexical_fault : LexFault → SourceFault
 lexical_fault fault = record { error = Lexical fault.error; at = fault.at }
 
--- what an error of a table is among those of a source: a label that is one too many is so in any part of it
+-- the source error of an error of a table: a label beyond the limit is the same error wherever it
+-- is
 abbrev pub error_of_table : TableError → SourceError
 error_of_table table.Labels = Syntax TooManyLabels
 error_of_table error = Table error
@@ -53,22 +54,22 @@ error_of_table error = Table error
 abbrev pub fault_at : SourceError → Place → SourceFaultOrMemory
 fault_at error at = Fault (record { error = error; at = at })
 
--- what is told of an error of a table: one without headings at the table's name
+-- the source fault of an error of a table: `NoHeading` is at the table's name
 abbrev pub table_fault_at : TableError → Place → Place → SourceFaultOrMemory
 table_fault_at table.NoHeading at name = fault_at (Table table.NoHeading) name
 table_fault_at error at name = fault_at (error_of_table error) at
 
--- what is handed on of an answer in place of the entries of a table with this name
+-- the refusal by a table with this name, given why it has no entries
 abbrev pub fault_of_table : TableFaultOrMemory → Place → SourceFaultOrMemory
 fault_of_table tabled.Memory name = Memory
 fault_of_table (tabled.Fault fault) name = table_fault_at fault.error fault.at name
 
--- what is handed on of an answer in place of tokens
+-- the refusal of a source, given why it has no tokens
 abbrev pub fault_of_lexical : LexFaultOrMemory → SourceFaultOrMemory
 fault_of_lexical lexed.Memory = Memory
 fault_of_lexical (lexed.Fault fault) = Fault (lexical_fault fault)
 
--- what is handed on of an answer in place of a part of an expression
+-- the refusal of a source, given why a part of an expression was not read
 abbrev pub fault_of_syntax : SyntaxFaultOrMemory → SourceFaultOrMemory
 fault_of_syntax read.Memory = Memory
 fault_of_syntax (read.Fault fault) = Fault (source_fault fault)

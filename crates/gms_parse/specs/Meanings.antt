@@ -64,7 +64,7 @@ module _ (source : List ℕ) (sense : Sense) (tree : Derivation) where
   abbrev pub IsWord : Word → Type 0
   IsWord word = word ≡ word_in source sense.names sense.labels tree
 
-  -- the word behind `using`
+  -- the word after `using`
   abbrev pub IsMethod : Word → Type 0
   IsMethod word = word ≡ word_in source sense.names sense.labels (second_in tree)
 
@@ -106,7 +106,7 @@ module _ (source : List ℕ) (sense : Sense) (tree : Derivation) where
 
   -- ---- elements of data
 
-  -- a range that is added to a position that was so before
+  -- the second position is the first one with a range added
   abbrev pub IsAdded : Position → Position → Type 0
   IsAdded old new =
       (new.labels.items ≡ old.labels.items ++ labels_in_range source sense.labels tree) × (new.bad_range ≡ (old.bad_range || is_bad_range source sense.labels tree))
@@ -132,7 +132,8 @@ abbrev pub AreThere : List (List ℕ) → List (List ℕ) → Type 0
 AreThere labels [] = Unit {0}
 AreThere labels (text ∷ texts) = ((n : ℕ) × (place_of labels text ≡ Some n)) × AreThere labels texts
 
--- the members of a range were entered and added to a position, which is marked where it is no range
+-- the members of a range were entered and added to a position, which is marked if the range is
+-- invalid
 pub record IsEnteredRange (source : List ℕ) (old new : Tables) (was now : Position) (first last : Token) : Type 0 where
   pub table : new.labels ≡ all_entered old.labels (range_texts source (text_of_label source first) (text_of_label source last))
   pub room : LacksRoom old.labels (range_texts source (text_of_label source first) (text_of_label source last)) → ⊥
@@ -140,31 +141,31 @@ pub record IsEnteredRange (source : List ℕ) (old new : Tables) (was now : Posi
   pub are_there : AreThere new.labels (range_texts source (text_of_label source first) (text_of_label source last))
   pub bad_range : now.bad_range ≡ (was.bad_range || not (is_range (text_of_label source first) (text_of_label source last)))
 
--- there is no room for a member of a range, or want of memory
+-- the table is full for a member of a range, or out of memory
 pub record IsNotEnteredRange (source : List ℕ) (old : Tables) (first last : Token) (refusal : SourceFaultOrMemory) : Type 0 where
   pub why : (refusal ≡ Memory) ⊎ ((refusal ≡ Fault (record { error = in_syntax TooManyLabels; at = last.at })) × LacksRoom old.labels (range_texts source (text_of_label source first) (text_of_label source last)))
 
--- a sign, where there is one
+-- a sign, if any
 abbrev pub IsSign : Sense → Derivation → Bool → Type 0
 IsSign sense tree minus = (v : Ext Number) → signed_value tree v ≡ (if minus then opposed v else v)
 
--- `not`, where it stands
+-- whether `not` was read
 abbrev pub IsNot : Sense → Derivation → Bool → Type 0
 IsNot sense tree not = (operand : Syntax Number) → negated_by tree operand ≡ (if not then not_so operand else operand)
 
 -- ---- lists of data
 
--- the part of the grammar that is listed
+-- the nonterminal of an item of the list
 abbrev pub listed_part : ListOf → Nonterminal
 listed_part list.Elements = Element
 listed_part list.Entries = Entry
 
--- the list
+-- the nonterminal of the list
 abbrev pub list_part : ListOf → Nonterminal
 list_part list.Elements = SetList
 list_part list.Entries = ParameterList
 
--- what is listed, as it is meant
+-- what an item of the list means
 abbrev pub listed_meaning : ListOf → List ℕ → List (List ℕ) → Derivation → Item Number
 listed_meaning list.Elements source labels tree = item_of source labels tree None
 listed_meaning list.Entries source labels tree = entry_of source labels tree
@@ -176,30 +177,30 @@ list_meaning list.Entries source labels tree = entries_in source labels tree
 
 -- ---- declarations
 
--- the type before `variable`, where there is one
+-- the type before `variable`, if any
 abbrev pub IsVariableType : List ℕ → Sense → Derivation → DeclKind → Type 0
 IsVariableType source sense tree kind = kind ≡ optional_in decl_kind.Free (λ word. variable_kind (token_text source (token_of word))) tree
 
--- what has such a list
+-- the form of declaration that has such a list
 abbrev pub form_of : ListOf → Form
 form_of list.Elements = form.Set
 form_of list.Entries = form.Parameter
 
--- the part of the grammar that an item is
+-- the part of the grammar of an item
 abbrev pub item_part : Form → Nonterminal
 item_part form.Set = SetItem
 item_part form.Parameter = ParameterItem
 item_part form.Scalar = ScalarItem
 item_part form.Plain = PlainItem
 
--- the items
+-- the part of the grammar of the items
 abbrev pub items_part : Form → Nonterminal
 items_part form.Set = SetItems
 items_part form.Parameter = ParameterItems
 items_part form.Scalar = ScalarItems
 items_part form.Plain = PlainItems
 
--- what is declared, where no table is
+-- what an item means, for any declaration except a table
 abbrev pub item_meaning : Form → List ℕ → List (List ℕ) → List (List ℕ) → Derivation → Decl Number
 item_meaning form.Set source names labels tree = set_in source names labels tree
 item_meaning form.Parameter source names labels tree = parameter_in source names labels tree
@@ -238,7 +239,7 @@ has_lag (label n rest) = has_lag rest
 has_lag (set n rest) = has_lag rest
 has_lag (lagged name op at amount rest) = true
 
--- there is no suffix
+-- the suffix is absent
 abbrev pub is_unsuffixed : Suffix → Bool
 is_unsuffixed suffix.None = true
 is_unsuffixed _ = false
@@ -271,18 +272,18 @@ module _ {F : Type 0} (value : F → Number) (source : List ℕ) where
   abbrev pub IsGiven : Sense → Derivation → Ext F → Type 0
   IsGiven sense tree v = extended_in value v ≡ value_in source sense.labels (inside_of tree)
 
-  -- the same, without a sign
+  -- the value of an item of data, without a sign
   abbrev pub IsUnsigned : Sense → Derivation → Ext F → Type 0
   IsUnsigned sense tree v = extended_in value v ≡ value_of_token source sense.labels tree
 
   abbrev pub IsListed : ListOf → Sense → Derivation → Item F → Type 0
   IsListed list sense tree item = item_in value item ≡ listed_meaning list source sense.labels tree
 
-  -- the items of a list, where there is one
+  -- the items of a list, if any
   abbrev pub AreListed : ListOf → Sense → Derivation → Vec (Item F) Global → Type 0
   AreListed list sense tree items = map (item_in value) items.items ≡ optional_in [] (λ tree. list_meaning list source sense.labels (between tree)) tree
 
-  -- the item of a scalar, where it has a value
+  -- the item of a scalar, if it has a value
   abbrev pub IsScalarValue : Sense → Derivation → Vec (Item F) Global → Type 0
   IsScalarValue sense tree items = map (item_in value) items.items ≡ optional_in [] (λ tree. scalar_in source sense.labels (between tree)) tree
 
@@ -292,7 +293,7 @@ module _ {F : Type 0} (value : F → Number) (source : List ℕ) where
   abbrev pub AreDeclared : Form → Sense → Derivation → List (Decl F) → Type 0
   AreDeclared form sense tree declared = map (declared_in value) declared ≡ items_in (item_meaning form source sense.names sense.labels) tree
 
-  -- a keyword and the items behind it, as names of this kind
+  -- a keyword and the items after it, as names of this kind
   abbrev pub IsDeclaration : DeclKind → Form → Sense → Derivation → ActNode F → Type 0
   IsDeclaration kind form sense tree act = act_view value act ≡ declares kind (items_in (item_meaning form source sense.names sense.labels) (second_in tree))
 
@@ -304,7 +305,7 @@ module _ {F : Type 0} (value : F → Number) (source : List ℕ) where
   abbrev pub IsAct : (List ℕ → List (List ℕ) → List (List ℕ) → Derivation → Act Number) → Sense → Derivation → ActNode F → Type 0
   IsAct meaning sense tree act = act_view value act ≡ meaning source sense.names sense.labels tree
 
-  -- a right side behind its `=`, and its place
+  -- a right side after its `=`, and its place
   abbrev pub IsRightSide : Sense → Derivation → Place × Expr F → Type 0
   IsRightSide sense tree found = (found.0 ≡ place_in (second_in tree)) × (shown_tree value found.1 ≡ expression source sense.names sense.labels (second_in tree))
 
@@ -316,7 +317,7 @@ module _ {F : Type 0} (value : F → Number) (source : List ℕ) where
   abbrev pub IsRelation : Sense → Derivation → Relation F → Type 0
   IsRelation sense tree relation = shown_sides value relation ≡ sides_in source sense.names sense.labels tree
 
-  -- the assignment to a target, under a condition, of a right side behind its `=`
+  -- the assignment to a target, under a condition, of a right side after its `=`
   abbrev pub IsAssigned : TargetNode F → Option (Expr F) → Sense → Derivation → ActNode F → Type 0
   IsAssigned target condition sense tree act =
       act_view value act ≡ assigns (shown_target value target) (option_map (shown_tree value) condition) (place_in (second_in tree)) (expression source sense.names sense.labels (second_in tree))
@@ -333,12 +334,12 @@ module _ {F : Type 0} (value : F → Number) (source : List ℕ) where
   abbrev pub IsBody : Sense → Derivation → Vec (Stmt F) Global → Type 0
   IsBody sense tree statements = in_order value (map {B = Statements Number → Statements Number} (statement_view value) statements.items) ≡ loop_body source sense.names sense.labels tree
 
-  -- a statement that begins with a name, where there is one, that was added to these
+  -- a statement that begins with a name, if any, appended to these
   abbrev pub IsNamedFirst : Vec (Stmt F) Global → Sense → Derivation → Vec (Stmt F) Global → Type 0
   IsNamedFirst old sense tree new =
       (added : List (Stmt F)) × (new.items ≡ old.items ++ added) × ((others : Statements Number) → put_before value added others ≡ named_first source sense.names sense.labels tree others)
 
-  -- statements that were added to these
+  -- statements that were appended to these
   abbrev pub IsSegment : Vec (Stmt F) Global → Sense → Derivation → Vec (Stmt F) Global → Type 0
   IsSegment old sense tree new =
       (added : List (Stmt F)) × (new.items ≡ old.items ++ added) × (in_order value (map {B = Statements Number → Statements Number} (statement_view value) added) ≡ segment source sense.names sense.labels tree)

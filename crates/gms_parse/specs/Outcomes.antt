@@ -1,5 +1,5 @@
--- What parsing a source answers: its program, or its first fault (GAMS User's Guide, "GAMS Programs", and "GAMS Output", compilation
--- errors).
+-- What parsing a source answers: its program, or its first fault (GAMS User's Guide, "GAMS
+-- Programs", and "GAMS Output", compilation errors).
 use Rattle.std.specs.Prelude.{◌≡◌, ◌≢◌, ◌⊎◌, ℕ, ◌<◌, ◌≤◌, List, [], ◌∷◌, ◌++◌, length, All}
 use Rattle.gms_lex.specs.declared.token.Token.{Token}
 use Rattle.gms_lex.specs.declared.fault.LexFault.{LexFault}
@@ -22,18 +22,20 @@ use Rattle.gms_parse.specs.Programs.{statements_of}
 use Rattle.gms_parse.specs.Tables.{AreTableItems, items_given}
 use Rattle.gms_parse.specs.Walks.{Seen, start, kind_ahead, kind_of, walk_behind, source_rule, AreSound}
 
--- A program as it is seen, wherever its parts are kept in memory: its names, its labels, and the trees of its statements.
+-- The view of a program, wherever its parts are stored: its names, its labels, and the trees of its
+-- statements.
 pub record ProgramView : Type 0 where
   pub names : List (List ℕ)
   pub labels : List (List ℕ)
   pub statements : Statements Number
 
--- how a program is seen, of which the numbers have these values
+-- the view of a program whose numbers have these values
 abbrev pub program_view : {F : Type 0} → (F → Number) → ProgramNode F → ProgramView
 program_view value_of program =
     record { names = program.names; labels = program.labels; statements = statements_view value_of program.statements.items }
 
--- These are all the lines of a table among the tokens: lines one after another, with none before and none behind them.
+-- These are all the lines of a table among the tokens: adjacent lines, with no line directly before
+-- or after them.
 pub record IsTableOf (tokens lines : List Seen) : Type 0 where
   pub before : List Seen
   pub behind : List Seen
@@ -43,7 +45,8 @@ pub record IsTableOf (tokens lines : List Seen) : Type 0 where
   pub none_before : (others : List Seen) (token : Seen) → before ≡ others ++ token ∷ [] → token.0 ≢ terminal.TableLine
   pub none_behind : kind_ahead behind terminal.End ≢ terminal.TableLine
 
--- Behind this front of a source another token is wanted: where the rest is the end, the front is no program.
+-- Another token is required after this prefix of a source: if only the end remains, the prefix is
+-- no program.
 abbrev pub WantsMore : List Seen → List Seen → Type 0
 WantsMore front rest = kind_of rest ≡ terminal.End → Derives productions (the Program) front → ⊥
 
@@ -52,9 +55,10 @@ module _ (limit : ℕ) (source : List ℕ) where
   abbrev pub HaveItems : List (List ℕ) → List Seen → Type 0
   HaveItems labels tokens = (lines : List Seen) → IsTableOf tokens lines → AreTableItems limit source labels lines (items_given source labels lines)
 
-  -- The program of the tokens, which is the only one: they are a program up to the end, and none has a fault. Its names and labels
-  -- are those that the tokens leave, each table has items, and the statements are those that the derivation means, in which a text has
-  -- the number that it means, and a table the items that its lines give.
+  -- The only program of the tokens: they are a program up to the end, and none has a fault. Its
+  -- names and labels are those after the tokens, each table has items, and the statements are those
+  -- that the derivation means, in which a text has the number that it means, and a table the items
+  -- that its lines give.
   pub record IsProgramOf (tokens : List Seen) (names labels : List (List ℕ)) (statements : Statements Number) : Type 0 where
     pub tree : Tree Seen
     pub end : Token
@@ -66,8 +70,9 @@ module _ (limit : ℕ) (source : List ℕ) where
     pub tables : HaveItems labels (yield tree)
     pub statements_are : statements ≡ statements_of source names labels tree
 
-  -- The tokens are no program, or a faulty one: this is the first fault. At the front where they cease to begin one it is the next token
-  -- that is unexpected; before the end of the source only if the front is no program.
+  -- The tokens are no program, or a faulty one: this is the first fault. After the longest prefix
+  -- that begins a program the next token is unexpected; the end of the source only if the prefix is
+  -- no program.
   abbrev pub IsNoProgram : List Seen → SourceFault → Type 0
   IsNoProgram tokens fault = rules.IsRefused source_rule (limit, source) WantsMore Program start tokens fault
 
@@ -93,12 +98,12 @@ module _ (limit : ℕ) (source : List ℕ) where
   abbrev pub IsFault : SourceFault → Type 0
   IsFault fault = IsTooLong fault ⊎ (IsLexical fault ⊎ IsSyntactic fault)
 
-  -- an answer in place of a program: the fault of the source, or want of memory
+  -- an answer in place of a program: the fault of the source, or out of memory
   abbrev pub IsRefusal : SourceFaultOrMemory → Type 0
   IsRefusal (Fault fault) = IsFault fault
   IsRefusal Memory = Unit {0}
 
-  -- The source has a program, which is seen so.
+  -- The source has a program with this view.
   pub record HasProgram (view : ProgramView) : Type 0 where
     pub short : length source ≤ most_bytes
     pub tokens : List Token

@@ -1,4 +1,5 @@
--- The statements that the derivation of a program means (GAMS User's Guide, "GAMS Programs", "Programming Flow Control Features").
+-- The statements that the derivation of a program means (GAMS User's Guide, "GAMS Programs",
+-- "Programming Flow Control Features").
 use Rattle.std.specs.Prelude.{ℕ, List, []}
 use Rattle.gq_number.specs.Number.{Number}
 use Rattle.gms_lex.specs.declared.token.Token.{Token}
@@ -9,7 +10,8 @@ use Rattle.gms_ast.specs.StatementTrees.{Act, loops, displays, Statements, no_st
 use Rattle.gms_parse.specs.Declarations.{variable_act, equation_act, model_act, set_act, parameter_act, scalar_act, table_act}
 use Rattle.gms_parse.specs.Statements.{named_act, assignment_act, alias_act, display_act, option_act, solve_act, abort_act}
 
--- In a source with these names and labels. What is no tree of its part means nothing that matters.
+-- In a source with these names and labels. The value for a tree that is none of its part has no
+-- meaning.
 module _ (source : List ℕ) (names labels : List (List ℕ)) where
   abbrev mutual
     -- a loop
@@ -46,7 +48,7 @@ module _ (source : List ℕ) (names labels : List (List ℕ)) where
     display_or_other (right (right (right (right tree)))) = loop_act tree
     display_or_other _ = displays []
 
-  -- one of two acts, as the derivation goes
+  -- one of two acts, by the alternative of the derivation
   abbrev pub either : (Tree (Terminal × Token) → Act Number) → (Tree (Terminal × Token) → Act Number) → Tree (Terminal × Token) → Act Number
   either one other (left tree) = one tree
   either one other (right tree) = other tree
@@ -65,22 +67,22 @@ module _ (source : List ℕ) (names labels : List (List ℕ)) where
       either (alias_act source names labels) display_or_other))))))) tree
   keyword_act _ = displays []
 
-  -- statements that begin with keywords, one after another
+  -- statements that begin with keywords, in order
   abbrev pub keyword_statements : Tree (Terminal × Token) → Statements Number
   keyword_statements (more first others) = statement (place_in first) (keyword_act first) (keyword_statements others)
   keyword_statements _ = no_statement
 
-  -- a statement that begins with a name, where there is one, before others
+  -- a statement that begins with a name, if any, before others
   abbrev pub named_first : Tree (Terminal × Token) → Statements Number → Statements Number
   named_first (some tree) others = statement (place_in tree) (named_act source names labels tree) others
   named_first _ others = others
 
-  -- what stands between two semicolons
+  -- what is between two semicolons
   abbrev pub segment : Tree (Terminal × Token) → Statements Number
   segment (node (pair named others)) = named_first named (keyword_statements others)
   segment _ = no_statement
 
-  -- semicolons, and what stands behind each
+  -- semicolons, and what follows each
   abbrev pub segments : Tree (Terminal × Token) → Statements Number
   segments (more (pair _ tree) others) = followed_by (segment tree) (segments others)
   segments _ = no_statement

@@ -1,5 +1,6 @@
--- What the functions of a reader say to each other: which part of the grammar they read at a place in the tokens, what it means and what
--- its tokens leave, or why it is refused. A reader by the table goes by one token, as gms_grammar states it.
+-- What the functions of a reader promise each other: which part of the grammar they read at a place
+-- in the tokens, its meaning and the state after its tokens, or why it is refused. A predictive
+-- reader decides by one token, as gms_grammar states it.
 use Rattle.std.specs.Prelude.{◌≡◌, ◌⊎◌, ℕ, ◌+◌, ◌<◌, ◌≤◌, Bool, true, false, ◌&&◌, ◌||◌, List, [], ◌∷◌, ◌++◌, length, map, drop, Some, Result, MatchResult, All, string_bytes, string_len}
 use Rattle.gms_labels.specs.declared.place.Place.{Place}
 use Rattle.gms_labels.specs.Labels.{place_of, entered, IsFullFor}
@@ -40,7 +41,7 @@ Derivation = Tree Seen
 abbrev pub GamsPart : Type 0
 GamsPart = Part Terminal Nonterminal
 
--- a part was read: its tree, and what its tokens leave
+-- a part was read: its tree, and the state after its tokens
 abbrev pub Gives : ℕ → List ℕ → GamsPart → Walk → List Seen → Derivation → Walk → List Seen → Type 0
 Gives limit source part walk tokens tree behind rest = rules.Gives source_rule (limit, source) part walk tokens tree behind rest
 
@@ -52,16 +53,16 @@ IsStuck limit source part walk tokens fault = rules.IsStuck source_rule (limit, 
 abbrev pub IsWrong : ℕ → List ℕ → GamsPart → Walk → List Seen → SourceFault → Type 0
 IsWrong limit source part walk tokens fault = rules.IsWrong source_rule (limit, source) part walk tokens fault
 
--- why a part was not read; want of memory has no cause in it
+-- why a part was not read; out of memory has no cause in it
 abbrev pub Refuses : ℕ → List ℕ → GamsPart → Walk → List Seen → SourceFaultOrMemory → Type 0
 Refuses limit source part walk tokens refusal = rules.Refuses source_rule (limit, source) part walk tokens refusal
 
--- the names, the labels and the numbers that the words of a program have in the end
+-- the names, the labels and the numbers of the whole program
 pub record Sense : Type 0 where
   pub names : List (List ℕ)
   pub labels : List (List ℕ)
 
--- the sense is one of a program of which these are the tables so far
+-- these are the names, labels and numbers of a program whose tables so far are `tables`
 pub record IsSense (tables : Tables) (sense : Sense) : Type 0 where
   pub names : (text : List ℕ) (n : ℕ) → place_of tables.names text ≡ Some n → place_of sense.names text ≡ Some n
   pub labels : (text : List ℕ) (n : ℕ) → place_of tables.labels text ≡ Some n → place_of sense.labels text ≡ Some n
@@ -77,15 +78,17 @@ pub record IsReady (reader : Reader) : Type 0 where
   pub end : reader.end ≡ place_at reader.source.now (length reader.source.now)
   pub few : reader.unclosed ≤ 100
 
--- ---- what stands before a part
+-- ---- what precedes a part
 
--- what a reader holds is what the tokens so far have left: the tables, and how many parentheses are open
+-- a reader's tables and its count of open parentheses are those of the state after the tokens so
+-- far
 pub record Holds (reader : Reader) (tables : Tables) (walk : Walk) : Type 0 where
   pub open_count : walk.open_count ≡ reader.unclosed
   pub names : walk.names ≡ tables.names
   pub labels : walk.labels ≡ tables.labels
 
--- the same, within a statement: no parenthesis of an outer statement was closed
+-- a reader agrees with the state within a statement: no parenthesis of an outer statement was
+-- closed
 pub record Has (reader : Reader) (tables : Tables) (walk : Walk) : Type 0 where
   pub holds : Holds reader tables walk
   pub level : walk.level ≤ walk.open_count
@@ -98,7 +101,7 @@ Undotted walk = is_among (terminal.Dot ∷ terminal.Using ∷ []) (last_kind wal
 abbrev pub Starless : Walk → Type 0
 Starless walk = is terminal.Star (last_kind walk.before) ≡ false
 
--- a name that stands next is none of the program: the word behind `using`, or a word of options
+-- a word that comes next is no name of the program: the word after `using`, or a word of options
 abbrev pub Nameless : Walk → Type 0
 Nameless walk = (is_among (terminal.Dot ∷ terminal.Using ∷ []) (last_kind walk.before) || is terminal.Option walk.keyword) ≡ true
 
@@ -116,25 +119,25 @@ pub record Starts (reader : Reader) (tables : Tables) (walk : Walk) : Type 0 whe
   pub undotted : Undotted walk
   pub optionless : Optionless walk
 
--- within a statement, behind a part that keeps the parentheses
+-- within a statement, after a part that keeps the parentheses
 pub record Stays (reader : Reader) (tables : Tables) (walk behind : Walk) : Type 0 where
   pub has : Has reader tables behind
   pub keyword : behind.keyword ≡ walk.keyword
   pub level : behind.level ≡ walk.level
 
--- the same, where a name may stand next
+-- such a state, where a name may come next
 pub record StaysOpen (reader : Reader) (tables : Tables) (walk behind : Walk) : Type 0 where
   pub stays : Stays reader tables walk behind
   pub undotted : Undotted behind
 
--- behind a statement of a loop
+-- after a statement of a loop
 pub record Ends (reader : Reader) (tables : Tables) (behind : Walk) : Type 0 where
   pub holds : Holds reader tables behind
   pub tableless : Tableless behind
 
 -- ---- what a reader answers
 
--- a part was read at a place, and what was read of it is what its derivation means
+-- a part was read at a place, and the result is what its derivation means
 pub record IsGot {T : Type 0} (limit : ℕ) (Means : Sense → Derivation → T → Type 0) (Leaves : Walk → Type 0) (part : GamsPart) (reader : Reader) (at : ℕ) (new : Tables) (walk : Walk) (x : T) (next : ℕ) : Type 0 where
   pub tree : Derivation
   pub behind : Walk
@@ -149,77 +152,78 @@ IsAnswer limit Means Leaves part reader at new walk result =
     MatchResult result (λ r. IsGot limit Means Leaves part reader at new walk r.0 r.1)
     (λ e. Refuses limit reader.source.now part walk (seen_from reader at) e)
 
--- of a part that begins with a name
+-- the answer of the reader of a part that begins with a name
 abbrev pub AnswersName : {T : Type 0} → ℕ → (Sense → Derivation → T → Type 0) → GamsPart → Reader → ℕ → Tables → Tables → Result (T × ℕ) SourceFaultOrMemory → Type 0
 AnswersName limit Means part reader at old new result =
     (walk : Walk) → Starts reader old walk → IsAnswer limit Means (Stays reader new walk) part reader at new walk result
 
--- of a part that may have parentheses, in a statement that is no table
+-- the answer of the reader of a part that may have parentheses, in a statement that is no table
 abbrev pub AnswersPart : {T : Type 0} → ℕ → (Sense → Derivation → T → Type 0) → GamsPart → Reader → ℕ → Tables → Tables → Result (T × ℕ) SourceFaultOrMemory → Type 0
 AnswersPart limit Means part reader at old new result =
     (walk : Walk) → Starts reader old walk → Tableless walk → IsAnswer limit Means (Stays reader new walk) part reader at new walk result
 
--- of an expression or a part of one
+-- the answer of the reader of an expression or a part of one
 abbrev pub AnswersFormula : {T : Type 0} → ℕ → (Sense → Derivation → T → Type 0) → GamsPart → Reader → ℕ → Tables → Tables → Result (T × ℕ) SourceFaultOrMemory → Type 0
 AnswersFormula limit Means part reader at old new result =
     (walk : Walk) → Starts reader old walk → Tableless walk → IsAnswer limit Means (StaysOpen reader new walk) part reader at new walk result
 
--- of a part of a list of data
+-- the answer of the reader of a part of a list of data
 abbrev pub AnswersData : {T : Type 0} → ℕ → (Sense → Derivation → T → Type 0) → GamsPart → Reader → ℕ → Tables → Tables → Result (T × ℕ) SourceFaultOrMemory → Type 0
 AnswersData limit Means part reader at old new result =
     (walk : Walk) → Has reader old walk → Starless walk → Tableless walk → IsAnswer limit Means (Stays reader new walk) part reader at new walk result
 
--- of a part without names, labels and parentheses
+-- the answer of the reader of a part without names, labels and parentheses
 abbrev pub AnswersPlain : {T : Type 0} → ℕ → (Sense → Derivation → T → Type 0) → GamsPart → Reader → ℕ → Result (T × ℕ) SourceFaultOrMemory → Type 0
 AnswersPlain limit Means part reader at result =
     (tables : Tables) (walk : Walk) → Has reader tables walk → IsAnswer limit Means (Stays reader tables walk) part reader at tables walk result
 
--- of a word, or what an option is set to, which is no name
+-- the answer of the reader of a word, or what an option is set to, which is no name
 abbrev pub AnswersWord : {T : Type 0} → ℕ → (Sense → Derivation → T → Type 0) → GamsPart → Reader → ℕ → Result (T × ℕ) SourceFaultOrMemory → Type 0
 AnswersWord limit Means part reader at result =
     (tables : Tables) (walk : Walk) → Has reader tables walk → Nameless walk → IsAnswer limit Means (Stays reader tables walk) part reader at tables walk result
 
--- of a text or symbol that is shown
+-- the answer of the reader of a text or symbol that is shown
 abbrev pub AnswersShown : {T : Type 0} → ℕ → (Sense → Derivation → T → Type 0) → GamsPart → Reader → ℕ → Tables → Tables → Result (T × ℕ) SourceFaultOrMemory → Type 0
 AnswersShown limit Means part reader at old new result =
     (walk : Walk) → Starts reader old walk → is_among (terminal.Display ∷ terminal.Abort ∷ []) walk.keyword ≡ true → walk.level ≡ walk.open_count →
     IsAnswer limit Means (Stays reader new walk) part reader at new walk result
 
--- of a statement that a loop may have, which begins with a keyword
+-- the answer of the reader of a statement that a loop may have, which begins with a keyword
 abbrev pub AnswersAct : {T : Type 0} → ℕ → (Sense → Derivation → T → Type 0) → GamsPart → Reader → ℕ → Tables → Tables → Result (T × ℕ) SourceFaultOrMemory → Type 0
 AnswersAct limit Means part reader at old new result =
     (walk : Walk) → Holds reader old walk → IsAnswer limit Means (Ends reader new) part reader at new walk result
 
--- of the statements of a loop
+-- the answer of the reader of the statements of a loop
 abbrev pub AnswersInner : {T : Type 0} → ℕ → (Sense → Derivation → T → Type 0) → GamsPart → Reader → ℕ → Tables → Tables → Result (T × ℕ) SourceFaultOrMemory → Type 0
 AnswersInner limit Means part reader at old new result =
     (walk : Walk) → Starts reader old walk → Tableless walk → IsAnswer limit Means (Ends reader new) part reader at new walk result
 
--- of a statement that begins with a keyword
+-- the answer of the reader of a statement that begins with a keyword
 abbrev pub AnswersStatement : {T : Type 0} → ℕ → (Sense → Derivation → T → Type 0) → GamsPart → Reader → ℕ → Tables → Tables → Result (T × ℕ) SourceFaultOrMemory → Type 0
 AnswersStatement limit Means part reader at old new result =
     (walk : Walk) → Holds reader old walk → IsAnswer limit Means (Holds reader new) part reader at new walk result
 
--- of a part that has names behind its first token
+-- the answer of the reader of a part that has names after its first token
 abbrev pub AnswersNamed : {T : Type 0} → ℕ → (Sense → Derivation → T → Type 0) → GamsPart → Reader → ℕ → Tables → Tables → Result (T × ℕ) SourceFaultOrMemory → Type 0
 AnswersNamed limit Means part reader at old new result =
     (walk : Walk) → Has reader old walk → Optionless walk → IsAnswer limit Means (Stays reader new walk) part reader at new walk result
 
--- the same in a statement that is no table, where there may be parentheses
+-- the answer of the reader of a part that may have parentheses and follows a name, in a statement
+-- that is no table
 abbrev pub AnswersBehind : {T : Type 0} → ℕ → (Sense → Derivation → T → Type 0) → GamsPart → Reader → ℕ → Tables → Tables → Result (T × ℕ) SourceFaultOrMemory → Type 0
 AnswersBehind limit Means part reader at old new result =
     (walk : Walk) → Has reader old walk → Optionless walk → Tableless walk → IsAnswer limit Means (Stays reader new walk) part reader at new walk result
 
--- of a list of data, where there is one
+-- the answer of the reader of a list of data, if any
 abbrev pub AnswersList : {T : Type 0} → ℕ → (Sense → Derivation → T → Type 0) → GamsPart → Reader → ℕ → Tables → Tables → Result (T × ℕ) SourceFaultOrMemory → Type 0
 AnswersList limit Means part reader at old new result =
     (walk : Walk) → Has reader old walk → Tableless walk → IsAnswer limit Means (Stays reader new walk) part reader at new walk result
 
--- a table ends behind its domain
+-- a table ends after its domain
 abbrev pub ends_head : Walk → List Seen → Bool
 ends_head walk rest = is terminal.Table walk.keyword && ends_statement (kind_of rest)
 
--- of a domain: it has a fault where it ends the head of a table without lines
+-- the answer of the reader of a domain: it has a fault if it ends the head of a table without lines
 abbrev pub AnswersDomain : {T : Type 0} → ℕ → (Sense → Derivation → T → Type 0) → GamsPart → Reader → ℕ → Tables → Tables → Result (T × ℕ) SourceFaultOrMemory → Type 0
 AnswersDomain limit Means part reader at old new result =
     (walk : Walk) → Has reader old walk → Optionless walk →
@@ -228,7 +232,7 @@ AnswersDomain limit Means part reader at old new result =
     × (ends_head walk (seen_from reader r.1) ≡ true → is terminal.Table (last_kind walk.before) ≡ false → Refuses limit reader.source.now part walk (seen_from reader at) (Fault (record { error = Table NoHeading; at = table_name walk.before }))))
     (λ e. Refuses limit reader.source.now part walk (seen_from reader at) e)
 
--- of a declaration that begins with this keyword
+-- the answer of the reader of a declaration that begins with this keyword
 abbrev pub AnswersDeclaration : {T : Type 0} → Terminal → ℕ → (Sense → Derivation → T → Type 0) → GamsPart → Reader → ℕ → Tables → Tables → Result (T × ℕ) SourceFaultOrMemory → Type 0
 AnswersDeclaration keyword limit Means part reader at old new result =
     is_among (terminal.Set ∷ terminal.Parameter ∷ terminal.Scalar ∷ terminal.Variable ∷ terminal.Equation ∷ []) keyword ≡ true → AnswersAct limit Means part reader at old new result
@@ -239,7 +243,7 @@ pub record IsWhole {T : Type 0} (limit : ℕ) (Means : Sense → Derivation → 
   pub got : IsGot limit Means (Holds reader new) (the Program) reader 0 new start x next
   pub at_end : kind_of (seen_from reader next) ≡ terminal.End
 
--- behind a program stands another token than the end, which is unexpected
+-- a token other than the end follows a program, and is unexpected
 pub record IsOver (limit : ℕ) (source : List ℕ) (tokens : List Seen) (fault : SourceFault) : Type 0 where
   pub tree : Derivation
   pub behind : Walk
@@ -261,7 +265,7 @@ pub record IsAt (reader : Reader) (at : ℕ) (token : Token) : Type 0 where
   pub placed : IsPlaced reader.source.now token
   pub within : at < length reader.tokens.now
 
--- the next token passes a test, and this is what stands behind it
+-- the next token passes a test, and `behind` is the place after it
 pub record IsNext (test : Terminal → Bool) (reader : Reader) (at : ℕ) (token : Token) (behind : ℕ) : Type 0 where
   pub kind : Terminal
   pub passes : test kind ≡ true
@@ -271,7 +275,7 @@ pub record IsNext (test : Terminal → Bool) (reader : Reader) (at : ℕ) (token
   pub within : at < length reader.tokens.now
   pub further : at < behind
 
--- the refusal of a token that is unexpected
+-- the refusal of an unexpected token
 abbrev pub unexpected_at : Reader → ℕ → SourceFaultOrMemory
 unexpected_at reader at = Fault (unexpected reader.source.now (seen_from reader at))
 
@@ -280,27 +284,27 @@ pub record IsLacking (test : Terminal → Bool) (reader : Reader) (at : ℕ) (re
   pub not_led : leads productions look_ahead (one test) (seen_from reader at) ≡ false
   pub is : refusal ≡ unexpected_at reader at
 
--- the next token is of this kind, and this is the place behind it
+-- the next token is of this kind, and this is the place after it
 pub record IsPassed (kind : Terminal) (reader : Reader) (at : ℕ) (behind : ℕ) : Type 0 where
   pub token : Token
   pub next : IsNext (is kind) reader at token behind
 
--- the same for some kinds
+-- the next token is of one of these kinds, and this is the place after it
 pub record IsPassedAny (kinds : List Terminal) (reader : Reader) (at : ℕ) (behind : ℕ) : Type 0 where
   pub token : Token
   pub next : IsNext (is_among kinds) reader at token behind
 
--- a further item of a declaration stands here: behind a comma, or behind a line end where a name stands
+-- a further item of a declaration is next: after a comma, or after a line end that a name follows
 abbrev pub IsFurther : Reader → ℕ → ℕ → Type 0
 IsFurther reader at behind =
     IsPassed terminal.Comma reader at behind ⊎ (IsPassed terminal.Break reader at behind × (leads productions look_ahead name (seen_from reader behind) ≡ true))
 
--- no further item stands here
+-- no further item is next
 abbrev pub IsNotFurther : Reader → ℕ → Type 0
 IsNotFurther reader at =
     (leads productions look_ahead (token terminal.Comma) (seen_from reader at) ≡ false) × ((leads productions look_ahead (token terminal.Break) (seen_from reader at) ≡ false) ⊎ ((behind : ℕ) × IsPassed terminal.Break reader at behind × (leads productions look_ahead name (seen_from reader behind) ≡ false)))
 
--- the place behind the last item, and behind the line end there
+-- the place after the last item, and after the line end there
 abbrev pub IsBehindLast : Reader → ℕ → ℕ → Type 0
 IsBehindLast reader at behind =
     ((leads productions look_ahead (token terminal.Break) (seen_from reader at) ≡ false) × (behind ≡ at)) ⊎ (IsPassed terminal.Break reader at behind × (leads productions look_ahead name (seen_from reader behind) ≡ false))
@@ -315,18 +319,18 @@ pub record IsLines (reader : Reader) (at : ℕ) (lines : List TableLine) (next :
   pub short : All (λ line. string_len line.text ≤ 32768) lines
   pub further : at ≤ next
 
--- the reader inside so many parentheses
+-- the reader inside `unclosed` parentheses
 abbrev pub inside : Reader → ℕ → Reader
 inside reader unclosed = record reader { unclosed = unclosed }
 
--- a parenthesis opens, and inside it this reads on from here
+-- a parenthesis opens, and this reader continues inside it from here
 pub record IsOpened (reader : Reader) (at : ℕ) (inner : Reader) (behind : ℕ) : Type 0 where
   pub token : Token
   pub next : IsNext (is terminal.LeftParen) reader at token behind
   pub room : reader.unclosed < 100
   pub inner_is : inner ≡ inside reader (reader.unclosed + 1)
 
--- no parenthesis opens, or it is one too many
+-- no parenthesis opens, or one too many does
 pub record IsUnopened (reader : Reader) (at : ℕ) (refusal : SourceFaultOrMemory) : Type 0 where
   pub refuses : (limit : ℕ) (tables : Tables) (walk : Walk) → Holds reader tables walk →
       Refuses limit reader.source.now (token terminal.LeftParen) walk (seen_from reader at) refusal
@@ -337,7 +341,7 @@ pub record IsEntered (old new : List (List ℕ)) (text : List ℕ) (n : ℕ) : T
   pub room : IsFullFor old text → ⊥
   pub place : place_of new text ≡ Some n
 
--- there is no room for a text, or want of memory
+-- the table is full for a text, or out of memory
 pub record IsNotEntered (old : List (List ℕ)) (text : List ℕ) (at : Place) (refusal : SourceFaultOrMemory) : Type 0 where
   pub why : (refusal ≡ Memory) ⊎ ((refusal ≡ Fault (record { error = Syntax TooManyLabels; at = at })) × IsFullFor old text)
 

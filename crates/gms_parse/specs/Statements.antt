@@ -1,5 +1,5 @@
--- What the derivations of statements mean (GAMS User's Guide, "Data Manipulation", "Equations", "Model and Solve Statements",
--- "Display", "Programming Flow Control Features").
+-- What the derivations of statements mean (GAMS User's Guide, "Data Manipulation", "Equations",
+-- "Model and Solve Statements", "Display", "Programming Flow Control Features").
 use Rattle.std.specs.Prelude.{ℕ, Bool, List, [], Option, Some, None, codes}
 use Rattle.gq_number.specs.Number.{Number}
 use Rattle.gms_lexemes.specs.declared.kind.Sym.TheVariants as sym
@@ -50,7 +50,7 @@ module _ (source : List ℕ) (names labels : List (List ℕ)) where
   abbrev pub text_word : Tree (Terminal × Token) → Word
   text_word tree = record { at = (token_of tree).at; text = unquoted (bytes_in tree) }
 
-  -- the condition of a statement, where there is one
+  -- the condition of a statement, if any
   abbrev pub condition_in : Tree (Terminal × Token) → Option (trees.Tree Number)
   condition_in (some tree) = Some (condition source names labels tree)
   condition_in _ = None
@@ -75,12 +75,13 @@ module _ (source : List ℕ) (names labels : List (List ℕ)) where
   abbrev pub assigned : Target Number → Option (trees.Tree Number) → Tree (Terminal × Token) → Act Number
   assigned target condition right_side = assigns target condition (place_in right_side) (expression source names labels right_side)
 
-  -- what follows a target that is assigned to
+  -- what follows an assignment's target
   abbrev pub after_target : Target Number → Tree (Terminal × Token) → Act Number
   after_target target (node (pair condition tree)) = assigned target (condition_in condition) (second_in tree)
   after_target target _ = displays []
 
-  -- what follows a target without suffix and lags: by `=` it is assigned to, and by `..` defined
+  -- what follows a target without suffix and lags: `=` makes it an assignment, and `..` a
+  -- definition
   abbrev pub after_head : Target Number → Tree (Terminal × Token) → Act Number
   after_head target (node (pair condition (left tree))) = assigned target (condition_in condition) (second_in tree)
   after_head target (node (pair condition (right (pair _ sides)))) =
@@ -88,7 +89,8 @@ module _ (source : List ℕ) (names labels : List (List ℕ)) where
   after_head target _ = displays []
 
   abbrev mutual
-    -- the indices of a head, which the grammar nests as they come; from the first lag on they are a plain list
+    -- the indices of a head, which the grammar nests as they come; from the first lag on they are a
+    -- plain list
     pub head_indices : Tree (Terminal × Token) → trees.Indices Number
     head_indices (node (left (pair text tree))) = trees.label (label_in source names labels text) (indices_behind tree)
     head_indices (node (right (pair name (node (left (pair amount (node (pair others _)))))))) =
@@ -101,7 +103,8 @@ module _ (source : List ℕ) (names labels : List (List ℕ)) where
     indices_behind _ = trees.no_index
 
   abbrev mutual
-    -- what stands behind the parenthesis that closes a head: with a lag among the indices it is an assignment
+    -- what follows the closing parenthesis of a head: with a lag among the indices it is an
+    -- assignment
     pub act_of_head : Target Number → Tree (Terminal × Token) → Act Number
     act_of_head target (node (left (pair _ tree))) = act_behind target tree
     act_of_head target (node (right (pair _ (node (left (pair _ (node (pair _ (pair _ tree))))))))) = after_target target tree
@@ -117,7 +120,7 @@ module _ (source : List ℕ) (names labels : List (List ℕ)) where
   abbrev pub target_at : Tree (Terminal × Token) → Suffix → trees.Indices Number → Target Number
   target_at name suffix indices = record { at = (token_of name).at; name = name_in source names labels name; suffix = suffix; indices = indices }
 
-  -- an assignment or a definition: behind the name stand a suffix, indices, or neither
+  -- an assignment or a definition: the name is followed by a suffix, indices, or neither
   abbrev pub named_act : Tree (Terminal × Token) → Act Number
   named_act (node (pair name (node (left (pair dotted (pair indices tree)))))) =
       after_target (target_at name (suffix_in source names labels (some dotted)) (optional_indices source names labels indices)) tree
@@ -181,7 +184,8 @@ module _ (source : List ℕ) (names labels : List (List ℕ)) where
   option_act (node (pair _ list)) = sets_options (listed_in setting_in list)
   option_act _ = displays []
 
-  -- a solve of a model: `using` and its word stand before the direction and the objective, or behind them
+  -- a solve of a model: `using` and its word come before the direction and the objective, or after
+  -- them
   abbrev pub solve_act : Tree (Terminal × Token) → Act Number
   solve_act (node (pair _ (pair model (left (pair _ (pair method objective)))))) =
       solves (named_in source names labels model) (word_in method) (named_in source names labels (second_in objective)) (is_maximizing (bytes_in (first_in objective)))

@@ -1,5 +1,5 @@
--- Tables among the tokens of a program: the labels and the items that their lines give, and their first fault (GAMS User's Guide, "Data
--- Entry: Parameters, Scalars and Tables").
+-- Tables among the tokens of a program: the labels and the items that their lines give, and their
+-- first fault (GAMS User's Guide, "Data Entry: Parameters, Scalars and Tables").
 use Rattle.std.specs.Prelude.{◌≡◌, ◌⊎◌, ℕ, false, List, [], ◌∷◌, ◌++◌, map, Some}
 use Rattle.gq_extended.specs.declared.extended.Ext.TheVariants as ext
 use Rattle.gq_number.specs.Number.{Number}
@@ -30,8 +30,8 @@ parts_of_tokens source lines = table_of (map (λ line. words_of line.1.at.line (
 abbrev pub labels_of_lines : List ℕ → List (Terminal × Token) → List (List ℕ)
 labels_of_lines source lines = texts_of (parts_of_tokens source lines)
 
--- The fault of a table that has lines, where these labels were entered before and its name stands here: none of the lines has a
--- heading, or the first fault in them.
+-- The fault of a table that has lines, given the labels entered before it and the place of its
+-- name: none of the lines has a heading, or the first fault in them.
 abbrev pub IsLineFault : ℕ → List ℕ → Place → List (List ℕ) → List (Terminal × Token) → SourceFault → Type 0
 IsLineFault limit source at labels lines fault =
     ((parts_of_tokens source lines ≡ []) × (fault ≡ record { error = Table NoHeading; at = at })) ⊎ ((found : TableFault) × IsFirstFault limit labels (parts_of_tokens source lines) found × (fault ≡ record { error = error_of_table found.error; at = found.at }))
@@ -40,12 +40,12 @@ IsLineFault limit source at labels lines fault =
 abbrev pub positions_of : List ℕ → List (List ℕ)
 positions_of labels = map (λ label. label ∷ []) labels
 
--- the item of data that an entry is: one label at each position, first those of the row
+-- the item of data of an entry: one label at each position, first those of the row
 abbrev pub item_of_entry : {N : Type 0} → Entry N → Item N
 item_of_entry entry =
     record { at = entry.at; parts = positions_of (entry.row ++ entry.column); value = Some (ext.Number entry.value); bad_range = false }
 
--- these are the items of a table of these lines, where these labels are all of the source
+-- these are the items of a table of these lines, if these labels are all of the source
 abbrev pub AreTableItems : ℕ → List ℕ → List (List ℕ) → List (Terminal × Token) → List (Item Number) → Type 0
 AreTableItems limit source labels lines items =
     (entries : List (Entry Number)) × AreEntries limit (λ x. x) labels (parts_of_tokens source lines) entries × (items ≡ map item_of_entry entries)
@@ -59,7 +59,7 @@ abbrev pub entry_at : List (List ℕ) → Word → Word → Word → Entry Numbe
 entry_at labels row word heading =
     record { at = word.at; row = numbers_of labels (names_of row); column = numbers_of labels (names_of heading); value = signed word.text (number_in (unsigned word.text)) }
 
--- the same under the first of headings; it is no matter where there is none
+-- the entry under the first of the headings; the value without headings has no meaning
 abbrev pub entry_under : List (List ℕ) → Word → Word → List Word → Entry Number
 entry_under labels row word [] = entry_at labels row word row
 entry_under labels row word (heading ∷ others) = entry_at labels row word heading
@@ -70,6 +70,7 @@ entries_in labels [] = []
 entries_in labels (name word ∷ parts) = entries_in labels parts
 entries_in labels (cell row headings word ∷ parts) = entry_under labels row word (met headings word) ∷ entries_in labels parts
 
--- The items that the lines of a table give, where these labels are all of the source: where the table has items, they are these.
+-- The items that the lines of a table give, if these labels are all of the source: if the table has
+-- items, they are these.
 abbrev pub items_given : List ℕ → List (List ℕ) → List (Terminal × Token) → List (Item Number)
 items_given source labels lines = map item_of_entry (entries_in labels (parts_of_tokens source lines))

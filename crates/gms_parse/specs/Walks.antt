@@ -1,5 +1,6 @@
--- What the tokens of a program leave as they are read in order: names and labels are numbered where they first stand. And which
--- tokens that the grammar expects have a fault (GAMS User's Guide, "Language Items", "Sets"; the limits are this project's own).
+-- The state after the tokens of a program, read in order: names and labels are numbered in the
+-- order of their first occurrence. And which tokens that the grammar expects have a fault (GAMS
+-- User's Guide, "Language Items", "Sets"; the limits are this project's).
 use Rattle.std.specs.Prelude.{◌≡◌, ℕ, ◌≤◌, Bool, true, false, not, ◌&&◌, ◌||◌, ◌==◌, if◌then◌else◌, List, [], ◌∷◌, ◌++◌, map, reverse, take_while, Option, Some, None}
 use Rattle.gms_labels.specs.declared.place.Place.{Place}
 use Rattle.gms_labels.specs.Labels.{entered, IsFullFor}
@@ -28,11 +29,11 @@ use Rattle.gms_parse.specs.declared.fault.SourceFaultOrMemory.{SourceFaultOrMemo
 use Rattle.gms_parse.specs.declared.fault.SourceFaultOrMemory.TheVariants.{Fault}
 use Rattle.gms_parse.specs.Tables.{labels_of_lines, IsLineFault}
 
--- tokens as the grammar sees them
+-- tokens as the grammar views them
 abbrev pub Seen : Type 0
 Seen = Terminal × Token
 
--- What the tokens so far have left.
+-- The state after the tokens so far.
 pub record Walk : Type 0 where
   -- how many parentheses are open
   pub open_count : ℕ
@@ -41,7 +42,8 @@ pub record Walk : Type 0 where
   pub labels : List (List ℕ)
   -- the tokens, the last one first
   pub before : List Seen
-  -- the keyword or the semicolon behind which the statement stands, and how many parentheses were open there
+  -- the keyword or the semicolon after which the statement begins, and how many parentheses were
+  -- open there
   pub keyword : Terminal
   pub level : ℕ
 
@@ -58,23 +60,24 @@ last_kind (token ∷ tokens) = token.0
 abbrev pub is_keyword : Terminal → Bool
 is_keyword kind = is_among (map (λ words. words.0) statement_words) kind
 
--- A name: no suffix behind a dot, no word of an option, and not the word behind `using`.
+-- A name: no suffix after a dot, no word of an option, and not the word after `using`.
 abbrev pub is_name : Walk → Terminal → Bool
 is_name walk kind =
     is_among (terminal.Name ∷ terminal.Suffix ∷ []) kind && not (is_among (terminal.Dot ∷ terminal.Using ∷ []) (last_kind walk.before) || is terminal.Option walk.keyword)
 
--- a text that is an index: none that a display or an abort shows, which stands in no parentheses of its statement
+-- a text that is an index: not one that a display or an abort shows, which is inside no parentheses
+-- of its statement
 abbrev pub is_index : Walk → Terminal → Bool
 is_index walk kind =
     is terminal.Text kind && not (is_among (terminal.Display ∷ terminal.Abort ∷ []) walk.keyword && walk.open_count == walk.level)
 
--- the label at which the range begins that the tokens so far end in: a label and a `*`
+-- the first label of a range that the tokens so far end in: a label and a `*`
 abbrev pub range_start : List Seen → Option Token
 range_start [] = None
 range_start (star ∷ []) = None
 range_start (star ∷ (first ∷ others)) = if is terminal.Star star.0 && is terminal.Label first.0 then Some first.1 else None
 
--- where the name of a table stands: behind its keyword
+-- the place of a table's name: after its keyword
 abbrev pub table_name : List Seen → Place
 table_name [] = record { line = 0; column = 0 }
 table_name (name ∷ []) = record { line = 0; column = 0 }
@@ -84,7 +87,7 @@ table_name (name ∷ (word ∷ others)) = if is terminal.Table word.0 then name.
 abbrev pub ends_statement : Terminal → Bool
 ends_statement kind = is_among (terminal.Semicolon ∷ terminal.End ∷ []) kind || is_keyword kind
 
--- one of these texts finds no room, as they are entered one after another
+-- the table is full for one of these texts, as they are entered in order
 pub record LacksRoom (labels texts : List (List ℕ)) : Type 0 where
   pub before : List (List ℕ)
   pub text : List ℕ
@@ -94,25 +97,27 @@ pub record LacksRoom (labels texts : List (List ℕ)) : Type 0 where
 
 -- In a source.
 module _ (source : List ℕ) where
-  -- the labels between two labels of a range; none where it is no range
+  -- the labels between two labels of a range; none for an invalid range
   abbrev pub range_texts : List ℕ → List ℕ → List (List ℕ)
   range_texts from to = if is_range from to then members from to else []
 
-  -- the labels that a label of a list enters: behind the `*` of a range its members, before a `*` none, else itself
+  -- the labels that a label of a list enters: after the `*` of a range its members, before a `*`
+  -- none, else itself
   abbrev pub list_labels : Option Token → Terminal → Token → List (List ℕ)
   list_labels (Some first) ahead token = range_texts (unquoted (token_text source first)) (unquoted (token_text source token))
   list_labels None ahead token = if is terminal.Star ahead then [] else unquoted (token_text source token) ∷ []
 
-  -- the lines of a table that end with this one
+  -- the lines of a table up to this last one
   abbrev pub lines_with : List Seen → Seen → List Seen
   lines_with before line = reverse (line ∷ take_while (λ token. is terminal.TableLine token.0) before)
 
-  -- the labels that a token enters, where one of kind `ahead` stands behind it: the last line of a table enters those of the table
+  -- the labels that a token enters, if one of kind `ahead` follows it: the last line of a table
+  -- enters those of the table
   abbrev pub new_labels : Walk → Seen → Terminal → List (List ℕ)
   new_labels walk token ahead =
       if is_index walk token.0 then unquoted (token_text source token.1) ∷ [] else (if is terminal.Label token.0 then list_labels (range_start walk.before) ahead token.1 else (if is terminal.TableLine token.0 && not (is terminal.TableLine ahead) then labels_of_lines source (lines_with walk.before token) else []))
 
-  -- what a token leaves, where one of kind `ahead` stands behind it
+  -- the state after a token, if one of kind `ahead` follows it
   abbrev pub walk_after : Walk → Seen → Terminal → Walk
   walk_after walk token ahead =
       let begins = is_keyword token.0 || is terminal.Semicolon token.0 in
@@ -125,11 +130,11 @@ module _ (source : List ℕ) where
         level = if begins then walk.open_count else walk.level;
       }
 
-  -- what tokens leave, where one of kind `ahead` stands behind them
+  -- the state after tokens, if one of kind `ahead` follows them
   abbrev pub walk_behind : Walk → List Seen → Terminal → Walk
   walk_behind walk tokens ahead = left_by walk_after walk tokens ahead
 
-  -- the fault of a token that is unexpected
+  -- the fault of an unexpected token
   abbrev pub unexpected : List Seen → SourceFault
   unexpected rest = source_fault (syntax.unexpected source rest)
 
@@ -138,9 +143,10 @@ module _ (limit : ℕ) (source : List ℕ) where
   abbrev pub IsOutOfRange : Token → Type 0
   IsOutOfRange token = (x : Number) → MeansNumber (token_text source token) x → FitsLiteral limit x → ⊥
 
-  -- Behind the tokens so far a token that the grammar expects has a fault, where one of kind `ahead` stands behind it: it opens a
-  -- parenthesis where 100 are open; it is a number out of range; it is a new name where 65,536 are there, or enters a new label where
-  -- as many are there; it is the last line of a table that has a fault; or it ends the head of a table without lines.
+  -- After the tokens so far, a token that the grammar expects, and that one of kind `ahead`
+  -- follows, has a fault: it opens a parenthesis while 100 are open; it is a number out of range;
+  -- it is a new name after 65,536 others, or enters a new label after as many others; it is the
+  -- last line of a table that has a fault; or it ends the head of a table without lines.
   pub data IsFaulty (walk : Walk) (token : Seen) (ahead : Terminal) : SourceFault → Type 0 where
     deep : token.0 ≡ terminal.LeftParen → 100 ≤ walk.open_count → IsFaulty walk token ahead (record { error = Syntax Depth; at = token.1.at })
     out_of_range : token.0 ≡ terminal.Number → IsOutOfRange token.1 → IsFaulty walk token ahead (record { error = Syntax OutOfRange; at = token.1.at })
@@ -162,6 +168,6 @@ source_rule key = record {
   told = Fault;
 }
 
--- none of the tokens has a fault, where one of kind `ahead` stands behind them
+-- none of the tokens has a fault, if one of kind `ahead` follows them
 abbrev pub AreSound : ℕ → List ℕ → Walk → List Seen → Terminal → Type 0
 AreSound limit source walk tokens ahead = rules.AreSound (source_rule (limit, source)) walk tokens ahead

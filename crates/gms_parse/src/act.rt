@@ -60,7 +60,7 @@ impl<'s> Reader<'s> {
         })
     }
 
-    /// The word that stands here.
+    /// Reads a word.
     fn word(&self, at: usize) -> Read<Word>
         requires { IsReady self.now }
         ensures { (limit : ℕ) → AnswersWord limit (IsWord self.now.source.now) word self.now at result }
@@ -69,7 +69,7 @@ impl<'s> Reader<'s> {
         Ok((self.copied(token, self.text(token))?, next))
     }
 
-    /// The alias of a set that stands here.
+    /// Reads an alias of a set.
     pub(crate) fn alias<F: ExactField>(&self, tables: &mut Tables, at: usize) -> Read<Act<F>>
         requires { IsReady self.now }
         ensures { AnswersAct F.limit (IsAct F.value self.now.source.now alias_act) (the AliasStatement) self.now at tables.old tables.new result }
@@ -85,7 +85,7 @@ impl<'s> Reader<'s> {
         ))
     }
 
-    /// The suffix that stands here, where there is one.
+    /// Reads a suffix, if any.
     fn suffix(&self, at: usize) -> Read<Suffix>
         requires { IsReady self.now }
         ensures { (limit : ℕ) → AnswersPlain limit (IsSuffix self.now.source.now) (opt (the Attribute)) self.now at result }
@@ -97,7 +97,7 @@ impl<'s> Reader<'s> {
         Ok((suffix_of(self.text(word)), next))
     }
 
-    /// What is shown, a text or a symbol, that stands here.
+    /// Reads what is shown: a text or a symbol.
     fn shown(&self, tables: &mut Tables, at: usize) -> Read<Show>
         requires { IsReady self.now }
         ensures { (limit : ℕ) → AnswersShown limit (IsShown self.now.source.now) (the Shown) self.now at tables.old tables.new result }
@@ -111,7 +111,7 @@ impl<'s> Reader<'s> {
         Ok((Show::Symbol { named, suffix }, next))
     }
 
-    /// All that is shown, which stands here.
+    /// Reads the list of what is shown.
     fn shown_list(&self, tables: &mut Tables, at: usize) -> Read<Sequence<Show>>
         requires { IsReady self.now }
         ensures { (limit : ℕ) → AnswersShown limit (AreShown self.now.source.now) (the ShownList) self.now at tables.old tables.new result }
@@ -127,7 +127,7 @@ impl<'s> Reader<'s> {
         Ok((Sequence::new(items), next))
     }
 
-    /// The display that stands here.
+    /// Reads a display.
     pub(crate) fn display<F: ExactField>(&self, tables: &mut Tables, at: usize) -> Read<Act<F>>
         requires { IsReady self.now }
         ensures { AnswersAct F.limit (IsAct F.value self.now.source.now display_act) (the DisplayStatement) self.now at tables.old tables.new result }
@@ -137,7 +137,7 @@ impl<'s> Reader<'s> {
         Ok((Act::Display { items }, next))
     }
 
-    /// The abort that stands here, perhaps with a condition and with what it shows.
+    /// Reads an abort, perhaps with a condition and with what it shows.
     pub(crate) fn abort<F: ExactField>(&self, tables: &mut Tables, at: usize) -> Read<Act<F>>
         requires { IsReady self.now }
         ensures { AnswersAct F.limit (IsAct F.value self.now.source.now abort_act) (the AbortStatement) self.now at tables.old tables.new result }
@@ -152,7 +152,7 @@ impl<'s> Reader<'s> {
         Ok((Act::Abort { condition, items }, next))
     }
 
-    /// The word of an option, and the number or word that it is set to, that stand here.
+    /// Reads the word of an option, and the number or word that it is set to.
     fn setting<F: ExactField>(&self, at: usize) -> Read<(Word, Setting<F>)>
         requires { IsReady self.now }
         ensures { (tables : Tables) (walk : Walk) → Has self.now tables walk → is Option walk.keyword ≡ true →
@@ -177,7 +177,7 @@ impl<'s> Reader<'s> {
         Ok(((option, Setting::Name(name)), next))
     }
 
-    /// The change of options that stands here.
+    /// Reads a change of options.
     pub(crate) fn options<F: ExactField>(&self, at: usize) -> Read<Act<F>>
         requires { IsReady self.now }
         ensures { (tables : Tables) → AnswersAct F.limit (IsAct F.value self.now.source.now option_act) (the OptionStatement) self.now at tables tables result }
@@ -195,7 +195,7 @@ impl<'s> Reader<'s> {
         Ok((Act::Options { settings }, next))
     }
 
-    /// `using` and the word behind it, which stand here.
+    /// Reads `using` and the word after it.
     fn method(&self, at: usize) -> Read<Word>
         requires { IsReady self.now }
         ensures { (limit : ℕ) → AnswersPlain limit (IsMethod self.now.source.now) (token Using · word) self.now at result }
@@ -204,7 +204,7 @@ impl<'s> Reader<'s> {
         self.word(next)
     }
 
-    /// Whether the objective is maximized, and the objective, by the direction and the name that stand here.
+    /// Reads a direction and a name: whether the objective is maximized, and the objective.
     fn objective(&self, tables: &mut Tables, at: usize) -> Read<(bool, Named)>
         requires { IsReady self.now }
         ensures { (limit : ℕ) → AnswersNamed limit (IsObjective self.now.source.now) (token Direction · name) self.now at tables.old tables.new result }
@@ -214,7 +214,7 @@ impl<'s> Reader<'s> {
         Ok(((is_maximizing(self.text(direction)), objective), next))
     }
 
-    /// The solve of a model that stands here.
+    /// Reads the solve of a model.
     pub(crate) fn solve<F: ExactField>(&self, tables: &mut Tables, at: usize) -> Read<Act<F>>
         requires { IsReady self.now }
         ensures { AnswersAct F.limit (IsAct F.value self.now.source.now solve_act) (the SolveStatement) self.now at tables.old tables.new result }
@@ -232,7 +232,7 @@ impl<'s> Reader<'s> {
     }
 }
 
-/// A solve.
+/// The act of a solve.
 fn solved<F: ExactField>(model: Named, method: Word, objective: Named, maximize: bool) -> Act<F>
     ensures { act_view F.value result ≡ solves model method objective maximize }
 {

@@ -36,7 +36,8 @@ fn has_lag<F: ExactField>(index: &Index<F>) -> bool
     matches!(index, Index::Set { lag: Some(_), .. })
 }
 
-/// Whether a target may be what a definition defines: it has no suffix, and none of its indices has a lag.
+/// Whether a target may be what a definition defines: it has no suffix, and none of its indices has
+/// a lag.
 fn is_plain<F: ExactField>(target: &Target<F>) -> bool
     ensures { result ≡ is_plain_target (shown_target F.value target.now) }
 {
@@ -52,7 +53,7 @@ fn is_plain<F: ExactField>(target: &Target<F>) -> bool
 }
 
 impl<'s> Reader<'s> {
-    /// The right side behind the `=` that stands here, and its place.
+    /// Reads the right side after its `=`, and its place.
     fn right_value<F: ExactField>(&self, tables: &mut Tables, at: usize) -> Read<(Place, Expr<F>)>
         requires { IsReady self.now }
         ensures { AnswersPart F.limit (IsRightSide F.value self.now.source.now) (token Equals · the Expression) self.now at tables.old tables.new result }
@@ -62,7 +63,7 @@ impl<'s> Reader<'s> {
         Ok(((self.place(right), value), next))
     }
 
-    /// The assignment to a target, under a condition, of the right side behind the `=` that stands here.
+    /// Reads the right side after its `=`, as an assignment to a target under a condition.
     fn right_side<F: ExactField>(
         &self,
         tables: &mut Tables,
@@ -85,7 +86,7 @@ impl<'s> Reader<'s> {
         })
     }
 
-    /// How two sides relate, by the symbol that stands here, and the right side behind it with its place.
+    /// Reads the symbol that relates two sides, and the right side after it with its place.
     fn related<F: ExactField>(&self, tables: &mut Tables, at: usize) -> Read<(Side, Place, Expr<F>)>
         requires { IsReady self.now }
         ensures { AnswersPart F.limit (IsRelated F.value self.now.source.now) (token Sense · the Expression) self.now at tables.old tables.new result }
@@ -95,7 +96,7 @@ impl<'s> Reader<'s> {
         Ok(((side_of(sense.kind), self.place(behind), right), next))
     }
 
-    /// The two sides that stand here, and how they relate.
+    /// Reads two sides, and how they relate.
     fn relation<F: ExactField>(&self, tables: &mut Tables, at: usize) -> Read<Relation<F>>
         requires ready { IsReady self.now }
         requires within { at < length self.now.tokens.now }
@@ -116,7 +117,7 @@ impl<'s> Reader<'s> {
         })
     }
 
-    /// The definition of an equation, under a condition, by the two sides that stand here.
+    /// Reads two sides, as the definition of an equation under a condition.
     fn sides<F: ExactField>(
         &self,
         tables: &mut Tables,
@@ -149,7 +150,7 @@ impl<'s> Reader<'s> {
         })
     }
 
-    /// The assignment that stands here.
+    /// Reads an assignment.
     pub(crate) fn assignment<F: ExactField>(&self, tables: &mut Tables, at: usize) -> Read<Act<F>>
         requires ready { IsReady self.now }
         requires within { at < length self.now.tokens.now }
@@ -160,7 +161,7 @@ impl<'s> Reader<'s> {
         self.right_side(tables, target, condition, next)
     }
 
-    /// The assignment or the definition that stands here. They begin alike, up to `=` or `..`.
+    /// Reads an assignment or a definition. They begin alike, up to `=` or `..`.
     pub(crate) fn assignment_or_definition<F: ExactField>(
         &self,
         tables: &mut Tables,

@@ -23,7 +23,7 @@ use gms_set::{SetFaultOrMemory, range};
 use gq_extended::Ext;
 use gq_field::ExactField;
 
-/// What stands between the slashes of a list.
+/// The contents between the slashes of a list.
 #[derive(Clone, Copy)]
 pub(crate) enum ListOf {
     /// Elements.
@@ -36,7 +36,7 @@ pub(crate) enum ListOf {
 #[derive(Drop)]
 struct Part {
     labels: Vec<u32>,
-    /// Whether a range among them is none. It gives no label.
+    /// Whether a range among them is invalid. Such a range gives no label.
     bad_range: bool,
 }
 
@@ -45,13 +45,13 @@ struct Part {
 struct Element {
     /// The place of its first character.
     at: Place,
-    /// For each position the labels that stand there.
+    /// For each position its labels.
     parts: Vec<Sequence<u32>>,
-    /// Whether a range in it is none.
+    /// Whether a range in it is invalid.
     bad_range: bool,
 }
 
-/// A value, or the one of the other sign.
+/// A value, negated if `minus`.
 fn signed<F: ExactField>(minus: bool, value: Ext<F>) -> Ext<F>
     ensures { extended_in F.value result ≡ (if minus then opposed (extended_in F.value value) else extended_in F.value value) }
 {
@@ -66,7 +66,7 @@ fn signed<F: ExactField>(minus: bool, value: Ext<F>) -> Ext<F>
     }
 }
 
-/// The item of data that an element is, with a value or without.
+/// The item of data of an element, with a value or without.
 fn item_of<F: ExactField>(element: Element, value: Option<Ext<F>>) -> Item<F>
     ensures { item_in F.value result ≡ record { at = element.at; parts = element.parts.items; value = option_map (extended_in F.value) value; bad_range = element.bad_range } }
 {
@@ -87,7 +87,8 @@ impl<'s> Reader<'s> {
         self.ascii(token, unquoted(self.text(token)))
     }
 
-    /// Adds the members of the range between two labels, which are entered; a range that is none has none.
+    /// Adds the members of the range between two labels, which are entered; an invalid range has
+    /// none.
     fn add_members(
         &self,
         tables: &mut Tables,
@@ -120,7 +121,7 @@ impl<'s> Reader<'s> {
         }
     }
 
-    /// Adds the label, or the members of the range, that stands here.
+    /// Reads a label or a range, and adds the label or the members.
     fn add_range(
         &self,
         tables: &mut Tables,
@@ -166,7 +167,7 @@ impl<'s> Reader<'s> {
         Ok((part, self.behind(Terminal::RightParen, next)?))
     }
 
-    /// The element that stands here.
+    /// Reads an element.
     fn element(&self, tables: &mut Tables, at: usize) -> Read<Element>
         requires { IsReady self.now }
         ensures { (limit : ℕ) → AnswersData limit (IsElement self.now.source.now) (the ElementOf) self.now at tables.old tables.new result }
@@ -189,7 +190,7 @@ impl<'s> Reader<'s> {
         Ok((element, next))
     }
 
-    /// The value that stands here.
+    /// Reads a value.
     pub(crate) fn value<F: ExactField>(&self, at: usize) -> Read<Ext<F>>
         requires { IsReady self.now }
         ensures { AnswersPlain F.limit (IsGiven F.value self.now.source.now) (the Value) self.now at result }
@@ -202,7 +203,7 @@ impl<'s> Reader<'s> {
         Ok((signed(minus, value), next))
     }
 
-    /// The number or the infinity that stands here.
+    /// Reads a number or an infinity.
     fn unsigned<F: ExactField>(&self, at: usize) -> Read<Ext<F>>
         requires { IsReady self.now }
         ensures { AnswersPlain F.limit (IsUnsigned F.value self.now.source.now) (any_of (Number ∷ Infinity ∷ [])) self.now at result }
@@ -215,7 +216,7 @@ impl<'s> Reader<'s> {
         Ok((Ext::Number(number), next))
     }
 
-    /// The value of an entry, perhaps behind `=`, that stands here.
+    /// Reads the value of an entry, perhaps after `=`.
     fn entry_value<F: ExactField>(&self, at: usize) -> Read<Ext<F>>
         requires { IsReady self.now }
         ensures { AnswersPlain F.limit (λ sense tree v. IsGiven F.value self.now.source.now sense (second_in tree) v) (opt (token Equals) · the Value) self.now at result }
@@ -226,7 +227,7 @@ impl<'s> Reader<'s> {
         }
     }
 
-    /// The item of a list that stands here.
+    /// Reads an item of a list.
     fn listed_item<F: ExactField>(
         &self,
         tables: &mut Tables,
@@ -242,7 +243,7 @@ impl<'s> Reader<'s> {
         }
     }
 
-    /// The element of a set that stands here, which has no value.
+    /// Reads an element of a set, which has no value.
     fn lone_element<F: ExactField>(&self, tables: &mut Tables, at: usize) -> Read<Item<F>>
         requires { IsReady self.now }
         ensures { AnswersData F.limit (IsListed F.value self.now.source.now list_elements) (the ElementOf) self.now at tables.old tables.new result }
@@ -251,7 +252,7 @@ impl<'s> Reader<'s> {
         Ok((item_of(element, None), next))
     }
 
-    /// The entry of a parameter that stands here.
+    /// Reads an entry of a parameter.
     fn entry<F: ExactField>(&self, tables: &mut Tables, at: usize) -> Read<Item<F>>
         requires { IsReady self.now }
         ensures { AnswersData F.limit (IsListed F.value self.now.source.now list_entries) (the Entry) self.now at tables.old tables.new result }
@@ -261,7 +262,7 @@ impl<'s> Reader<'s> {
         Ok((item_of(element, Some(value)), next))
     }
 
-    /// The list between slashes that stands here, where there is one.
+    /// Reads a list between slashes, if any.
     pub(crate) fn list<F: ExactField>(
         &self,
         tables: &mut Tables,
@@ -285,7 +286,7 @@ impl<'s> Reader<'s> {
         Ok((items, self.behind(Terminal::Slash, next)?))
     }
 
-    /// The value between slashes that stands here, where there is one: an item without positions.
+    /// Reads a value between slashes, if any: an item without positions.
     pub(crate) fn scalar_value<F: ExactField>(&self, at: usize) -> Read<Vec<Item<F>>>
         requires { IsReady self.now }
         ensures { AnswersPlain F.limit (IsScalarValue F.value self.now.source.now) (opt (token Slash · the Value · token Slash)) self.now at result }

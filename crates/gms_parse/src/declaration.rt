@@ -17,7 +17,7 @@ use gms_ast::{Act, Decl, DeclKind, Item, Named, Sequence};
 use gms_grammar::Terminal;
 use gq_field::ExactField;
 
-/// What an item of a declaration may have behind its name.
+/// What an item of a declaration may have after its name.
 #[derive(Clone, Copy)]
 pub(crate) enum Form {
     /// A domain, and a list of elements.
@@ -30,7 +30,7 @@ pub(crate) enum Form {
     Plain,
 }
 
-/// What `variable` declares behind this word.
+/// What `variable` declares after this word.
 fn variable_kind(word: &[u8]) -> DeclKind
     ensures { result ≡ variable_kind word.now }
 {
@@ -58,7 +58,7 @@ impl<'s> Reader<'s> {
         Ok((Some(set), next))
     }
 
-    /// The domain that stands here.
+    /// Reads a domain.
     pub(crate) fn domain(&self, tables: &mut Tables, at: usize) -> Read<Vec<Option<Named>>>
         requires { IsReady self.now }
         ensures { (limit : ℕ) → AnswersDomain limit (IsDomain self.now.source.now) (the Domain) self.now at tables.old tables.new result }
@@ -75,7 +75,7 @@ impl<'s> Reader<'s> {
         Ok((positions, self.behind(Terminal::RightParen, next)?))
     }
 
-    /// The domain that stands here, or one without positions.
+    /// Reads a domain, or one without positions.
     fn optional_domain(&self, tables: &mut Tables, at: usize) -> Read<Vec<Option<Named>>>
         requires { IsReady self.now }
         ensures { (limit : ℕ) → AnswersBehind limit (IsOptionalDomain self.now.source.now) (opt (the Domain)) self.now at tables.old tables.new result }
@@ -86,7 +86,7 @@ impl<'s> Reader<'s> {
         Ok((Vec::new(self.alloc), at))
     }
 
-    /// The item of a declaration that stands here.
+    /// Reads an item of a declaration.
     fn item<F: ExactField>(&self, tables: &mut Tables, form: Form, at: usize) -> Read<Decl<F>>
         requires { IsReady self.now }
         ensures { AnswersPart F.limit (IsDeclared F.value self.now.source.now form) (the (item_part form)) self.now at tables.old tables.new result }
@@ -99,7 +99,7 @@ impl<'s> Reader<'s> {
         }
     }
 
-    /// The set or the parameter that stands here, with its domain and its list.
+    /// Reads a set or a parameter, with its domain and its list.
     fn data_item<F: ExactField>(
         &self,
         tables: &mut Tables,
@@ -115,7 +115,7 @@ impl<'s> Reader<'s> {
         Ok((declared(named, domain, items), next))
     }
 
-    /// The scalar that stands here, with its value.
+    /// Reads a scalar, with its value.
     fn scalar_item<F: ExactField>(&self, tables: &mut Tables, at: usize) -> Read<Decl<F>>
         requires { IsReady self.now }
         ensures { AnswersPart F.limit (IsDeclared F.value self.now.source.now form_scalar) (the ScalarItem) self.now at tables.old tables.new result }
@@ -125,7 +125,7 @@ impl<'s> Reader<'s> {
         Ok((declared(named, Vec::new(self.alloc), items), next))
     }
 
-    /// The variable or the equation that stands here, with its domain.
+    /// Reads a variable or an equation, with its domain.
     fn plain_item<F: ExactField>(&self, tables: &mut Tables, at: usize) -> Read<Decl<F>>
         requires { IsReady self.now }
         ensures { AnswersPart F.limit (IsDeclared F.value self.now.source.now form_plain) (the PlainItem) self.now at tables.old tables.new result }
@@ -135,8 +135,9 @@ impl<'s> Reader<'s> {
         Ok((declared(named, domain, Vec::new(self.alloc)), next))
     }
 
-    /// The place of a further item of a declaration, behind the comma or the line end that ends the one before. Behind a comma an item
-    /// is due; behind a line end there is one where a name stands.
+    /// The place of a further item of a declaration, after the comma or the line end that ends the
+    /// one before. After a comma an item is expected; after a line end there is one if a name
+    /// follows.
     pub(crate) fn further_item(&self, at: usize) -> Option<usize>
         requires { IsReady self.now }
         ensures { MatchOption result (IsNotFurther self.now at) (λ behind. IsFurther self.now at behind) }
@@ -151,7 +152,7 @@ impl<'s> Reader<'s> {
         None
     }
 
-    /// The place behind the line end that may stand behind the last item of a declaration.
+    /// The place after the line end that may follow the last item of a declaration.
     pub(crate) fn behind_last_item(&self, at: usize) -> usize
         requires { IsReady self.now }
         ensures { IsNotFurther self.now at → IsBehindLast self.now at result }
@@ -162,7 +163,7 @@ impl<'s> Reader<'s> {
         }
     }
 
-    /// The items of a declaration that stand here.
+    /// Reads the items of a declaration.
     fn items<F: ExactField>(
         &self,
         tables: &mut Tables,
@@ -183,7 +184,7 @@ impl<'s> Reader<'s> {
         Ok((Sequence::new(items), self.behind_last_item(next)))
     }
 
-    /// The declaration of names of a kind that stands here, by its keyword.
+    /// Reads a declaration of names of a kind, by its keyword.
     pub(crate) fn declaration<F: ExactField>(
         &self,
         tables: &mut Tables,
@@ -200,7 +201,7 @@ impl<'s> Reader<'s> {
         Ok((Act::Declare { kind, items }, next))
     }
 
-    /// The declaration of variables that stands here, perhaps with their type before the keyword.
+    /// Reads a declaration of variables, perhaps with their type before the keyword.
     pub(crate) fn variables<F: ExactField>(&self, tables: &mut Tables, at: usize) -> Read<Act<F>>
         requires { IsReady self.now }
         ensures { AnswersAct F.limit (IsAct F.value self.now.source.now variable_act) (the VariableStatement) self.now at tables.old tables.new result }
@@ -209,7 +210,7 @@ impl<'s> Reader<'s> {
         self.declaration(tables, Terminal::Variable, kind, Form::Plain, next)
     }
 
-    /// What `variable` declares behind the type that may stand here.
+    /// Reads a type, if any: what `variable` declares after it.
     fn variable_type(&self, at: usize) -> (DeclKind, usize)
         requires { IsReady self.now }
         ensures { (limit : ℕ) (tables : Tables) (walk : Walk) → Holds self.now tables walk →

@@ -59,8 +59,9 @@ impl SourceError {
 pub struct SourceFault {
     /// The error.
     pub error: SourceError,
-    /// Its place: the start of a source that is too long; the name of a table without lines; else the byte, the token or the word that
-    /// has the error, or the end of the source where more has to come.
+    /// Its place: the start of a source that is too long; the name of a table without lines; else
+    /// the byte, the token or the word that has the error, or the end of the source if more is
+    /// required.
     pub at: Place,
 }
 

@@ -1,4 +1,5 @@
-//! The parts of statements that expressions are made of: read by the crate that reads expressions.
+//! The parts of statements that consist of expressions; the crate that reads expressions reads
+//! them.
 ghost use Rattle.std.specs.Prelude.{◌≡◌, ◌<◌, ℕ, length, if◌then◌else◌, MatchResult};
 ghost use Rattle.gms_grammar.specs.Grammar.{the, opt, ◌·◌};
 ghost use Rattle.gms_grammar.specs.GamsGrammar.{Expression, Primary, Control as ControlPart, Target as TargetPart, Condition, token};
@@ -19,7 +20,7 @@ use gq_field::ExactField;
 use std::alloc::Global;
 
 impl<'s> Reader<'s> {
-    /// The expression that stands here.
+    /// Reads an expression.
     pub(crate) fn expression<F: ExactField>(&self, tables: &mut Tables, at: usize) -> Read<Expr<F>>
         requires ready { IsReady self.now }
         requires within { at < length self.now.tokens.now }
@@ -36,7 +37,7 @@ impl<'s> Reader<'s> {
         )?)
     }
 
-    /// The operand that stands here.
+    /// Reads an operand.
     fn primary<F: ExactField>(&self, tables: &mut Tables, at: usize) -> Read<Expr<F>>
         requires ready { IsReady self.now }
         requires within { at < length self.now.tokens.now }
@@ -53,7 +54,7 @@ impl<'s> Reader<'s> {
         )?)
     }
 
-    /// The sets of a loop, and their condition, that stand here.
+    /// Reads the sets of a loop, and their condition.
     pub(crate) fn control<F: ExactField>(&self, tables: &mut Tables, at: usize) -> Read<Control<F>>
         requires ready { IsReady self.now }
         requires within { at < length self.now.tokens.now }
@@ -70,7 +71,7 @@ impl<'s> Reader<'s> {
         )?)
     }
 
-    /// What stands here to be assigned or defined.
+    /// Reads what is assigned or defined.
     pub(crate) fn target<F: ExactField>(&self, tables: &mut Tables, at: usize) -> Read<Target<F>>
         requires ready { IsReady self.now }
         requires within { at < length self.now.tokens.now }
@@ -87,7 +88,7 @@ impl<'s> Reader<'s> {
         )?)
     }
 
-    /// The condition that stands here, where there is one.
+    /// Reads a condition, if any.
     pub(crate) fn condition<F: ExactField>(
         &self,
         tables: &mut Tables,
@@ -103,7 +104,7 @@ impl<'s> Reader<'s> {
         Ok((Some(operand), next))
     }
 
-    /// What stands here behind a `$`: an operand, perhaps behind `not`.
+    /// Reads what follows a `$`: an operand, perhaps after `not`.
     fn guard<F: ExactField>(&self, tables: &mut Tables, at: usize) -> Read<Expr<F>>
         requires ready { IsReady self.now }
         requires within { at < length self.now.tokens.now }
@@ -114,7 +115,7 @@ impl<'s> Reader<'s> {
         Ok((negated(self.alloc, is_negated, operand)?, next))
     }
 
-    /// Whether `not` stands here, and the place behind it.
+    /// Whether the next token is `not`, and the place after it.
     fn not(&self, at: usize) -> (bool, usize)
         requires ready { IsReady self.now }
         requires within { at < length self.now.tokens.now }

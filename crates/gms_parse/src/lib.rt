@@ -1,4 +1,4 @@
-//! Floor 2, source to tree. Programs, read from the bytes of a source.
+//! Layer 2, source to tree. Programs, read from the bytes of a source.
 #![tactic(auto)]
 
 mod act;

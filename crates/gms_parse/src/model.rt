@@ -13,7 +13,7 @@ use gms_grammar::Terminal;
 use gq_field::ExactField;
 
 impl<'s> Reader<'s> {
-    /// The equations that stand here.
+    /// Reads equations.
     fn equations(&self, tables: &mut Tables, at: usize) -> Read<Vec<Named>>
         requires { IsReady self.now }
         ensures { (limit : ℕ) → AnswersName limit (AreEquations self.now.source.now) (separated name) self.now at tables.old tables.new result }
@@ -29,8 +29,8 @@ impl<'s> Reader<'s> {
         Ok((equations, next))
     }
 
-    /// Whether a model has all equations, and those that are named, by the list between slashes that stands here. A model
-    /// without a list has none.
+    /// Reads a list between slashes: whether a model has all equations, and those that are named. A
+    /// model without a list has none.
     fn model_list(&self, tables: &mut Tables, at: usize) -> Read<(bool, Vec<Named>)>
         requires { IsReady self.now }
         ensures { (limit : ℕ) → AnswersNamed limit (IsModelList self.now.source.now) (opt (token Slash · the ModelList · token Slash)) self.now at tables.old tables.new result }
@@ -46,7 +46,7 @@ impl<'s> Reader<'s> {
         Ok(((false, equations), self.behind(Terminal::Slash, next)?))
     }
 
-    /// The model with its equations that stands here.
+    /// Reads a model with its equations.
     fn model(&self, tables: &mut Tables, at: usize) -> Read<ModelDecl>
         requires { IsReady self.now }
         ensures { (limit : ℕ) → AnswersName limit (IsModel self.now.source.now) (the ModelItem) self.now at tables.old tables.new result }
@@ -61,7 +61,7 @@ impl<'s> Reader<'s> {
         Ok((model, next))
     }
 
-    /// The declaration of models that stands here.
+    /// Reads a declaration of models.
     pub(crate) fn models<F: ExactField>(&self, tables: &mut Tables, at: usize) -> Read<Act<F>>
         requires { IsReady self.now }
         ensures { AnswersAct F.limit (IsAct F.value self.now.source.now model_act) (the ModelStatement) self.now at tables.old tables.new result }

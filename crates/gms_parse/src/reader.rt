@@ -1,5 +1,5 @@
-//! What reading a program needs: the source, its tokens, the tables of names and labels, and how many parentheses are open; and the
-//! steps over single tokens.
+//! What reading a program needs: the source, its tokens, the tables of names and labels, and how
+//! many parentheses are open; and the steps over single tokens.
 ghost use Rattle.std.specs.Prelude.{◌≡◌, ◌≤◌, ℕ, false, [], ◌∷◌, length, MatchResult, MatchOption};
 ghost use Rattle.std.specs.Str.{IsAscii};
 ghost use Rattle.gms_grammar.specs.Grammar.{opt};
@@ -25,17 +25,17 @@ use gq_field::ExactField;
 use gq_text::read_decimal;
 use std::alloc::Global;
 
-/// A part, and the place of the token behind it.
+/// A part, and the place of the token after it.
 pub(crate) type Read<T> = Result<(T, usize), SourceFaultOrMemory>;
 
-/// The names and the labels of a program, as far as it was read.
+/// The names and the labels of a program read so far.
 #[derive(Drop)]
 pub(crate) struct Tables {
     pub(crate) names: Labels,
     pub(crate) labels: Labels,
 }
 
-/// The tokens of a source, to be read at places in them.
+/// The tokens of a source, to be read at places.
 #[derive(Clone, Copy)]
 pub(crate) struct Reader<'s> {
     pub(crate) alloc: Global,
@@ -43,7 +43,7 @@ pub(crate) struct Reader<'s> {
     pub(crate) source: &'s [u8],
     /// Its tokens.
     pub(crate) tokens: &'s [Token],
-    /// Where the source ends.
+    /// The end of the source.
     pub(crate) end: Place,
     /// How many parentheses are open.
     pub(crate) unclosed: u32,
@@ -61,7 +61,7 @@ impl<'s> Reader<'s> {
         bytes_of(self.source, &token)
     }
 
-    /// The next token, where there is one.
+    /// The next token, if any.
     fn token(&self, at: usize) -> Option<Token>
         requires { IsReady self.now }
         ensures { MatchOption result (seen_from self.now at ≡ []) (λ t. IsAt self.now at t) }
@@ -69,7 +69,7 @@ impl<'s> Reader<'s> {
         self.tokens.get(at).copied()
     }
 
-    /// What the next token is, or the end.
+    /// The kind of the next token, or the end.
     pub(crate) fn next(&self, at: usize) -> Terminal
         requires { IsReady self.now }
         ensures { result ≡ kind_of (seen_from self.now at) }
@@ -80,7 +80,7 @@ impl<'s> Reader<'s> {
         }
     }
 
-    /// Where the next token stands, or the end.
+    /// The place of the next token, or the end.
     pub(crate) fn place(&self, at: usize) -> Place
         requires { IsReady self.now }
         ensures { result ≡ next_place self.now.source.now (seen_from self.now at) }
@@ -103,7 +103,7 @@ impl<'s> Reader<'s> {
         SourceFaultOrMemory::at(SourceError::Syntax(error), self.place(at))
     }
 
-    /// The next token, where it is of this kind, and the place behind it.
+    /// The next token, if it is of this kind, and the place after it.
     pub(crate) fn take_if(&self, kind: Terminal, at: usize) -> Option<(Token, usize)>
         requires { IsReady self.now }
         ensures { MatchOption result
@@ -117,7 +117,7 @@ impl<'s> Reader<'s> {
         None
     }
 
-    /// The next token, where it is of one of these kinds, and the place behind it.
+    /// The next token, if it is of one of these kinds, and the place after it.
     pub(crate) fn take_any_if(&self, kinds: &[Terminal], at: usize) -> Option<(Token, usize)>
         requires { IsReady self.now }
         ensures { MatchOption result
@@ -131,7 +131,7 @@ impl<'s> Reader<'s> {
         None
     }
 
-    /// The next token, which is to be of this kind, and the place behind it.
+    /// The next token, which must be of this kind, and the place after it.
     pub(crate) fn take(&self, kind: Terminal, at: usize) -> Read<Token>
         requires { IsReady self.now }
         ensures { MatchResult result
@@ -144,7 +144,7 @@ impl<'s> Reader<'s> {
         }
     }
 
-    /// The next token, which is to be of one of these kinds, and the place behind it.
+    /// The next token, which must be of one of these kinds, and the place after it.
     pub(crate) fn take_any(&self, kinds: &[Terminal], at: usize) -> Read<Token>
         requires { IsReady self.now }
         ensures { MatchResult result
@@ -157,7 +157,7 @@ impl<'s> Reader<'s> {
         }
     }
 
-    /// The place behind the next token, which is to be of this kind.
+    /// The place after the next token, which must be of this kind.
     pub(crate) fn behind(&self, kind: Terminal, at: usize) -> Result<usize, SourceFaultOrMemory>
         requires { IsReady self.now }
         ensures { MatchResult result
@@ -186,7 +186,7 @@ impl<'s> Reader<'s> {
         self.take_any_if(kinds, at).is_some()
     }
 
-    /// What reads inside the parenthesis that is to open here, and the place behind it.
+    /// The reader inside the parenthesis that must open here, and the place after it.
     pub(crate) fn enter(&self, at: usize) -> Read<Reader<'s>>
         requires { IsReady self.now }
         ensures { MatchResult result
@@ -204,7 +204,7 @@ impl<'s> Reader<'s> {
         Ok((inner, behind))
     }
 
-    /// The name that stands here.
+    /// Reads a name.
     pub(crate) fn name(&self, tables: &mut Tables, at: usize) -> Read<Named>
         requires { IsReady self.now }
         ensures { (limit : ℕ) → AnswersName limit (IsNamed self.now.source.now) name self.now at tables.old tables.new result }
@@ -215,7 +215,7 @@ impl<'s> Reader<'s> {
         Ok((Named { at: token.at, name }, behind))
     }
 
-    /// These bytes of a token, which are all of ASCII.
+    /// These bytes of a token, which are all ASCII.
     pub(crate) fn ascii(
         &self,
         token: Token,
@@ -233,7 +233,8 @@ impl<'s> Reader<'s> {
         }
     }
 
-    /// The number of a text in its table, where it is entered if it is new. The token is the one that the fault is told of.
+    /// The number of a text in its table, where it is entered if it is new. The token gives the
+    /// place of a fault.
     pub(crate) fn entered(
         &self,
         table: &mut Labels,
@@ -271,7 +272,7 @@ impl<'s> Reader<'s> {
         }
     }
 
-    /// Whether `-` stands here, and the place behind a sign, where there is one.
+    /// Whether the next token is `-`, and the place after a sign, if any.
     pub(crate) fn sign(&self, at: usize) -> (bool, usize)
         requires { IsReady self.now }
         ensures { (limit : ℕ) (tables : Tables) (walk : Walk) → Has self.now tables walk →
@@ -283,7 +284,7 @@ impl<'s> Reader<'s> {
         }
     }
 
-    /// The place behind the comma or the line end between two parts of a list.
+    /// The place after the comma or the line end between two parts of a list.
     pub(crate) fn behind_separator(&self, at: usize) -> Option<usize>
         requires { IsReady self.now }
         ensures { MatchOption result

@@ -10,18 +10,21 @@ use gms_lex::{MOST_BYTES, lex};
 use gq_field::ExactField;
 use std::alloc::Global;
 
-/// Where a source begins.
+/// The place where a source begins.
 const START: Place = Place { line: 1, column: 1 };
 
-/// The program of a source, with its names and labels numbered in the order of the source, or its first fault (GAMS User's Guide,
-/// "GAMS Programs").
+/// The program of a source, with its names and labels numbered in the order of the source, or its
+/// first fault (GAMS User's Guide, "GAMS Programs").
 ///
-/// A source of over 1,048,576 bytes is TooLong, at its start. Else its first lexical fault comes before all others. Else the fault is
-/// the first that its tokens have in their order: a token with which the tokens before it begin no program (`Expected`, or `NotInProfile` for a word of a
-/// statement or a value that the language leaves out), the end of the source where more has to come (`Expected`), a parenthesis that
-/// is opened where 100 are open (`Depth`), a number out of range (`Number`), the 65,537th name or label (`TooManyLabels`; of a range,
-/// at its upper label), a fault of a table at its word (`NoColumn`, `TwoColumns`, `RepeatedEntry`, `BadRow`), a table without
-/// headings, found where it ends and told at its name (`NoHeading`). `Memory` comes where a growth finds no memory.
+/// A source of over 1,048,576 bytes is TooLong, at its start. Else its first lexical fault comes
+/// before all others. Else the fault is the first that its tokens have in their order: a token that
+/// cannot occur here, though everything before it could begin a program (`Expected`, or
+/// `NotInProfile` for a word of a statement or a value that the language leaves out); the end of
+/// the source if more is required (`Expected`); a parenthesis that is opened while 100 are open
+/// (`Depth`); a number out of range (`Number`); the 65,537th name or label (`TooManyLabels`; of a
+/// range, at its upper label); a fault of a table at its word (`NoColumn`, `TwoColumns`,
+/// `RepeatedEntry`, `BadRow`); a table without headings, found where it ends and reported at its
+/// name (`NoHeading`). `Memory` means out of memory.
 pub fn parse<F: ExactField>(alloc: Global, source: &[u8]) -> Result<Program<F>, SourceFaultOrMemory>
     ensures { MatchResult result (λ program. IsProgram F.limit source.now F.value program) (λ e. IsRefusal F.limit source.now e) }
 {

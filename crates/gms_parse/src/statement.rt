@@ -46,7 +46,7 @@ const INNER: [Terminal; 7] = [
 ];
 
 impl<'s> Reader<'s> {
-    /// The declaration that stands here, or the statement of another keyword.
+    /// Reads a declaration, or the statement of another keyword.
     fn keyword_act<F: ExactField>(&self, tables: &mut Tables, at: usize) -> Read<Act<F>>
         requires ready { IsReady self.now }
         requires keyword { is_keyword (kind_of (seen_from self.now at)) ≡ true }
@@ -83,7 +83,7 @@ impl<'s> Reader<'s> {
         }
     }
 
-    /// The display, option, solve, abort or loop that stands here.
+    /// Reads a display, option, solve, abort or loop.
     #[cycle(loops)]
     fn act<F: ExactField>(&self, tables: &mut Tables, at: usize) -> Read<Act<F>>
         requires { IsReady self.now }
@@ -100,7 +100,8 @@ impl<'s> Reader<'s> {
         }
     }
 
-    /// The loop that stands here. Each loop opens a parenthesis, of which at most 100 are open: so loops nest no deeper.
+    /// Reads a loop. Each loop opens a parenthesis, of which at most 100 are open: so loops nest no
+    /// deeper.
     #[cycle(loops)]
     fn loop_statement<F: ExactField>(&self, tables: &mut Tables, at: usize) -> Read<Act<F>>
         requires { IsReady self.now }
@@ -115,7 +116,7 @@ impl<'s> Reader<'s> {
         Ok((Act::Loop { control, body }, behind))
     }
 
-    /// The statements of a loop that stand here, and the semicolon behind the last, where there is one.
+    /// Reads the statements of a loop, and the semicolon after the last, if any.
     #[cycle(loops)]
     fn loop_body<F: ExactField>(&self, tables: &mut Tables, at: usize) -> Read<Vec<Stmt<F>>>
         requires { IsReady self.now }
@@ -135,7 +136,7 @@ impl<'s> Reader<'s> {
         Ok((body, next))
     }
 
-    /// The statement of a loop that stands here.
+    /// Reads a statement of a loop.
     #[cycle(loops)]
     fn inner_statement<F: ExactField>(&self, tables: &mut Tables, at: usize) -> Read<Stmt<F>>
         requires { IsReady self.now }
@@ -149,7 +150,7 @@ impl<'s> Reader<'s> {
         Ok((statement, next))
     }
 
-    /// What the statement of a loop that stands here does.
+    /// Reads a statement of a loop: what it does.
     #[cycle(loops)]
     fn inner_act<F: ExactField>(&self, tables: &mut Tables, at: usize) -> Read<Act<F>>
         requires { IsReady self.now }
@@ -161,7 +162,7 @@ impl<'s> Reader<'s> {
         self.act(tables, at)
     }
 
-    /// Adds the statement that begins with a name and stands here, where there is one.
+    /// Reads the statement that begins with a name, if any, and adds it.
     fn named_statement<F: ExactField>(
         &self,
         tables: &mut Tables,
@@ -185,7 +186,8 @@ impl<'s> Reader<'s> {
         Ok(next)
     }
 
-    /// Adds the statements up to the next semicolon: perhaps one that begins with a name, then those that begin with a keyword.
+    /// Adds the statements up to the next semicolon: perhaps one that begins with a name, then
+    /// those that begin with a keyword.
     fn segment<F: ExactField>(
         &self,
         tables: &mut Tables,
@@ -210,7 +212,7 @@ impl<'s> Reader<'s> {
         Ok(next)
     }
 
-    /// The statements of the program that the tokens are.
+    /// The statements of the program of the tokens.
     pub(crate) fn program<F: ExactField>(
         &self,
         tables: &mut Tables,

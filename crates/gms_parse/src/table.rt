@@ -1,4 +1,4 @@
-//! Tables: a parameter whose data stand in lines with headings.
+//! Tables: a parameter whose data are in lines with headings.
 ghost use Rattle.std.specs.Prelude.{◌≡◌, ◌≤◌, ◌++◌, map, All, IfOk, OnOk, MatchResult, string_len};
 ghost use Rattle.gms_grammar.specs.Grammar.{the};
 ghost use Rattle.gms_grammar.specs.GamsGrammar.{TableStatement};
@@ -23,7 +23,7 @@ use gq_extended::Ext;
 use gq_field::ExactField;
 use std::alloc::{AllocError, Global};
 
-/// The fault of a table whose name stands at this place.
+/// The fault of a table whose name has this place.
 fn table_fault(fault: TableFaultOrMemory, name: Place) -> SourceFaultOrMemory
     ensures { result ≡ fault_of_table fault name }
 {
@@ -58,7 +58,7 @@ fn table_fault(fault: TableFaultOrMemory, name: Place) -> SourceFaultOrMemory
     }
 }
 
-/// Adds positions to others, with one of these labels at each.
+/// Appends positions to others, with one of these labels at each.
 fn add_positions(
     alloc: Global,
     parts: &mut Vec<Sequence<u32>>,
@@ -86,7 +86,7 @@ fn positions(
     Ok(Sequence::new(parts))
 }
 
-/// The item of data that an entry of a table is.
+/// The item of data of an entry of a table.
 fn item_of<F: ExactField>(alloc: Global, entry: &Entry<F>) -> Result<Item<F>, AllocError>
     ensures { IfOk result (λ item. item ≡ item_of_entry entry.now) }
 {
@@ -98,7 +98,7 @@ fn item_of<F: ExactField>(alloc: Global, entry: &Entry<F>) -> Result<Item<F>, Al
     })
 }
 
-/// The items of data that the entries of a table are.
+/// The items of data of the entries of a table.
 fn items_of<F: ExactField>(
     alloc: Global,
     entries: &[Entry<F>],
@@ -113,7 +113,7 @@ fn items_of<F: ExactField>(
 }
 
 impl<'s> Reader<'s> {
-    /// The lines of a table that stand here.
+    /// Reads the lines of a table.
     fn table_lines(&self, at: usize) -> Read<Vec<TableLine>>
         requires { IsReady self.now }
         ensures { MatchResult result (λ r. IsLines self.now at r.0.items r.1) (λ e. e ≡ Memory) }
@@ -131,7 +131,8 @@ impl<'s> Reader<'s> {
         Ok((lines, next))
     }
 
-    /// Whether a statement that was read up to here may end: a semicolon stands here, the end of the source, or a keyword.
+    /// Whether a statement that was read up to here may end: the next token is a semicolon, the end
+    /// of the source, or a keyword.
     fn ends_statement(&self, at: usize) -> bool
         requires { IsReady self.now }
         ensures { result ≡ ends_statement (kind_of (seen_from self.now at)) }
@@ -140,8 +141,8 @@ impl<'s> Reader<'s> {
             || self.is_any_next(&KEYWORDS, at)
     }
 
-    /// The items of a table, by its name's place and its lines, behind which this place stands. A table without lines is a fault of its
-    /// name, unless its statement goes on in another way.
+    /// The items of a table, by its name's place and its lines, which end at this place. A table
+    /// without lines is a fault of its name, unless its statement continues in another way.
     fn table_items<F: ExactField>(
         &self,
         labels: &mut Labels,
@@ -164,7 +165,7 @@ impl<'s> Reader<'s> {
         }
     }
 
-    /// The table that stands here.
+    /// Reads a table.
     pub(crate) fn table_statement<F: ExactField>(
         &self,
         tables: &mut Tables,

@@ -1,4 +1,4 @@
--- What stands first in a text stands first in it also where a line feed and more stand behind it.
+-- The first piece of a text is also its first piece with a line feed and more after it.
 use Rattle.std.proofs.Common.{◌≡◌, ℕ, suc, ◌+◌, ◌==◌, ◌&&◌, ◌||◌, ◌<◌, ◌≤◌, Bool, true, false, not, nat_lt, nat_le, if◌then◌else◌, List, [], ◌∷◌, length, take, drop, find, is_some, option_map, refl, sym, ap, ap₂, ◌∙◌, arith, inl, inr}
 use Rattle.std.proofs.lemmas.Bool.Decides.{nat_tests}
 use Rattle.std.proofs.lemmas.List.{take-append-le, drop-append-le, length-drop}
@@ -83,7 +83,8 @@ point_fed (b ∷ text) rest =
 sign_fed : (text rest : List ℕ) → sign_length (fed text rest) ≡ sign_length text
 sign_fed text rest = ap (λ v. if v then 1 else 0) (begins_fed is_sign text rest refl)
 
--- an exponent, by whether a text begins with `e`, how many bytes its sign takes, and what stands behind that
+-- the length of an exponent, by whether a text begins with `e`, how many bytes its sign takes, and
+-- what follows that
 abbrev exponent_by : Bool → ℕ → List ℕ → ℕ
 exponent_by marked sign digits = if marked && begins is_ascii_digit digits then 1 + sign + digit_count digits else 0
 
@@ -172,7 +173,7 @@ symbol_at_fed text rest =
 symbol_fed : (text rest : List ℕ) → symbol (fed text rest) ≡ symbol text
 symbol_fed text rest = ap symbol_of (symbol_at_fed text rest)
 
--- ---- what stands in quotation marks
+-- ---- what is in quotation marks
 
 abbrev quoted_by : Piece → ℕ → ℕ → List ℕ → Read
 quoted_by piece mark inner text = quoted_of piece (begins (λ b. b == mark) (drop inner text)) inner (prefix_len is_plain (take inner text))
@@ -252,7 +253,7 @@ ends_fed : (test : ℕ → Bool) (text rest : List ℕ) → 0 < length text → 
 ends_fed test [] rest some = absurd (omega arith)
 ends_fed test (b ∷ text) rest some = refl
 
--- what is behind the blanks and line ends of a text that has more
+-- what follows the blanks and line ends of a text that has more
 behind_space_fed : (test : ℕ → Bool) (text rest : List ℕ) → ends_in_return text ≡ false → space_length text < length text → ends_or_begins test (drop (space_length (fed text rest)) (fed text rest)) ≡ ends_or_begins test (drop (space_length text) text)
 behind_space_fed test text rest h some =
     let space : ℕ = space_length text in
@@ -306,7 +307,7 @@ plain_fed current b text rest h some =
     if_alike (is_blank b) _ _ _ _ (λ _. ap (lexeme Gap) (run_fed is_blank (b ∷ text) rest refl))
     (λ _. if_same _ _ _ _ _ _ (line_end_fed b text rest h) (λ _. ended_fed (line_ends current) b text rest h some) (λ _. token_at_fed current b text rest))
 
--- what stands first in a text that has more than blanks and line ends
+-- the first piece of a text that has more than blanks and line ends
 pub piece_fed : (current : Mode) (b : ℕ) (text rest : List ℕ) → ends_in_return (b ∷ text) ≡ false → space_length (b ∷ text) < length (b ∷ text) → piece_at current (b ∷ fed text rest) ≡ piece_at current (b ∷ text)
 piece_fed TableLines b text rest h some = table_fed b text rest h
 piece_fed current b text rest h some = plain_fed current b text rest h some

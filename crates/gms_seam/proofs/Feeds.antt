@@ -1,4 +1,4 @@
--- What a text begins with is the same where a line feed and more stand behind it.
+-- What a text begins with is the same with a line feed and more after it.
 use Rattle.std.proofs.Common.{◌≡◌, inl, inr, ℕ, zero, suc, ◌+◌, ◌==◌, ◌&&◌, ◌||◌, ◌<◌, Bool, true, false, not, cond, if◌then◌else◌, List, [], ◌∷◌, ◌++◌, length, take, drop, refl, sym, ap, ap₂, ◌∙◌, arith}
 use Rattle.std.proofs.lemmas.List.{take-append-le}
 use Rattle.std.specs.List.{prefix_len}
@@ -6,7 +6,7 @@ use Rattle.gms_lines.specs.Lines.{begins, is_blank, is_line_end, before, content
 use Rattle.gms_lines.proofs.LineLemmas.{true_or_false, before-le-length}
 use Rattle.gms_lex.specs.Pieces.{begins_other, space_length}
 
--- a text with a line feed and more behind it
+-- a text followed by a line feed and more
 abbrev pub fed : List ℕ → List ℕ → List ℕ
 fed text rest = text ++ 10 ∷ rest
 
@@ -62,7 +62,7 @@ space_fed (b ∷ text) rest h some = elim (true_or_false (begins_other (b ∷ te
       ap (λ v. if v then 0 else 1 + space_length (fed text rest)) (other_fed b text rest h ∙ f) ∙ ap (λ n. 1 + n) (space_fed text rest (no_return_behind b text h) more) ∙ sym here
 ]
 
--- blanks and line ends that nothing follows go on with the line feed
+-- blanks and line ends that nothing follows continue with the line feed
 pub space_all_fed : (text rest : List ℕ) → ends_in_return text ≡ false → space_length text ≡ length text → space_length (fed text rest) ≡ length text + space_length (10 ∷ rest)
 space_all_fed [] rest h all = omega arith
 space_all_fed (b ∷ text) rest h all = elim (true_or_false (begins_other (b ∷ text))) [

@@ -1,5 +1,5 @@
--- In which of some states a reader may stand behind what a grammar derives, as far as single tokens tell: claimed of each nonterminal, and
--- checked by computing.
+-- In which states a reader may be after what a grammar derives, as far as single tokens determine
+-- it: claimed of each nonterminal, and checked by computing.
 use Rattle.std.proofs.Common.{◌≡◌, ℕ, zero, suc, Bool, true, false, not, ◌&&◌, ◌||◌, if◌then◌else◌, List, [], ◌∷◌, ◌++◌, filter, refl, sym, ap, ◌∙◌, subst, append-nil, ◌⊎◌, inl, inr}
 use Rattle.std.specs.List.{list_any}
 use Rattle.gms_lines.proofs.LineLemmas.{true_or_false}
@@ -106,7 +106,8 @@ module _ {S : Type 0} (same : S → S → Bool) (same_is : (a b : S) → same a 
   grow_closed step zero states w = refl
   grow_closed step (suc n) states w = ap (grow step n) (merge_none states (step states) w) ∙ grow_closed step n states w
 
-  -- Over a grammar, with kinds of tokens that there are, and the states that a token of a kind may lead to from a state.
+  -- Over a grammar, with its kinds of tokens, and the states that a token of a kind may lead to
+  -- from a state.
   module _ {C N : Type 0} (production : N → Part C N) (kinds : List C) (every_kind : (c : C) → In c kinds) (next : S → C → List S) (entry exit : N → List S) where
     abbrev pub by_kind : List S → C → List S
     by_kind [] c = []
@@ -116,7 +117,7 @@ module _ {S : Type 0} (same : S → S → Bool) (same_is : (a b : S) → same a 
     by_test test [] states = []
     by_test test (c ∷ cs) states = if test c then merge (by_kind states c) (by_test test cs states) else by_test test cs states
 
-    -- the states behind a part that is begun in these
+    -- the states after a part that is begun in these states
     abbrev pub flow : Part C N → List S → List S
     flow (one test) states = by_test test kinds states
     flow (the n) states = exit n
@@ -125,7 +126,8 @@ module _ {S : Type 0} (same : S → S → Bool) (same_is : (a b : S) → same a 
     flow (opt p) states = merge states (flow p states)
     flow (many p) states = grow (flow p) 3 states
 
-    -- whether each nonterminal of a part that is begun in these states is begun in states that are claimed of it
+    -- whether each nonterminal of a part that is begun in these states is begun in states that are
+    -- claimed of it
     abbrev pub is_claimed : Part C N → List S → Bool
     is_claimed (one test) states = true
     is_claimed (the n) states = within states (entry n)

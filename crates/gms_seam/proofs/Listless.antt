@@ -1,4 +1,4 @@
--- Behind the tokens of a program no list of data is open.
+-- After the tokens of a program no list of data is open.
 use Rattle.std.proofs.Common.{◌≡◌, ℕ, zero, suc, Bool, true, false, List, [], ◌∷◌, length, get_or, ◌<◌, ltb, refl, sym, ap, ◌∙◌, subst, arith, ltb-true, inl, inr}
 use Rattle.gms_lex.specs.declared.mode.Mode.{Mode}
 use Rattle.gms_lex.specs.declared.mode.Mode.TheVariants as mode

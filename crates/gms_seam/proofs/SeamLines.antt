@@ -1,4 +1,4 @@
--- The lines of a source with a line feed and more behind it, and what of them is left for tokens.
+-- The lines of a source with a line feed and more after it, and what remains of them for tokens.
 use Rattle.std.proofs.Common.{◌≡◌, ℕ, suc, ◌+◌, ◌==◌, ◌&&◌, ◌||◌, ◌<◌, Bool, true, false, not, if◌then◌else◌, List, [], ◌∷◌, ◌++◌, length, take, map, get_or, take_while, refl, sym, ap, ap₂, ◌∙◌, subst, arith, append_assoc, append-nil, inl, inr}
 use Rattle.std.proofs.lemmas.Bool.Decides.{nat_tests}
 use Rattle.std.proofs.lemmas.List.{map-append}
@@ -24,7 +24,8 @@ abbrev no_ten : List ℕ → Bool
 no_ten [] = true
 no_ten (b ∷ text) = not (b == 10) && no_ten text
 
--- Lines, and the same with a line feed behind them: it ends the last line, or is a line of its own where that has an end.
+-- Lines, and the same lines with a line feed after them: it ends the last line, or is a separate
+-- line if that line has an end.
 data IsClosed : List (List ℕ) → List (List ℕ) → Type 0 where
   empty : IsClosed [] ((10 ∷ []) ∷ [])
   last : (b : ℕ) (line : List ℕ) → no_ten (b ∷ line) ≡ true → IsClosed ((b ∷ line) ∷ []) ((b ∷ (line ++ 10 ∷ [])) ∷ [])
@@ -70,7 +71,7 @@ lines_fed (b ∷ text) rest = elim (true_or_false (b == 10)) [
 
 -- ---- no fault of lines
 
--- no fault stands in lines of which the first begins at this byte
+-- lines of which the first begins at this byte have no fault
 abbrev AreGood : ℕ → Bool → List (List ℕ) → Type 0
 AreGood start inside ls = (fault : ByteFault) → StandsInLines start inside ls fault → ⊥
 
@@ -128,7 +129,7 @@ last_good start inside b line others h good = elim (true_or_false (ends_in_retur
 
 -- ---- comments
 
--- whether what stands behind lines is inside a block of comment
+-- whether the line after these lines is inside a block of comment
 abbrev inside_behind : Bool → List (List ℕ) → Bool
 inside_behind inside [] = inside
 inside_behind inside (line ∷ others) = inside_behind (inside_after inside line) others
@@ -150,14 +151,14 @@ still_closed start false line others good closing h = elim (true_or_false (list_
   | inr f ↦ absurd (good (record { at = start + 0; error = OpenText }) (inl (0, refl, (refl, h, f))))
 ]
 
--- behind the last line no block of comment is open
+-- after the last line no block of comment is open
 ends_outside : (start : ℕ) (inside : Bool) (ls : List (List ℕ)) → AreGood start inside ls → (inside ≡ true → list_any closes ls ≡ true) → inside_behind inside ls ≡ false
 ends_outside start true [] good closing = let e : false ≡ true = closing refl in cc
 ends_outside start false [] good closing = refl
 ends_outside start inside (line ∷ others) good closing =
     ends_outside (start + length line) (inside_after inside line) others (good_behind start inside line others good) (still_closed start inside line others good closing)
 
--- a text begins with these bytes, or not, whatever stands behind a line feed
+-- a text begins with these bytes, or not, whatever follows a line feed
 front_fed : (front text rest : List ℕ) → no_feed front ≡ true → str_eq_ignore_ascii_case (take (length front) (fed text rest)) front ≡ str_eq_ignore_ascii_case (take (length front) text) front
 front_fed [] text rest h = refl
 front_fed (c ∷ front) [] rest h = first_false (10 == to_ascii_lowercase c) (no_feed front) (str_eq_ignore_ascii_case (take (length front) rest) front) h
@@ -184,7 +185,7 @@ inside_closed start inside good (last b line h) = after_fed inside (b ∷ line) 
 inside_closed start inside good (ended b line {one = one} h k) =
     inside_closed (start + length (b ∷ line)) (inside_after inside (b ∷ line)) (good_behind start inside (b ∷ line) one good) k
 
--- ---- what is left for tokens
+-- ---- what remains for tokens
 
 read_fed : (class : Class) (text : List ℕ) → read_as class (fed text []) ≡ read_as class text ++ 10 ∷ []
 read_fed Comment text = map-append blanked text (10 ∷ [])
@@ -247,7 +248,7 @@ module _ (source : List ℕ) (good : AreGood 0 false (lines source)) where
   pub code_no_return : ends_in_return (code_text source) ≡ false
   code_no_return = code_return 0 false good (closed source)
 
-  -- the text for tokens, where a line feed and more stand behind the source
+  -- the text for tokens, if a line feed and more follow the source
   pub code_text_fed : (rest : List ℕ) → code_text (fed source rest) ≡ fed (code_text source) (code_text rest)
   code_text_fed rest =
       let outside : inside_behind false (lines (fed source [])) ≡ false = inside_closed 0 false good (closed source) ∙ ends_outside 0 false (lines source) good (λ e. let z : false ≡ true = e in cc) in

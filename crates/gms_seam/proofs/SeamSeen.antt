@@ -27,11 +27,11 @@ use Rattle.gms_seam.proofs.Listless.{no_list}
 abbrev see : List ℕ → Token → Terminal × Token
 see source token = (terminal_of token.kind (token_text source token), token)
 
--- a placed token has its bytes also where more stands behind the source
+-- a placed token has its bytes also if more follows the source
 pub text_same : (source more : List ℕ) (token : Token) → IsPlaced source token → token_text (source ++ more) token ≡ token_text source token
 text_same source more token p = on_line source more token.start (token.end - token.start) (let a = p.starts in let b = p.ends in omega arith)
 
--- placed tokens are the same to the grammar where more stands behind the source
+-- placed tokens are the same to the grammar if more follows the source
 pub own_seen : (source more : List ℕ) (own rest : List Token) → All (IsPlaced source) (own ++ rest) → seen (source ++ more) own ≡ seen source own
 own_seen source more [] rest all = refl
 own_seen source more (token ∷ own) rest all =
@@ -83,7 +83,7 @@ module _ (saved file : List ℕ) (tokens joint : List Token) (is : IsTokens save
   }
 
   module _ (tree : Tree (Terminal × Token)) (first : Derives saved tokens tree) where
-    -- behind a program no line end stands before the `;`
+    -- after a program no line end precedes the `;`
     none : front.seam.ends ≡ []
     none = front.seam.none (no_list saved tokens is tree first.is_tree (seen_own saved tokens (tokens_of saved 0 is.has.pieces) tree is.has.tokens_are first))
 

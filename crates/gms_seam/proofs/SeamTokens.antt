@@ -23,7 +23,8 @@ use Rattle.gms_seam.proofs.SeamLines.{code_no_return, code_text_seam}
 
 -- ---- pieces
 
--- The tokens of pieces begin with those of others, and a seam follows.
+-- The tokens of pieces begin with those of others, and the join follows: line ends, a `;` and the
+-- rest.
 record GoOn (Clean : Type 0) (place : ℕ) (rest source : List ℕ) (start : ℕ) (pieces longer : List Lexeme) : Type 0 where
   pub behind : List Token
   pub is : tokens_of source start longer ≡ tokens_of source start pieces ++ behind
@@ -45,14 +46,14 @@ go_on_more Clean place rest source start p pieces longer g =
       seam = g.seam;
     }
 
--- a piece that stands first, and the others
+-- the first piece, and the others
 first_piece : (current : Mode) (text behind : List ℕ) (p q : Lexeme) (longer : List Lexeme) (end : Mode) → p.length ≤ length text → q ≡ p → IsMadeOf (mode_after current q.piece (take q.length (fed text behind))) (drop q.length (fed text behind)) longer end [] → IsMadeOf (mode_after current p.piece (take p.length text)) (fed (drop p.length text) behind) longer end []
 first_piece current text behind p q longer end within same made =
     let here : IsMadeOf (mode_after current p.piece (take p.length (fed text behind))) (drop p.length (fed text behind)) longer end [] = subst (λ (r : Lexeme). IsMadeOf (mode_after current r.piece (take r.length (fed text behind))) (drop r.length (fed text behind)) longer end []) same made in
     subst (λ t. IsMadeOf (mode_after current p.piece t) (fed (drop p.length text) behind) longer end []) (take-append-le p.length text (10 ∷ behind) within)
     (subst (λ t. IsMadeOf (mode_after current p.piece (take p.length (fed text behind))) t longer end []) (drop-append-le p.length text (10 ∷ behind) within) here)
 
--- the pieces of a text, and those of the same text with a line feed, a `;` and more behind it
+-- the pieces of a text, and those of the same text with a line feed, a `;` and more after it
 go_on : (source : List ℕ) (start : ℕ) (current : Mode) (text rest : List ℕ) (pieces longer : List Lexeme) (last end : Mode) → ends_in_return text ≡ false → IsMadeOf current text pieces last [] → IsMadeOf current (fed text (59 ∷ rest)) longer end [] → GoOn (in_list_now last ≡ false) (start + length text + 1) rest source start pieces longer
 go_on source start current [] rest pieces longer last end h made more = go_on_all source start current [] rest pieces longer last end h refl made more
 go_on source start current (b ∷ text) rest [] longer last end h made more = absurd (let e : [] ≡ b ∷ text = made.1 in cc)
@@ -83,7 +84,7 @@ made_long current text (p ∷ pieces) last made =
 place_same : (source more : List ℕ) (n : ℕ) → n ≤ length source → place_of (source ++ more) n ≡ place_of source n
 place_same source more n le = ap (place_behind source_start) (take-append-le n source more le)
 
--- tokens stand in a source where they stand with more behind it
+-- tokens have the same places in a source with more after it
 tokens_same : (source more : List ℕ) (start : ℕ) (pieces : List Lexeme) → start + length_of pieces ≤ length source → tokens_of (source ++ more) start pieces ≡ tokens_of source start pieces
 tokens_same source more start [] le = refl
 tokens_same source more start (p ∷ pieces) le =
@@ -91,7 +92,8 @@ tokens_same source more start (p ∷ pieces) le =
 
 -- ---- sources
 
--- Tokens of a saved source, without its end; and those of a joint source, which are these, a seam, and the end.
+-- Tokens of a saved source, without its end; and those of a joint source, which are these, the
+-- join, and the end.
 pub record FrontTokens (Clean : Type 0) (saved file : List ℕ) (tokens all : List Token) : Type 0 where
   pub own : List Token
   pub tokens_are : tokens ≡ own ++ end_token saved ∷ []

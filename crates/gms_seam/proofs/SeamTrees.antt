@@ -1,4 +1,5 @@
--- The derivation of a program whose tokens begin with those of another and a `;`: it is that of the other, the `;`, and that of the rest.
+-- The derivation of a program whose tokens begin with those of another and a `;`: it is that of the
+-- other, the `;`, and that of the rest.
 use Rattle.std.proofs.Common.{◌≡◌, Bool, true, false, ◌||◌, ◌&&◌, List, [], ◌∷◌, ◌++◌, refl, sym, ap, ◌∙◌, subst, append_assoc, append-nil}
 use Rattle.gms_grammar.specs.declared.terminal.Terminal.{Terminal}
 use Rattle.gms_grammar.specs.declared.terminal.Terminal.TheVariants.{Semicolon}
@@ -18,15 +19,15 @@ use Rattle.gms_grammar.proofs.Total.{finds}
 use Rattle.gms_grammar.proofs.Decided.{gams_decided}
 use Rattle.gms_grammar.proofs.Language.{gams_unique, gams_complete, gams_read_tree, gams_read_stops, gams_stuck_stops, gams_stuck_none}
 
--- a `;` and what stands behind it
+-- a `;` and what follows it
 abbrev One : Part Terminal Nonterminal
 One = token Semicolon · the Segment
 
--- semicolons, and what stands behind each
+-- semicolons, and what follows each
 abbrev Others : Part Terminal Nonterminal
 Others = many One
 
--- One token decides how a program goes on.
+-- One token decides how a program continues.
 abbrev AfterSegment : Terminal → Bool
 AfterSegment = may_go_on look_ahead Others (look_ahead.follow Program)
 
@@ -43,17 +44,17 @@ decided_one : IsDecided look_ahead One AfterOne
 decided_one = decided_others.2
 
 module _ {D : Type 0} where
-  -- what is found behind semicolons
+  -- what is found after semicolons
   abbrev attached : Tree (Terminal × D) → Found (Terminal × D) → Found (Terminal × D)
   attached others (read tree rest) = read (attach others tree) rest
   attached others (stuck front rest) = stuck (yield others ++ front) rest
 
-  -- a semicolon begins what stands first
+  -- a semicolon begins what comes first
   follows_one : (extra : Terminal → Bool) (u : List (Terminal × D)) (semicolon : Terminal × D) (rest : List (Terminal × D)) → Starts {D = D} productions look_ahead gams_decided Others u → is Semicolon semicolon.0 ≡ true → Follows (λ c. may_begin look_ahead One c || extra c) (u ++ semicolon ∷ rest)
   follows_one extra [] semicolon rest s h = or_left (may_begin look_ahead One semicolon.0) (extra semicolon.0) (or_left (is Semicolon semicolon.0) (false && may_begin look_ahead (the Segment) semicolon.0) h)
   follows_one extra (x ∷ u) semicolon rest s h = or_left (may_begin look_ahead One x.0) (extra x.0) s
 
-  -- what stands behind the semicolons of a program is read behind these too
+  -- what follows the semicolons of a program is read after these too
   join : (others : Tree (Terminal × D)) → IsTree productions Others others → (semicolon : Terminal × D) (rest : List (Terminal × D)) → is Semicolon semicolon.0 ≡ true → (found : Found (Terminal × D)) → Reads productions look_ahead Others (semicolon ∷ rest) found → Reads productions look_ahead Others (yield others ++ semicolon ∷ rest) (attached others found)
   join none is_others semicolon rest h (read tree last) r = r
   join none is_others semicolon rest h (stuck front last) r = r
@@ -76,7 +77,7 @@ module _ {D : Type 0} where
           (subst (λ w. Reads productions look_ahead Others w (stuck (yield a ++ (yield b ++ front)) last)) (sym (append_assoc (yield a) (yield b) (semicolon ∷ rest))) (later_stuck leads_on first s))
   join _ is_others semicolon rest h found r = absurd is_others
 
-  -- The tree of a program is that of another, with this token and more behind it.
+  -- The tree of a program is that of another, followed by this token and more.
   pub record IsDivided (first whole : Tree (Terminal × D)) (semicolon : Terminal × D) : Type 0 where
     pub segment : Tree (Terminal × D)
     pub others : Tree (Terminal × D)
@@ -100,7 +101,7 @@ module _ {D : Type 0} where
     whole_stops : Stops productions (the Program) Whole Whole []
     whole_stops = gams_read_stops known Program Whole [] whole (gams_complete Program whole is_whole)
 
-    -- what is found behind the semicolon is all of the rest
+    -- the part found after the semicolon is all of the rest
     by_found : (found : Found (Terminal × D)) → Reads productions look_ahead Others (semicolon ∷ rest) found → Reads productions look_ahead Others (yield others ++ semicolon ∷ rest) (attached others found) → IsDivided (node (pair segment others)) whole semicolon
     by_found (stuck front last) r s =
         let reads : Reads productions look_ahead (the Program) Whole (stuck (yield segment ++ (yield others ++ front)) last) = subst (λ w. Reads productions look_ahead (the Program) w (stuck (yield segment ++ (yield others ++ front)) last)) regroup (entered_stuck (second_stuck read_segment s)) in
@@ -143,7 +144,8 @@ module _ {D : Type 0} where
         let f = finds D productions look_ahead gams_decided Others (look_ahead.follow Program) decided_others (semicolon ∷ rest) in
         by_found f.found f.reads (join others is_others semicolon rest is_semicolon f.found f.reads)
 
-  -- A program whose tokens are those of another program, a `;` and more has the tree of the other in front.
+  -- A program whose tokens are those of another program, a `;` and more has a tree that begins with
+  -- the other's.
   pub divided : (known : D) (first whole : Tree (Terminal × D)) (semicolon : Terminal × D) (rest : List (Terminal × D)) → IsTree productions (the Program) first → IsTree productions (the Program) whole → is Semicolon semicolon.0 ≡ true → yield whole ≡ yield first ++ semicolon ∷ rest → IsDivided first whole semicolon
   divided known (node (pair segment others)) whole semicolon rest is_first is_whole is_semicolon agrees =
       divided_pair known segment others whole semicolon rest is_first.0 is_first.1 is_whole is_semicolon agrees

@@ -1,4 +1,5 @@
--- Blanks and line ends before a `;`: no tokens but line ends stand there, and the `;` is a token in each mode.
+-- Blanks and line ends before a `;`: they contain no tokens but line ends, and the `;` is a token
+-- in each mode.
 use Rattle.std.proofs.Common.{◌≡◌, ℕ, zero, suc, ◌+◌, ◌==◌, ◌&&◌, ◌||◌, ◌<◌, ◌≤◌, Bool, true, false, not, nat_lt, nat_le, cond, if◌then◌else◌, List, [], ◌∷◌, ◌++◌, length, take, drop, All, Ok, Err, option_map, refl, sym, ap, ◌∙◌, subst, arith, inl, inr}
 use Rattle.std.proofs.lemmas.Bool.Decides.{nat_tests}
 use Rattle.std.proofs.lemmas.List.{drop-append-le, drop_all, length-drop}
@@ -40,7 +41,7 @@ use Rattle.gms_seam.proofs.FedTokens.{and_false, starts, starts_is, find_alike}
 
 -- ---- lists
 
--- the next token stands in a list
+-- the next token is in a list
 abbrev pub in_list_now : Mode → Bool
 in_list_now (Element shape depth stage) = true
 in_list_now (Value shape) = true
@@ -200,14 +201,14 @@ table_space b text h le =
     if_space (b ∷ text) (nat_lt 0 blanks && (nat_le bytes blanks || begins_statement (drop blanks (b ∷ text)))) _ _ (λ _. (tt, blank_le_space (b ∷ text)))
     (λ f. absurd (not_false_both bytes blanks (begins_statement (drop blanks (b ∷ text))) some within f)))
 
--- where a text begins with a blank or a line end, blanks or a line end stand first
+-- a text that begins with a blank or a line end has blanks or a line end as its first piece
 space_piece : (current : Mode) (b : ℕ) (text : List ℕ) → begins_other (b ∷ text) ≡ false → before is_line_end (b ∷ text) ≤ prefix_len is_blank (b ∷ text) → IsSpaceRead (b ∷ text) (piece_at current (b ∷ text))
 space_piece TableLines b text h le = table_space b text h le
 space_piece current b text h le = plain_space current b text h
 
 -- ---- texts of blanks and line ends
 
--- the first byte of such a text is none other, and those behind it are such a text
+-- the first byte of such a text is blank or a line end, and the bytes after it are such a text
 all_space : (b : ℕ) (text : List ℕ) → space_length (b ∷ text) ≡ length (b ∷ text) → (begins_other (b ∷ text) ≡ false) × (space_length text ≡ length text)
 all_space b text all = elim (true_or_false (begins_other (b ∷ text))) [
   | inl t ↦ let none : space_length (b ∷ text) ≡ 0 = ap (λ v. if v then 0 else 1 + space_length text) t in absurd (omega (arith, none, all))
@@ -270,7 +271,7 @@ blank_tokens source start current (b ∷ text) (p ∷ pieces) last all made =
     let others = blank_tokens source (start + p.length) (mode_after current p.piece (take p.length (b ∷ text))) (drop p.length (b ∷ text)) pieces last (space_drop p.length (b ∷ text) all) made.1 in
     ap (λ ts. ts ++ tokens_of source (start + p.length) pieces) (no_token (place_of source start) p.piece start (start + p.length) is.0 (no_break current b text p all made.0)) ∙ others
 
--- and they keep whether a list stands there
+-- and they keep whether the next token is in a list
 keeps_list : (current : Mode) (piece : Piece) (text : List ℕ) → IsSpacePiece piece → (piece ≡ Token Break → ⊥) → in_list_now (mode_after current piece text) ≡ in_list_now current
 keeps_list current Gap text h k = gap_stays current
 keeps_list current LineEnd text h k = line_stays current
@@ -288,11 +289,11 @@ blank_list current (b ∷ text) (p ∷ pieces) last all made =
 
 -- ---- before a semicolon
 
--- a token begins at this byte, or behind it
+-- a token begins at this byte, or after it
 abbrev pub StartsFrom : ℕ → CodeToken → Type 0
 StartsFrom least token = least ≤ token.start
 
--- the token of a piece, where there is one, begins where the piece does
+-- the token of a piece, if any, begins where the piece does
 one_from : (least start end : ℕ) (at : Place) (piece : Piece) → least ≤ start → All (StartsFrom least) (token_of at piece start end)
 one_from least start end at Gap le = All-nil (StartsFrom least)
 one_from least start end at LineEnd le = All-nil (StartsFrom least)
@@ -306,7 +307,7 @@ all_from source least start (p ∷ pieces) le =
     All-append (StartsFrom least) (token_of (place_of source start) p.piece start (start + p.length)) (tokens_of source (start + p.length) pieces)
     (one_from least start (start + p.length) (place_of source start) p.piece le) (all_from source least (start + p.length) pieces (omega (arith, le)))
 
--- outside lists a line feed is no token, so those behind it begin behind it
+-- outside lists a line feed is no token, so the tokens after it begin after it
 behind_feed : (source : List ℕ) (start : ℕ) (text : List ℕ) (pieces : List Lexeme) (last : Mode) → IsMadeOf Code (10 ∷ text) pieces last [] → All (StartsFrom (start + 1)) (tokens_of source start pieces)
 behind_feed source start text [] last made = absurd (let e : [] ≡ 10 ∷ text = made.1 in cc)
 behind_feed source start text (p ∷ pieces) last made =
@@ -316,8 +317,8 @@ behind_feed source start text (p ∷ pieces) last made =
     subst (λ ts. All (StartsFrom (start + 1)) (ts ++ tokens_of source (start + p.length) pieces)) (sym (no_token (place_of source start) p.piece start (start + p.length) is.0 quiet))
     (all_from source (start + 1) (start + p.length) pieces (omega (arith, w.0)))
 
--- Line ends that are tokens, a `;` at this byte, and others behind it; where this is so there are no such line ends. Where a line feed is the
--- first of the rest behind the `;`, the others begin behind it.
+-- Line ends that are tokens, a `;` at this byte, and others after it; if `Clean` holds there are no
+-- such line ends. If a line feed is the first byte after the `;`, the others begin after it.
 pub record Seam (Clean : Type 0) (place : ℕ) (rest : List ℕ) (tokens : List CodeToken) : Type 0 where
   pub ends : List CodeToken
   pub semicolon : CodeToken
@@ -364,7 +365,7 @@ seam_more Clean place rest at (Token Break) start end tokens h k s =
     }
 seam_more Clean place rest at piece start end tokens h k s = absurd h
 
--- what stands first in blanks and line ends, a line feed and a `;`
+-- the first piece of blanks and line ends, a line feed and a `;`
 seam_piece : (current : Mode) (text rest : List ℕ) → ends_in_return text ≡ false → space_length text ≡ length text → IsSpaceRead (fed text (59 ∷ rest)) (piece_at current (fed text (59 ∷ rest)))
 seam_piece current [] rest h all = space_piece current 10 (59 ∷ rest) refl (omega arith)
 seam_piece current (b ∷ text) rest h all =

@@ -1,4 +1,5 @@
--- Where in a declaration the next token stands, as far as lists of data go: what the mode is behind tokens of some kinds.
+-- The position of the next token in a declaration, as far as lists of data go: the mode after
+-- tokens of some kinds.
 use Rattle.std.proofs.Common.{◌≡◌, ℕ, ◌==◌, Bool, true, false, nat_lt, if◌then◌else◌, List, [], ◌∷◌, length, Option, Some, None, option_map, refl, sym, ap, ◌∙◌, subst, ◌⊎◌, inl, inr}
 use Rattle.gms_lines.specs.ControlWords.{is_among}
 use Rattle.gms_lexemes.specs.declared.kind.Sym.{Sym}
@@ -22,7 +23,8 @@ use Rattle.gms_seam.proofs.Flows.{has, within, within_has}
 
 -- ---- places and sorts
 
--- Outside declarations and in tables; where an item is due; behind its name; in its domain; behind that; behind its text or list; in its list.
+-- Outside declarations and in tables; where an item is expected; after its name; in its domain;
+-- after that; after its text or list; in its list.
 pub data Spot : Type 0 where
   out item named domain bare rest list : Spot
 
@@ -288,7 +290,7 @@ begun_leads spot current (Some (keyword.Declarer s)) h l w = h
 begun_leads spot current (Some keyword.Table) h l w = l
 begun_leads spot current (Some keyword.Other) h l w = l
 
--- which tokens do not stand in a mode
+-- which tokens do not occur in a mode
 abbrev pub CanStand : Mode → Kind → Type 0
 CanStand (mode.Item s) kind.Label = ⊥
 CanStand (mode.Named s) kind.Word = ⊥
@@ -382,7 +384,8 @@ line_leads (mode.Element s depth stage) text = refl
 line_leads mode.Code text = refl
 line_leads _ text = refl
 
--- a token leads from the place of a mode to that of the mode behind it; `text` is the token in the code, and `bytes` in the source
+-- a token leads from the position of a mode to that of the mode after it; `text` is the token in
+-- the code, and `bytes` in the source
 pub token_leads : (m : Mode) (k : Kind) (text bytes : List ℕ) → CanStand m k → (k ≡ kind.Word → text ≡ bytes) → Leads (spot_of m) (sort_of (terminal_of k bytes)) (after_token m k text)
 token_leads m kind.Word text bytes can same =
     subst (λ (s : Sort). Leads (spot_of m) s (after_word m text)) (sym (ap (λ t. sort_of (terminal_of_word t)) (sym (same refl)) ∙ word_sort text)) (word_leads m text (keyword_of text) refl can)
@@ -396,13 +399,13 @@ token_leads m kind.End text bytes can same = number_leads m text
 
 -- ---- places that stand for modes
 
--- behind a name or a domain a descriptive text may have been passed
+-- after a name or a domain a descriptive text may have been passed
 abbrev IsMild : Spot → Type 0
 IsMild named = Unit {0}
 IsMild bare = Unit {0}
 IsMild _ = ⊥
 
--- a place stands for a mode: it is its place, or the mode is that behind a descriptive text
+-- a position means a mode: it is its position, or the mode is that after a descriptive text
 abbrev pub StandsFor : Spot → Mode → Type 0
 StandsFor spot m = (spot ≡ spot_of m) ⊎ (IsMild spot × (spot_of m ≡ rest))
 

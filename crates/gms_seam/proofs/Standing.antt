@@ -32,7 +32,7 @@ use Rattle.gms_expressions.specs.Outcomes.{seen}
 use Rattle.gms_seam.proofs.Flows.{has}
 use Rattle.gms_seam.proofs.Spots.{Spot, same, same_is, spot_of, sort_of, step, CanStand, token_leads, StandsFor, stands_leads, stands_gap, stands_line, stands_remark}
 
--- ---- which tokens stand in a mode
+-- ---- which tokens occur in a mode
 
 -- what is read is no such piece
 abbrev IsFree : (Piece → Bool) → Read → Type 0
@@ -103,7 +103,7 @@ can_stand (mode.Bare s) _ text n e = tt
 can_stand mode.Code k text n e = tt
 can_stand _ k text n e = tt
 
--- ---- places behind tokens
+-- ---- positions after tokens
 
 -- tokens as the grammar sees them lead from a place to another
 abbrev pub LeadTo : Spot → List (Terminal × Token) → Spot → Type 0
@@ -114,7 +114,7 @@ LeadTo s (token ∷ tokens) last = (t : Spot) × (has same same_is (step s (sort
 abbrev LeadOn : List ℕ → Mode → Spot → List Token → Type 0
 LeadOn source last spot tokens = (t : Spot) × LeadTo spot (seen source tokens) t × StandsFor t last
 
--- a word of the code stands so in the source
+-- a word of the code is the same in the source
 word_same : (source : List ℕ) (start : ℕ) (k : Kind) (n : ℕ) → start + n ≤ length source → IsNamed (piece.Token k) n (drop start (code_text source)) → k ≡ kind.Word → take n (drop start (code_text source)) ≡ take (start + n - start) (drop start source)
 word_same source start kind.Word n le named e =
     solid_same source start n le named.0 ∙ ap (λ m. take m (drop start source)) (let d : n ≡ start + n - start = omega arith in d)

@@ -1,5 +1,5 @@
--- Joint sources: a saved source, and a file that goes on from it; what their tokens and their derivation have in front (GAMS User's Guide,
--- "Save and Restart", "GAMS Programs").
+-- Joint sources: a saved source, and a file that continues it; what their tokens and their
+-- derivation begin with (GAMS User's Guide, "Save and Restart", "GAMS Programs").
 use Rattle.std.specs.Prelude.{◌≡◌, ℕ, ◌+◌, ◌≤◌, ◌==◌, List, [], ◌∷◌, ◌++◌, length, filter, All}
 use Rattle.gms_lexemes.specs.declared.kind.Kind.TheVariants.{Break, Symbol}
 use Rattle.gms_lexemes.specs.declared.kind.Sym.TheVariants.{Semicolon}
@@ -19,8 +19,8 @@ joint_source saved file = saved ++ (10 ∷ 59 ∷ 10 ∷ file)
 abbrev pub first_line : List ℕ → ℕ
 first_line saved = length (filter (λ byte. byte == 10) saved) + 3
 
--- The tokens of a joint source are those of the saved source without its end, line ends that are tokens, a `;`, and others, which begin where
--- the file does or below.
+-- The tokens of a joint source are those of the saved source without its end, line ends that are
+-- tokens, a `;`, and others, which begin where the file does or below.
 pub record HaveFront (saved : List ℕ) (tokens joint : List Token) : Type 0 where
   pub own : List Token
   pub tokens_are : tokens ≡ own ++ end_token saved ∷ []
@@ -38,13 +38,13 @@ pub record Derives (source : List ℕ) (tokens : List Token) (tree : Tree (Termi
   pub is_tree : IsTree productions (the Program) tree
   pub yields : seen source tokens ≡ yield tree ++ (End, end) ∷ []
 
--- semicolons with what stands behind each, and more of them
+-- semicolons with what follows each, and more of them
 abbrev pub attach : {T : Type 0} → Tree T → Tree T → Tree T
 attach (more first others) tree = more first (attach others tree)
 attach _ tree = tree
 
--- The derivation of a program begins with that of another: behind the same segments, of which each but the first stands behind a `;`, come a
--- `;` and more of them.
+-- The derivation of a program begins with that of another: the same segments, of which each except
+-- the first follows a `;`, are followed by a `;` and more of them.
 pub record BeginsWith (whole first : Tree (Terminal × Token)) : Type 0 where
   pub segment : Tree (Terminal × Token)
   pub others : Tree (Terminal × Token)

@@ -1,4 +1,5 @@
-//! Floor 2, source to tree. Joint sources, of a saved source and a file that goes on from it: what their tokens and their derivation begin with.
+//! Layer 2, source to tree. Joint sources, of a saved source and a file that continues it: what
+//! their tokens and their derivation begin with.
 #![tactic(auto)]
 
 mod laws;

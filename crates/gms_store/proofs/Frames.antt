@@ -35,7 +35,8 @@ fitted-positions s t c = by (length t == length s.domain)
     by true = refl
     by false = refl
 
--- what a reading says of a symbol is what it says of the symbol with a new content that it says the same of, where that fits
+-- a reading of a symbol does not change with a new content that reads the same, whether that fits
+-- or not
 fitted-read : {Y : Type 0} (read : Content → Y) (s : Symbol) (t : List ℕ) (c : Content) → read c ≡ read s.content → read (if_fits s t c).content ≡ read s.content
 fitted-read read s t c same = fits-either (λ new. read new ≡ read s.content) s t c refl same
 

@@ -1,4 +1,5 @@
--- Laws of finite maps from tuples: how they stand to lists of entries, to an ordered map, and to the set of their tuples.
+-- Laws of finite maps from tuples: how they relate to lists of entries, to an ordered map, and to
+-- the set of their tuples.
 use Rattle.std.proofs.Common.{◌≡◌, ℕ, Bool, true, false, not, ◌||◌, ◌&&◌, List, [], ◌∷◌, refl, sym, ap, length, arith, ◌∙◌, cond, Option, Some, None, is_some}
 use Rattle.std.specs.Ordering.{eq_by_cmp}
 use Rattle.std.specs.Map.{lookup, keys_of}
@@ -73,7 +74,8 @@ has-keys (e ∷ es) q = ap (λ b. b || has (keys_of es) q) (same-tie e.0 q ∙ t
 abbrev pub made : {X : Type 0} → List (List ℕ × X) → Entries X
 made es = finite.from_entries es
 
--- What a write to an ordered map leaves: this value, or none, at this tuple, and at each other tuple what was there.
+-- The effect of a write to an ordered map: this value, or none, at this tuple, and no change at
+-- each other tuple.
 abbrev pub Writes : {X : Type 0} → List (List ℕ × X) → List (List ℕ × X) → List ℕ → Option X → Type 0
 Writes es es' t w = (q : List ℕ) → lookup (is_at (tuple_cmp q)) es' ≡ cond (is_at (tuple_cmp t) q) w (lookup (is_at (tuple_cmp q)) es)
 

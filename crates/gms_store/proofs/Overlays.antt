@@ -23,7 +23,7 @@ pub record IsRest (i : ℕ) (others now : List Symbol) : Type 0 where
   pub count : length now ≡ length others
   pub rest : (j : ℕ) (s : Symbol) → i ≤ j → get_or now j s ≡ get_or others j s
 
--- at first all of them are; those behind the first still are where another is put in its place, and in any case
+-- at first all of them are; those after the first remain when another replaces it, and in any case
 pub rest-first : (others : List Symbol) → IsRest 0 others others
 rest-first others = record { count = refl; rest = λ j s from. refl }
 
@@ -52,7 +52,7 @@ overlaid-past xs others i now next past within so_far same =
     let o = get_or others i no_symbol in
     overlaid-more xs others i o now next within (get_or_default others i no_symbol o within) so_far (same ∙ sym (set_past now i (chosen (get_or now i o) o) past))
 
--- before the first, and behind the last
+-- before the first, and after the last
 pub overlaid-first : (xs others : List Symbol) → xs ≡ overlaid_symbols xs (take 0 others)
 overlaid-first xs others = sym (overlaid-none xs)
 

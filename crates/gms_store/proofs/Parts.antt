@@ -96,9 +96,10 @@ module _ {X : Type 0} where
   by_write : (o : Option X) (m n : Entries X) (t : List ℕ) → ((q : List ℕ) → finite.get n q ≡ cond (eq_by_cmp tuple_cmp q t) o (finite.get m q)) → n ≡ written o m t
   by_write o m n t writes = same_map n (written o m t) (λ q. writes q ∙ sym (get-written o m t q))
 
-  -- ---- writes behind the tree
+  -- ---- writes to the appended part
 
-  -- what stands behind finds so much where a tuple has something else
+  -- a write to the appended part is a write to the map, if its search finds the new value at the
+  -- tuple and is unchanged elsewhere
   behind_write : (behind new : List (List ℕ × Option X)) (tree : List (List ℕ × X)) (t : List ℕ) (o : Option X) → ((q : List ℕ) → finite.find tuple_cmp q new ≡ cond (eq_by_cmp tuple_cmp q t) (Some o) (finite.find tuple_cmp q behind)) → in_two_parts new tree ≡ written o (in_two_parts behind tree) t
   behind_write behind new tree t o finds =
       by_write o (in_two_parts behind tree) (in_two_parts new tree) t (λ q. get-parts new tree q ∙ ap (λ f. unwrap_or f (lookup (is_at (tuple_cmp q)) tree)) (finds q) ∙ sym (found_first (eq_by_cmp tuple_cmp q t) o (finite.find tuple_cmp q behind) (lookup (is_at (tuple_cmp q)) tree)) ∙ ap (cond (eq_by_cmp tuple_cmp q t) o) (sym (get-parts behind tree q)))
@@ -109,7 +110,7 @@ module _ {X : Type 0} where
       ap (cond (eq_by_cmp tuple_cmp q e.0) (Some e.1)) (find-pushed behind t o q (rest-ordered e.0 (keys_of behind ++ t ∷ []) ordered))
       ∙ turned (eq_by_cmp tuple_cmp q e.0) (eq_by_cmp tuple_cmp q t) (Some e.1) (Some o) (finite.find tuple_cmp q behind) (apart q e.0 t (last-of (λ y. tuple_cmp e.0 y ≡ Less) (keys_of behind) t (first-before e.0 (keys_of behind ++ t ∷ []) ordered)))
 
-  -- a tuple behind all others, with a value or none
+  -- a tuple appended after all others, with a value or none
   pub pushed : (behind : List (List ℕ × Option X)) (tree : List (List ℕ × X)) (t : List ℕ) (o : Option X) → IsOrdered (keys_of behind ++ t ∷ []) → in_two_parts (behind ++ (t, o) ∷ []) tree ≡ written o (in_two_parts behind tree) t
   pushed behind tree t o ordered = behind_write behind (behind ++ (t, o) ∷ []) tree t o (λ q. find-pushed behind t o q ordered)
 
@@ -138,7 +139,7 @@ module _ {X : Type 0} where
       ap (cond (eq_by_cmp tuple_cmp q e.0) (Some e.1)) (find-replaced behind place t o q (rest-ordered e.0 (keys_of behind) ordered) (omega (arith, within)) at)
       ∙ turned (eq_by_cmp tuple_cmp q e.0) (eq_by_cmp tuple_cmp q t) (Some e.1) (Some o) (finite.find tuple_cmp q behind) (apart q e.0 t (subst (λ k. tuple_cmp e.0 k ≡ Less) (at e) (first-below e behind place e ordered (omega (arith, within)))))
 
-  -- a tuple that stands behind, with another value or none
+  -- a tuple of the appended part, with another value or none
   pub replaced : (behind : List (List ℕ × Option X)) (tree : List (List ℕ × X)) (place : ℕ) (t : List ℕ) (o : Option X) → IsOrdered (keys_of behind) → StandsAt behind place t → in_two_parts (set behind place (t, o)) tree ≡ written o (in_two_parts behind tree) t
   replaced behind tree place t o ordered at = behind_write behind (set behind place (t, o)) tree t o (λ q. find-replaced behind place t o q ordered at.0 at.1)
 
@@ -158,11 +159,11 @@ module _ {X : Type 0} where
       let there : StandsAt behind place t = subst (λ b. StandsAt b place t) read-is at in
       subst IsOrdered (sym (ap keys_of (puts t there) ∙ keys-replaced behind place t o there.1 there.0)) ordered
 
-  -- the tuple that is read at a place stands there
+  -- the tuple that is read at a place is at that place
   pub stands_read : (behind : List (List ℕ × Option X)) (place : ℕ) (t : List ℕ) (e : List ℕ × Option X) → place < length behind → e ≡ get_or behind place e → e.0 ≡ t → StandsAt behind place t
   stands_read behind place t e within is same = (within, λ d. ap (λ (e : List ℕ × Option X). e.0) (get_or_default behind place d e within ∙ sym is) ∙ same)
 
-  -- what is found of a tuple that stands at a place
+  -- the search for a tuple finds the value at its place
   find-at : (behind : List (List ℕ × Option X)) (place : ℕ) (t : List ℕ) (d : List ℕ × Option X) → IsOrdered (keys_of behind) → place < length behind → ((d : List ℕ × Option X) → (get_or behind place d).0 ≡ t) → finite.find tuple_cmp t behind ≡ Some (get_or behind place d).1
   find-at [] place t d ordered within at = absurd (omega (arith, within))
   find-at (e ∷ behind) zero t d ordered within at =
@@ -171,14 +172,14 @@ module _ {X : Type 0} where
       let less : tuple_cmp e.0 t ≡ Less = subst (λ k. tuple_cmp e.0 k ≡ Less) (at e) (first-below e behind place e ordered (omega (arith, within))) in
       ap (λ b. cond b (Some e.1) (finite.find tuple_cmp t behind)) (tie-sym t e.0 ∙ ap is_eq less) ∙ find-at behind place t d (rest-ordered e.0 (keys_of behind) ordered) (omega (arith, within)) at
 
-  -- what is there of a tuple that stands behind
+  -- the value of a tuple of the appended part
   pub get-behind : (behind : List (List ℕ × Option X)) (tree : List (List ℕ × X)) (place : ℕ) (t : List ℕ) (e : List ℕ × Option X) → IsOrdered (keys_of behind) → StandsAt behind place t → e ≡ get_or behind place e → e.1 ≡ finite.get (in_two_parts behind tree) t
   get-behind behind tree place t e ordered at is =
       ap (λ (e : List ℕ × Option X). e.1) is ∙ sym (get-parts behind tree t ∙ ap (λ f. unwrap_or f (lookup (is_at (tuple_cmp t)) tree)) (find-at behind place t e ordered at.0 at.1))
 
   -- ---- writes to the tree
 
-  -- what is there of a tuple that does not stand behind
+  -- the value of a tuple that is not in the appended part
   pub get-tree : (behind : List (List ℕ × Option X)) (tree : List (List ℕ × X)) (t : List ℕ) → finite.find tuple_cmp t behind ≡ None → lookup (is_at (tuple_cmp t)) tree ≡ finite.get (in_two_parts behind tree) t
   get-tree behind tree t none = sym (get-parts behind tree t ∙ ap (λ f. unwrap_or f (lookup (is_at (tuple_cmp t)) tree)) none)
 
@@ -190,7 +191,7 @@ module _ {X : Type 0} where
       by q true tie = ap (λ f. unwrap_or f o) (ap (λ s. finite.find tuple_cmp s behind) (tied q t tie) ∙ none)
       by q false other = refl
 
-  -- what stands behind a tree that has nothing
+  -- the appended part after an empty tree
   pub same_behind : (behind copy : List (List ℕ × Option X)) (tree new : List (List ℕ × X)) → copy ≡ behind → length tree ≡ 0 → new ≡ [] → in_two_parts copy new ≡ in_two_parts behind tree
   same_behind behind copy [] new same none empty = ap (λ b. in_two_parts b new) same ∙ ap (in_two_parts behind) empty
   same_behind behind copy (e ∷ tree) new same none empty = absurd (omega (arith, none))
@@ -209,7 +210,7 @@ module _ {X : Type 0} where
   find-none (e ∷ behind) t none =
       ap (λ b. cond b (Some e.1) (finite.find tuple_cmp t behind)) (none 0 e (omega arith)) ∙ find-none behind t (λ k d h. none (suc k) d (omega (arith, h)))
 
-  -- what a search did not find does not stand behind
+  -- a tuple that the search does not find is not in the appended part
   pub find-missing : (behind : List (List ℕ × Option X)) (t : List ℕ) (i : ℕ) → IsOrdered (keys_of behind) → IsBinarySearchResult (λ e. tuple_cmp e.0 t) behind (Err i) → finite.find tuple_cmp t behind ≡ None
   find-missing behind t i ordered searched =
       let sides = searched (rises behind t ordered) in
@@ -218,7 +219,7 @@ module _ {X : Type 0} where
         | inr from ↦ tie-sym t (get_or behind k d).0 ∙ ap is_eq (sides.1 k d from h)
       ])
 
-  -- a tuple behind the last of entries in order comes last
+  -- a tuple that comes after the last of entries in order comes last
   pub ordered-last : (behind : List (List ℕ × Option X)) (t : List ℕ) (e : List ℕ × Option X) → IsOrdered (keys_of behind) → e ≡ get_or behind (length behind - 1) e → tuple_cmp e.0 t ≡ Less → IsOrdered (keys_of behind ++ t ∷ [])
   ordered-last behind t e ordered last less =
       ordered-join (keys_of behind) t [] ordered all ordered-nil (All-nil (λ y. tuple_cmp t y ≡ Less))

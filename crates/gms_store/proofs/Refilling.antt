@@ -20,7 +20,7 @@ module _ {X : Type 0} (m : Entries X) where
   abbrev pub put_from : Entries X → List ℕ → Entries X
   put_from made t = put_where (finite.get m t) made t
 
-  -- the same at tuples one after another
+  -- values put at tuples in order
   abbrev pub put_all_from : Entries X → List (List ℕ) → Entries X
   put_all_from made tuples = fold put_from made tuples
 

@@ -36,7 +36,7 @@ use Rattle.gms_tuple.proofs.Ordered.{tuple_cmp-Equal, same_tuple-Decides}
 use Rattle.gms_tuple.proofs.Members.{has-inserted, has-removed}
 use Rattle.gms_store.proofs.Maps.{same_map, keys-from_entries, made, no_entries, has-keys, find-lookup}
 
--- an entry seen as another
+-- an entry with its value mapped
 abbrev seen_as : {X Y : Type 0} → (X → Y) → List ℕ × X → List ℕ × Y
 seen_as f e = (e.0, f e.1)
 

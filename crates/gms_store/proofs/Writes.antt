@@ -41,7 +41,7 @@ read-set_other (x ∷ xs) (suc i) (suc j) v apart = read-set_other xs i j v (λ 
 -- ---- a state with another symbol at a name
 
 module _ (state : State) (name : ℕ) (new : Symbol) where
-  -- what stands at a number is as before, or it is the new symbol at the changed name
+  -- the symbol at a number is as before, or it is the new symbol at the changed name
   at-after : (n : ℕ) → (symbol_at (with_symbol state name new) n ≡ symbol_at state n) ⊎ ((n ≡ base_of state name) × (symbol_at (with_symbol state name new) n ≡ new))
   at-after n = by (base_of state name == n) refl
     where
@@ -80,7 +80,8 @@ module _ (state : State) (name : ℕ) (new : Symbol) where
       | inr changed ↦ ap (λ (s : Symbol). read s.content) changed.1 ∙ same changed.0 ∙ ap (λ n. read (symbol_at state n).content) (sym changed.0)
     ]
 
--- what holds of a content and of a new one holds where the new one stands if it fits
+-- a property of a content and of a new one is a property of the content after the new one is put if
+-- it fits
 pub fits-either : (P : Content → Type 0) (s : Symbol) (t : List ℕ) (new : Content) → P s.content → P new → P (if_fits s t new).content
 fits-either P s t new old changed = by (length t == length s.domain)
   where

@@ -1,4 +1,4 @@
--- How states are told apart: each is coded by its parts.
+-- Codes that tell states apart: each is coded by its parts.
 use Rattle.std.specs.Prelude.{◌≡◌, ◌⊎◌, ℕ, zero, suc, ℤ, Bool, List, Option, refl}
 use mathlib.Core.Logic.{inl, inr}
 use mathlib.Core.Path.{ap}
@@ -13,14 +13,14 @@ use Rattle.gms_store.specs.declared.kind.VariableType.TheVariants.{Free, Positiv
 use Rattle.gms_store.specs.declared.settings.Settings.{Settings}
 use Rattle.gms_store.specs.State.{Entries, Attributes, Content, undeclared, alias_of, set_of, parameter_of, variable_of, equation_of, model_with, Symbol, State}
 
--- a number is known by its parts
+-- its numerator and denominator determine a number
 abbrev pub number_code : Coded Number
 number_code = coded_via (coded× coded_ℤ coded_ℕ) (λ (x : Number). (x.numerator, x.denominator)) same_parts
   where
     same_parts : (x y : Number) → ◌≡◌ {A = ℤ × ℕ} (x.numerator, x.denominator) (y.numerator, y.denominator) → x ≡ y
     same_parts x y e = number_from_parts x y (ap (λ (p : ℤ × ℕ). p.0) e) (ap (λ (p : ℤ × ℕ). p.1) e)
 
--- a number, or which of the three others it is
+-- the code of an extended number: a number, or which of the three others it is
 abbrev pub extended_code : Coded extended.Extended
 extended_code = code_by (Number ⊎ ℕ) (coded⊎ number_code coded_ℕ) to from back
   where
@@ -42,13 +42,13 @@ extended_code = code_by (Number ⊎ ℕ) (coded⊎ number_code coded_ℕ) to fro
     back extended.minus_infinity = refl
     back extended.na = refl
 
--- attributes are known by their four parts
+-- four parts determine attributes
 abbrev pub attributes_code : Coded Attributes
 attributes_code =
     code_by (Option Number × (Option Number × (Number × Number))) (coded× (coded_option number_code) (coded× (coded_option number_code) (coded× number_code number_code)))
     (λ a. (a.lower, (a.upper, (a.level, a.marginal)))) (λ p. record { lower = p.0; upper = p.1.0; level = p.1.1.0; marginal = p.1.1.1 }) (λ _. refl)
 
--- a type is known by its place among the four
+-- its place among the four determines a type
 abbrev pub type_code : Coded VariableType
 type_code = code_by ℕ coded_ℕ to from back
   where
@@ -70,7 +70,7 @@ type_code = code_by ℕ coded_ℕ to from back
     back Negative = refl
     back Discrete = refl
 
--- a finite map is known by its entries
+-- its entries determine a finite map
 abbrev pub entries_code : {X : Type 0} → Coded X → Coded (Entries X)
 entries_code x = finite.code (coded_list coded_ℕ) x
 
@@ -79,7 +79,7 @@ abbrev Parts : Type 0
 Parts =
     Unit {0} ⊎ (ℕ ⊎ (List (List ℕ) ⊎ (Entries extended.Extended ⊎ ((VariableType × Entries Attributes) ⊎ (Entries Attributes ⊎ (ℕ × ℕ))))))
 
--- a content is known by its kind and its parts
+-- its kind and its parts determine a content
 abbrev pub content_code : Coded Content
 content_code =
     code_by Parts (coded⊎ coded_unit (coded⊎ coded_ℕ (coded⊎ (coded_list (coded_list coded_ℕ)) (coded⊎ (entries_code extended_code) (coded⊎ (coded× type_code (entries_code attributes_code)) (coded⊎ (entries_code attributes_code) (coded× coded_ℕ coded_ℕ))))))) to from back
@@ -111,18 +111,18 @@ content_code =
     back (equation_of entries) = refl
     back (model_with model solver) = refl
 
--- a symbol is known by its domain and its content
+-- its domain and its content determine a symbol
 abbrev pub symbol_code : Coded Symbol
 symbol_code =
     code_by (List (Option ℕ) × Content) (coded× (coded_list (coded_option coded_ℕ)) content_code) (λ s. (s.domain, s.content)) (λ p. record { domain = p.0; content = p.1 }) (λ _. refl)
 
--- settings are known by the six of them
+-- six values determine the settings
 abbrev pub settings_code : Coded Settings
 settings_code =
     code_by (ℕ × (ℕ × (ℕ × (ℕ × (Bool × ℕ))))) (coded× coded_ℕ (coded× coded_ℕ (coded× coded_ℕ (coded× coded_ℕ (coded× coded_bool coded_ℕ)))))
     (λ s. (s.limrow, (s.limcol, (s.iterlim, (s.decimals, (s.solprint, s.solver)))))) (λ p. record { limrow = p.0; limcol = p.1.0; iterlim = p.1.1.0; decimals = p.1.1.1.0; solprint = p.1.1.1.1.0; solver = p.1.1.1.1.1 }) (λ _. refl)
 
--- a state is known by its symbols and its settings
+-- its symbols and its settings determine a state
 abbrev pub state_code : Coded State
 state_code =
     code_by (List Symbol × Settings) (coded× (coded_list symbol_code) settings_code) (λ s. (s.symbols, s.settings)) (λ p. record { symbols = p.0; settings = p.1 }) (λ _. refl)

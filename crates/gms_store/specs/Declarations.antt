@@ -1,5 +1,6 @@
--- What the declarations of a program declare.
--- GAMS User's Guide, "Set Definition", "Variables", "Equations", "Model and Solve Statements". That the first declaration of a name counts is this project's own rule.
+-- What the declarations of a program declare: GAMS User's Guide, "Set Definition", "Variables",
+-- "Equations", "Model and Solve Statements". That the first declaration of a name counts is this
+-- project's rule.
 use Rattle.std.specs.Prelude.{take, ℕ, Bool, true, false, List, [], ◌∷◌, length, map, set, replicate, Option, None, option_map, if◌then◌else◌, ◌&&◌, ◌==◌}
 use Rattle.std.specs.List.{fold}
 use Rattle.std.specs.FinMap as finite
@@ -22,7 +23,7 @@ use Rattle.gms_store.specs.State.{Content, undeclared, alias_of, set_of, paramet
 abbrev pub names_of : List (Option Named) → List (Option ℕ)
 names_of domain = map (λ position. option_map (λ (named : Named). named.name) position) domain
 
--- the positions of a name: a set has one, of any label, where none is written
+-- the positions of a name: a set without a written domain has one, of any label
 abbrev pub positions_of : DeclKind → List (Option ℕ) → List (Option ℕ)
 positions_of Set [] = None ∷ []
 positions_of kind domain = domain
@@ -43,7 +44,8 @@ content_of Equation = equation_of finite.empty
 abbrev pub symbol_of_kind : DeclKind → List (Option ℕ) → Symbol
 symbol_of_kind kind domain = record { domain = positions_of kind domain; content = content_of kind }
 
--- a variable whose type is free takes the type of a later declaration, with nothing given; nothing else changes
+-- a variable whose type is free takes the type of a later declaration, with nothing given; nothing
+-- else changes
 abbrev pub retyped : Content → Content → Content
 retyped (variable_of type.Free entries) (variable_of type none) = variable_of type none
 retyped content later = content
@@ -105,11 +107,13 @@ model_symbol = record { domain = []; content = model_with 0 0 }
 abbrev pub join_name : State → ℕ → ℕ → State
 join_name state old new = put_at state new (alias_symbol (base_of state old))
 
--- whether the second name can be made another name of the first: that is a set, and the second is new
+-- whether the second name can be made another name of the first: that is a set, and the second is
+-- new
 abbrev pub can_join : State → ℕ → ℕ → Bool
 can_join state old new = is_set (symbol_at state old).content && is_undeclared (symbol_at state new).content
 
--- the state after `alias (first, second)`: one is a set declared before, and the other is new. Where it is not so, which is an error of the program, a name that is not declared becomes a set
+-- the state after `alias (first, second)`: one is a set declared before, and the other is new. If
+-- it is not so, which is an error of the program, a name that is not declared becomes a set
 abbrev pub declare_alias : State → ℕ → ℕ → State
 declare_alias state first second =
     if can_join state first second then join_name state first second else if can_join state second first then join_name state second first else declare Set [] (declare Set [] state first) second
@@ -127,7 +131,7 @@ declare_models state models = fold (λ state (model : ModelDecl). declare_model 
 abbrev pub first_settings : Settings
 first_settings = record { limrow = 3; limcol = 3; iterlim = 1000; decimals = 3; solprint = true; solver = 0 }
 
--- the state of so many names, of which none is declared
+-- the state with `names` names, of which none is declared
 abbrev pub blank_state : ℕ → State
 blank_state names = record { symbols = replicate names no_symbol; settings = first_settings }
 
@@ -143,8 +147,8 @@ module _ {F : Type 0} where
   declared_by state (Model models) = declare_models state models
   declared_by state act = state
 
-  -- the state after so many of the names that a statement declares, of which the first are declared first; of an alias that is none
-  -- the two names are declared as sets
+  -- the state after the first `count` of the names that a statement declares; the two names of an
+  -- invalid alias are declared as sets
   abbrev pub declared_first : ℕ → State → Act F → State
   declared_first count state (Declare kind items) = declare_each kind state (take count items)
   declared_first count state (Alias first second) = if count == 0 then state else declare Set [] state first.name
@@ -154,6 +158,6 @@ module _ {F : Type 0} where
   abbrev pub declared_by_all : State → List (Stmt F) → State
   declared_by_all state statements = fold (λ state (statement : Stmt F). declared_by state statement.act) state statements
 
-  -- the state that the declarations of a program alone make: nothing is given
+  -- the state after all declarations of a program, with nothing given
   abbrev pub declared_state : Program F → State
   declared_state program = declared_by_all (blank_state (length program.names)) program.statements.items

@@ -1,9 +1,9 @@
--- What stays of a state where one entry of a name, or the statuses of a model, are new.
+-- What stays of a state if one entry of a name, or the statuses of a model, change.
 use Rattle.std.specs.Prelude.{◌≡◌, ℕ, List, length}
 use Rattle.gms_store.specs.State.{State, Symbol, base_of, symbol_of}
 
--- Only the symbol that a name stands for may be new: every other is what it was, each name has its positions and stands for what it stood for,
--- there are as many names, and the settings stay.
+-- Only the symbol that a name denotes may change: every other symbol is unchanged, each name has
+-- its positions and denotes what it did, there are as many names, and the settings stay.
 pub record Keeps (old new : State) (name : ℕ) : Type 0 where
   pub others : (other : ℕ) → (base_of old other ≡ base_of old name → ⊥) → symbol_of new other ≡ symbol_of old other
   pub bases : (other : ℕ) → base_of new other ≡ base_of old other

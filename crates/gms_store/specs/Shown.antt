@@ -1,4 +1,4 @@
--- What the store shows of what it keeps: the numbers that its values mean.
+-- The view of the store: the numbers that its values mean.
 use Rattle.std.specs.Prelude.{map, option_map}
 use Rattle.std.specs.FinMap as finite
 use Rattle.gq_number.specs.Number.{Number}
@@ -8,7 +8,7 @@ use Rattle.gms_store.specs.declared.content.Content as kept
 use Rattle.gms_store.specs.declared.content.Content.TheVariants as variant
 use Rattle.gms_store.specs.State.{Entries, Attributes, Content, undeclared, alias_of, set_of, parameter_of, variable_of, equation_of, model_with}
 
--- a finite map with each of its values seen as another
+-- a finite map with each of its values mapped
 abbrev pub entries_shown : {X Y : Type 0} → (X → Y) → Entries X → Entries Y
 entries_shown f entries = finite.from_entries (map (λ e. (e.0, f e.1)) (finite.entries entries))
 

@@ -1,5 +1,6 @@
--- The state of a run: finite maps from the names of a program to what is known of them.
--- GAMS User's Guide, "Set Definition", "Data Entry: Parameters, Scalars and Tables", "Variables", "Equations". Which entries are kept is this project's own rule.
+-- The state of a run: finite maps from the names of a program to what is known of them: GAMS User's
+-- Guide, "Set Definition", "Data Entry: Parameters, Scalars and Tables", "Variables", "Equations".
+-- Which entries are kept is this project's rule.
 use Rattle.std.specs.Prelude.{◌≡◌, ℕ, Bool, true, false, not, ◌&&◌, ◌==◌, List, [], length, set, slice_get, Option, Some, None, unwrap_or, if◌then◌else◌, pos}
 use Rattle.std.specs.FinMap as finite
 use Rattle.std.specs.Ordering.{eq_by_cmp}
@@ -19,14 +20,15 @@ Entries X = finite.FinMap tuple_cmp X
 
 -- What an element of a variable or an equation has.
 pub record Attributes : Type 0 where
-  -- the lower bound, where there is a finite one
+  -- the lower bound, if finite
   pub lower : Option Number
-  -- the upper bound, where there is a finite one
+  -- the upper bound, if finite
   pub upper : Option Number
   pub level : Number
   pub marginal : Number
 
--- What a name stands for. Of a parameter, a variable and an equation it has the entries that differ from an absent one, and no other.
+-- What a name denotes. A parameter, a variable and an equation keep exactly the entries that differ
+-- from an absent one.
 pub data Content : Type 0 where
   -- nothing is declared
   undeclared : Content
@@ -40,7 +42,8 @@ pub data Content : Type 0 where
   -- a model, with the model's status and the solver's
   model_with : ℕ → ℕ → Content
 
--- A name: the set of each position that it was declared with, None where there is none, and what it stands for.
+-- A name: the set of each position that it was declared with, None for any label, and what it
+-- denotes.
 pub record Symbol : Type 0 where
   pub domain : List (Option ℕ)
   pub content : Content
@@ -57,30 +60,30 @@ pub record State : Type 0 where
 abbrev pub no_symbol : Symbol
 no_symbol = record { domain = []; content = undeclared }
 
--- what the name of this number is
+-- the symbol of the name with this number
 abbrev pub symbol_at : State → ℕ → Symbol
 symbol_at state name = unwrap_or (slice_get state.symbols name) no_symbol
 
--- the name that a content stands for: the set behind an alias, and else the name itself
+-- the name that a content denotes: the set of an alias, and else the name itself
 abbrev pub behind : ℕ → Content → ℕ
 behind name (alias_of base) = base
 behind name content = name
 
--- the set behind an alias; every other name stands for itself
+-- the set of an alias; every other name denotes itself
 abbrev pub base_of : State → ℕ → ℕ
 base_of state name = behind name (symbol_at state name).content
 
--- what the name of this number stands for
+-- what the name of this number denotes
 abbrev pub symbol_of : State → ℕ → Symbol
 symbol_of state name = symbol_at state (base_of state name)
 
--- the state in which the name of this number stands for another symbol
+-- the state in which the name of this number denotes another symbol
 abbrev pub with_symbol : State → ℕ → Symbol → State
 with_symbol state name symbol = record { symbols = set state.symbols (base_of state name) symbol; settings = state.settings }
 
 -- ---- what is read
 
--- 0, which a parameter has where nothing is given
+-- 0, the value of a parameter with nothing given
 abbrev pub zero : extended.Extended
 zero = extended.number (whole (pos 0))
 
@@ -88,7 +91,7 @@ zero = extended.number (whole (pos 0))
 abbrev pub same_number : Number → Number → Bool
 same_number a b = eq_by_cmp number_cmp a b
 
--- whether a value differs from what a parameter has where nothing is given
+-- whether a value differs from 0, the value of a parameter with nothing given
 abbrev pub is_given : extended.Extended → Bool
 is_given (extended.number x) = not (same_number x (whole (pos 0)))
 is_given value = true
@@ -97,14 +100,14 @@ is_given value = true
 abbrev pub unbounded : Attributes
 unbounded = record { lower = None; upper = None; level = whole (pos 0); marginal = whole (pos 0) }
 
--- what an element of a variable has where nothing is given: the bounds of the variable's type
+-- the attributes of an element of a variable with nothing given: the bounds of the variable's type
 abbrev pub absent_variable : VariableType → Attributes
 absent_variable Free = unbounded
 absent_variable Positive = record { lower = Some (whole (pos 0)); upper = None; level = whole (pos 0); marginal = whole (pos 0) }
 absent_variable Negative = record { lower = None; upper = Some (whole (pos 0)); level = whole (pos 0); marginal = whole (pos 0) }
 absent_variable Discrete = unbounded
 
--- what an element has where nothing is given: an equation has no bounds
+-- the attributes of an element with nothing given: an equation has no bounds
 abbrev pub absent : Content → Attributes
 absent (variable_of type entries) = absent_variable type
 absent content = unbounded
@@ -115,7 +118,7 @@ same_bound None None = true
 same_bound (Some a) (Some b) = same_number a b
 same_bound a b = false
 
--- whether two elements have the same
+-- whether two elements have the same attributes
 abbrev pub same_attributes : Attributes → Attributes → Bool
 same_attributes a b =
     same_bound a.lower b.lower && (same_bound a.upper b.upper && (same_number a.level b.level && same_number a.marginal b.marginal))
@@ -142,7 +145,8 @@ has_attributes (variable_of type entries) = true
 has_attributes (equation_of entries) = true
 has_attributes content = false
 
--- the tuples at which something is given: the members of a set, and the tuples whose entries are kept
+-- the tuples at which something is given: the members of a set, and the tuples whose entries are
+-- kept
 abbrev pub given_in : Content → List (List ℕ)
 given_in (set_of members) = members
 given_in (parameter_of entries) = finite.keys entries
@@ -171,7 +175,7 @@ attributes_of state name t = attributes_in (symbol_of state name).content t
 abbrev pub given_of : State → ℕ → List (List ℕ)
 given_of state name = given_in (symbol_of state name).content
 
--- whether the entry at a tuple differs from what an absent one reads as
+-- whether the entry at a tuple differs from an absent one
 abbrev pub differs_in : Content → List ℕ → Bool
 differs_in (set_of members) t = has members t
 differs_in (parameter_of entries) t = is_given (value_in (parameter_of entries) t)
@@ -198,11 +202,12 @@ fits_at limit (variable_of type entries) t = attributes_fit limit (attributes_in
 fits_at limit (equation_of entries) t = attributes_fit limit (attributes_in (equation_of entries) t)
 fits_at limit content t = true
 
--- the entries of a map stand at tuples of this length, and differ from an absent entry
+-- the entries of a map are at tuples of this length, and differ from an absent entry
 abbrev pub AreDifferent : {X : Type 0} → (X → Bool) → ℕ → Entries X → Type 0
 AreDifferent differs arity entries = (t : List ℕ) (x : _) → finite.get entries t ≡ Some x → (length t ≡ arity) × (differs x ≡ true)
 
--- what a name stands for has no tuple of another length, and no entry that an absent one reads as
+-- The invariant of a content: it has no tuple of another length, and no entry equal to an absent
+-- one.
 abbrev pub IsKept : ℕ → Content → Type 0
 IsKept arity (set_of members) = (t : List ℕ) → has members t ≡ true → length t ≡ arity
 IsKept arity (parameter_of entries) = AreDifferent is_given arity entries
@@ -212,16 +217,16 @@ IsKept arity content = Unit {0}
 
 -- ---- what is written
 
--- a map after a write: the entry is kept where it differs from an absent one
+-- a map after a write: the entry is kept if it differs from an absent one
 abbrev pub after_write : {X : Type 0} → Bool → Entries X → List ℕ → X → Entries X
 after_write differs entries t x = if differs then finite.insert entries t x else finite.remove entries t
 
--- a value put into a map at a tuple, where there is one
+-- a value, if any, put into a map at a tuple
 abbrev pub put_where : {X : Type 0} → Option X → Entries X → List ℕ → Entries X
 put_where None entries t = entries
 put_where (Some x) entries t = finite.insert entries t x
 
--- a set with a tuple put in or taken out
+-- a set with a tuple put in or removed
 abbrev pub with_membership : Content → List ℕ → Bool → Content
 with_membership (set_of members) t on = set_of (if on then inserted members t else removed members t)
 with_membership content t on = content
@@ -246,13 +251,14 @@ with_statuses content model solver = content
 abbrev pub with_content : Symbol → Content → Symbol
 with_content symbol content = record { domain = symbol.domain; content = content }
 
--- a symbol with another content, where the tuple has as many labels as the symbol has positions
+-- a symbol with another content, if the tuple has as many labels as the symbol has positions
 abbrev pub if_fits : Symbol → List ℕ → Content → Symbol
 if_fits symbol t content = if length t == length symbol.domain then with_content symbol content else symbol
 
--- After a write one entry of one name is new, and all else stays. A name of another kind and a tuple of another length change nothing.
+-- After a write one entry of one name has changed, and all else stays. A name of another kind and a
+-- tuple of another length change nothing.
 
--- the state after a tuple was put into a set or taken out
+-- the state after a tuple was put into a set or removed
 abbrev pub after_membership : State → ℕ → List ℕ → Bool → State
 after_membership state name t on =
     with_symbol state name (if_fits (symbol_of state name) t (with_membership (symbol_of state name).content t on))

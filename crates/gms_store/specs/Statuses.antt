@@ -1,5 +1,5 @@
--- How the last solve of a model ended: the numbers that `.modelstat` and `.solvestat` have, and the texts of a listing (GAMS User's Guide,
--- "GAMS Output", model status and solver status).
+-- How the last solve of a model ended: the numbers that `.modelstat` and `.solvestat` have, and the
+-- texts of a listing (GAMS User's Guide, "GAMS Output", model status and solver status).
 use Rattle.std.specs.Prelude.{ℕ, List, [], ◌∷◌, codes}
 use Rattle.gms_store.specs.declared.status.SolveStatus.{SolveStatus}
 use Rattle.gms_store.specs.declared.status.SolveStatus.TheVariants.{Unsolved, Optimal, Unbounded, Infeasible, Intermediate, Feasible, Unanswered}
@@ -44,6 +44,6 @@ solver_text Intermediate = codes "Iteration Interrupt"
 solver_text Feasible = codes "Iteration Interrupt"
 solver_text Unanswered = codes "Terminated By Solver"
 
--- all of them
+-- all ways in which a solve may end
 abbrev pub all_statuses : List SolveStatus
 all_statuses = Unsolved ∷ Optimal ∷ Unbounded ∷ Infeasible ∷ Intermediate ∷ Feasible ∷ Unanswered ∷ []

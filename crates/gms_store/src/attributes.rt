@@ -1,4 +1,4 @@
-//! What an element of a variable or an equation has.
+//! The attributes of an element of a variable or an equation.
 ghost use Rattle.std.specs.Prelude.{◌≡◌, option_map};
 ghost use Rattle.gms_store.specs.Shown.{attributes_shown};
 ghost use Rattle.gms_store.specs.State.{unbounded, absent_variable, same_attributes, same_number, same_bound};
@@ -7,13 +7,13 @@ use crate::kind::VariableType;
 use gq_field::ExactField;
 use std::cmp::Ordering;
 
-/// What an element of a variable or an equation has: its bounds, its level and its marginal (GAMS User's Guide,
-/// "Variables", "Equations").
+/// What an element of a variable or an equation has: its bounds, its level and its marginal (GAMS
+/// User's Guide, "Variables", "Equations").
 #[derive(Clone, Copy)]
 pub struct Attributes<F> {
-    /// The lower bound, `None` where there is no finite one.
+    /// The lower bound, `None` if it is infinite.
     pub lower: Option<F>,
-    /// The upper bound, `None` where there is no finite one.
+    /// The upper bound, `None` if it is infinite.
     pub upper: Option<F>,
     /// The level.
     pub level: F,
@@ -22,7 +22,8 @@ pub struct Attributes<F> {
 }
 
 impl<F: ExactField> Attributes<F> {
-    /// No bounds, level 0 and marginal 0: what an element of an equation has where nothing is given.
+    /// No bounds, level 0 and marginal 0: the attributes of an element of an equation with nothing
+    /// given.
     pub(crate) fn unbounded() -> Attributes<F>
         ensures { attributes_shown F.value result ≡ unbounded }
     {
@@ -34,7 +35,7 @@ impl<F: ExactField> Attributes<F> {
         }
     }
 
-    /// What an element of a variable has where nothing is given.
+    /// The attributes of an element of a variable with nothing given.
     pub(crate) fn of_type(kind: VariableType) -> Attributes<F>
         ensures { attributes_shown F.value result ≡ absent_variable kind }
     {
@@ -54,7 +55,7 @@ impl<F: ExactField> Attributes<F> {
         }
     }
 
-    /// Whether both elements have the same.
+    /// Whether both elements have the same attributes.
     pub(crate) fn is_same(self, other: Attributes<F>) -> bool
         ensures { result ≡ same_attributes (attributes_shown F.value self) (attributes_shown F.value other) }
     {

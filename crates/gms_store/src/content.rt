@@ -1,11 +1,12 @@
-//! What a name stands for.
+//! What a name denotes.
 use crate::attributes::Attributes;
 use crate::entries::Entries;
 use crate::kind::VariableType;
 use gms_tuple::TupleSet;
 use gq_extended::Ext;
 
-/// What a name stands for. Of a parameter, a variable and an equation only the entries that differ from an absent one are kept.
+/// What a name denotes. A parameter, a variable and an equation keep only the entries that differ
+/// from an absent one.
 pub enum Content<F> {
     /// Nothing is declared.
     Undeclared,

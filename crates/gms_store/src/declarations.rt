@@ -25,10 +25,12 @@ impl<F: ExactField> Store<F> {
         Ok(())
     }
 
-    /// Declares what a statement declares (GAMS User's Guide, "GAMS Programs", the statements that declare).
+    /// Declares what a statement declares (GAMS User's Guide, "GAMS Programs", the statements that
+    /// declare).
     ///
-    /// A statement that is no declaration, no alias and no model changes nothing. Data are not put: names stand empty. After want of
-    /// memory the first of its names are declared, and the others are not.
+    /// A statement that is no declaration, no alias and no model changes nothing. It puts no data:
+    /// names are empty. If out of memory, the first of its names are declared, and the others are
+    /// not.
     pub fn declare_act(&mut self, alloc: Global, act: &Act<F>) -> Result<(), AllocError>
         ensures ok { OnOk result (self.new ≡ declared_by self.old act.now) }
         ensures err { OnErr result ((count : ℕ) × (self.new ≡ declared_first count self.old act.now)) }
@@ -44,7 +46,7 @@ impl<F: ExactField> Store<F> {
         }
     }
 
-    /// Declares names of one kind. After want of memory the first of them are declared.
+    /// Declares names of one kind. If out of memory, the first of them are declared.
     fn declare_each(
         &mut self,
         alloc: Global,
@@ -60,9 +62,9 @@ impl<F: ExactField> Store<F> {
         Ok(())
     }
 
-    /// Declares a name with its domain. Of several declarations of one name the first counts, but for the type of a free
-    /// variable (GAMS User's Guide, "Variables"). A name past the last one of the program changes nothing. After want of memory the
-    /// state is as it was.
+    /// Declares a name with its domain. Of several declarations of one name the first counts,
+    /// except for the type of a free variable (GAMS User's Guide, "Variables"). A name past the
+    /// last one of the program changes nothing. If out of memory, the state is as it was.
     pub fn declare(
         &mut self,
         alloc: Global,
@@ -81,8 +83,9 @@ impl<F: ExactField> Store<F> {
         Ok(())
     }
 
-    /// Makes one of two names another name of the other, which is a set (GAMS User's Guide, "Set Definition", aliases).
-    /// Where neither can be, both are declared as sets. After want of memory none of them is, or the first alone.
+    /// Makes one of two names another name of the other, which is a set (GAMS User's Guide, "Set
+    /// Definition", aliases). If neither can be, both are declared as sets. If out of memory, none
+    /// of them is, or only the first.
     pub fn declare_alias(
         &mut self,
         alloc: Global,
@@ -104,7 +107,8 @@ impl<F: ExactField> Store<F> {
         self.declare(alloc, DeclKind::Set, &[], second)
     }
 
-    /// Whether the second name can be made another name of the first: that is a set, and the second is new.
+    /// Whether the second name can be made another name of the first: that is a set, and the second
+    /// is new.
     fn can_join(&self, old: u32, new: u32) -> bool
         ensures { result ≡ can_join self.now old new }
     {
@@ -148,7 +152,8 @@ impl<F: ExactField> Store<F> {
         }
     }
 
-    /// Declares a model (GAMS User's Guide, "Model and Solve Statements"). The first declaration of a name counts.
+    /// Declares a model (GAMS User's Guide, "Model and Solve Statements"). The first declaration of
+    /// a name counts.
     pub fn declare_model(&mut self, alloc: Global, name: u32)
         ensures { self.new ≡ declare_model self.old name }
     {

@@ -51,14 +51,15 @@ impl<X: Copy> Entries<X> {
         }
     }
 
-    /// The value at a tuple, where there is one.
+    /// The value at a tuple, if any.
     pub fn get(&self, t: &Tuple) -> Option<X>
         ensures { result ≡ finite.get self.now t.now }
     {
         self.values.get(t)
     }
 
-    /// The value at a tuple, where there is one: found sooner where the tuple has this place among those at which there is a value.
+    /// The value at a tuple, if any. It is found sooner if the tuple has this place among those
+    /// with a value.
     pub fn get_near(&self, t: &Tuple, place: usize) -> Option<X>
         ensures { result ≡ finite.get self.now t.now }
     {
@@ -74,7 +75,7 @@ impl<X: Copy> Entries<X> {
         &self.given
     }
 
-    /// Puts a value at a tuple. After want of memory the map is as it was.
+    /// Puts a value at a tuple. If out of memory, the map is as it was.
     pub fn insert(&mut self, alloc: Global, t: &Tuple, value: X) -> Result<(), AllocError>
         ensures ok { OnOk result (self.new ≡ finite.insert self.old t.now value) }
         ensures err { OnErr result (self.new ≡ self.old) }
@@ -92,8 +93,8 @@ impl<X: Copy> Entries<X> {
         }
     }
 
-    /// Puts a value at a tuple where it is to be kept, and takes the one there out where it is not. After want of memory
-    /// the map is as it was.
+    /// Puts a value at a tuple if it is to be kept, and else removes the value there. If out of
+    /// memory, the map is as it was.
     pub fn write(
         &mut self,
         alloc: Global,
@@ -111,7 +112,7 @@ impl<X: Copy> Entries<X> {
         Ok(())
     }
 
-    /// Takes the value at a tuple out, where there is one.
+    /// Removes the value at a tuple, if any.
     pub fn remove(&mut self, t: &Tuple)
         ensures { self.new ≡ finite.remove self.old t.now }
     {

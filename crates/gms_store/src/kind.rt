@@ -17,7 +17,7 @@ pub enum SymbolKind {
     Undeclared,
 }
 
-/// Of which type a variable is.
+/// The type of a variable.
 #[derive(Clone, Copy, Debug, PartialEq, Eq)]
 pub enum VariableType {
     /// `variable x;`: no bounds.

@@ -8,8 +8,8 @@ ghost use Rattle.gms_store.specs.Frames.{Keeps};
 ghost use Rattle.gms_store.specs.Statuses.{model_number, model_text, solver_number};
 ghost use Rattle.gms_store.specs.declared.status.SolveStatus.{SolveStatus};
 
-/// What is read after a write: at the tuple what was written, and at every other tuple of the name, and of every other
-/// name, what was there. An alias is no other name than its set.
+/// What is read after a write: at the tuple what was written; at every other tuple of the name, and
+/// of every other name, what it was before. An alias is the same name as its set.
 pub fn write_laws()
     ensures value { (state : State) (name : ℕ) (t : List ℕ) (x : Extended) (entries : Entries Extended) →
         base_of state name < length state.symbols →
@@ -37,8 +37,9 @@ pub fn write_laws()
         has (members_of (after_membership state name t on) other) u ≡ has (members_of state other) u }
 {}
 
-/// What a write leaves: all other names, what each name stands for, its positions and the settings, and of the name itself
-/// what is read of every other kind: after a value all members, attributes and statuses, and so on.
+/// What a write leaves unchanged: all other names, what each name denotes, its positions and the
+/// settings, and all other kinds of reading of the name itself: after a value all members,
+/// attributes and statuses, and so on.
 pub fn frame_laws()
     ensures value { (state : State) (name : ℕ) (t : List ℕ) (x : Extended) → Keeps state (after_value state name t x) name }
     ensures value_leaves_members { (state : State) (name : ℕ) (t : List ℕ) (x : Extended) (other : ℕ) → members_of (after_value state name t x) other ≡ members_of state other }
@@ -58,7 +59,8 @@ pub fn frame_laws()
     ensures statuses_leave_attributes { (state : State) (name model solver : ℕ) (other : ℕ) (u : List ℕ) → attributes_of (after_statuses state name model solver) other u ≡ attributes_of state other u }
 {}
 
-/// How a solve may end: the number of the model's status, and its text too, tell which of them it is, and no number is above 13.
+/// How a solve may end: the number of the model's status, and its text too, determine which of them
+/// it is, and no number is above 13.
 pub fn status_laws()
     ensures one_number { (one other : SolveStatus) → model_number one ≡ model_number other → one ≡ other }
     ensures one_text { (one other : SolveStatus) → model_text one ≡ model_text other → one ≡ other }

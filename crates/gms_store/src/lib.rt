@@ -1,4 +1,4 @@
-//! Floor 3, state and checks. The state of a run: what is known of each name of a program.
+//! Layer 3, state and checks. The state of a run: what is known of each name of a program.
 #![tactic(auto)]
 
 mod attributes;

@@ -2,14 +2,15 @@
 
 /// The settings of a run, each by the word of its option.
 ///
-/// `option limrow = 0, solprint = off;` sets two of them. GAMS User's Guide, "The Option Statement".
+/// `option limrow = 0, solprint = off;` sets two of them. GAMS User's Guide, "The Option
+/// Statement".
 #[derive(Clone, Copy, Debug, PartialEq, Eq)]
 pub struct Settings {
     /// How many rows of each equation a solve lists.
     pub limrow: u32,
     /// How many columns of each variable a solve lists.
     pub limcol: u32,
-    /// How many pivots a solver may take.
+    /// The greatest number of pivots of a solver.
     pub iterlim: u32,
     /// How many decimals a display shows.
     pub decimals: u8,
@@ -20,7 +21,7 @@ pub struct Settings {
 }
 
 impl Settings {
-    /// The settings that a run begins with.
+    /// The settings with which a run begins.
     pub const FIRST: Settings = Settings {
         limrow: 3,
         limcol: 3,

@@ -2,8 +2,9 @@
 ghost use Rattle.std.specs.Prelude.{◌≡◌};
 ghost use Rattle.gms_store.specs.Statuses.{model_number, model_text, solver_number, solver_text};
 
-/// How the last solve of a model ended. It has two numbers and two texts: the model's status, `m.modelstat`, and the solver's,
-/// `m.solvestat`. GAMS User's Guide, "GAMS Output", model status and solver status.
+/// How the last solve of a model ended. It has two numbers and two texts: the model's status,
+/// `m.modelstat`, and the solver's, `m.solvestat`. GAMS User's Guide, "GAMS Output", model status
+/// and solver status.
 #[derive(Clone, Copy, Debug, PartialEq, Eq)]
 pub enum SolveStatus {
     /// The model was not solved yet.
@@ -50,7 +51,7 @@ impl SolveStatus {
         }
     }
 
-    /// The text of the model's status, as a listing shows it behind its number.
+    /// The text of the model's status, as a listing shows it after its number.
     pub fn model_text(self) -> &'static str
         ensures { result.now ≡ model_text self }
     {
@@ -65,7 +66,7 @@ impl SolveStatus {
         }
     }
 
-    /// The text of the solver's status, as a listing shows it behind its number.
+    /// The text of the solver's status, as a listing shows it after its number.
     pub fn solver_text(self) -> &'static str
         ensures { result.now ≡ solver_text self }
     {

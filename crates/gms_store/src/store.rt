@@ -19,14 +19,16 @@ use gq_field::ExactField;
 use std::alloc::{AllocError, Global};
 use std::marker::Model;
 
-/// The state of a run, seen as finite maps: a set to its members, a parameter and a tuple to a value, a variable or an
-/// equation and a tuple to bounds, level and marginal, a model to two statuses, and the settings.
+/// The state of a run. Its view is finite maps: from a set to its members, from a parameter and a
+/// tuple to a value, from a variable or an equation and a tuple to bounds, level and marginal, from
+/// a model to two statuses; and the settings.
 ///
-/// Names and labels are numbers in the two tables of the program. An alias stands for its set. Only what differs from an
-/// absent entry is kept; an absent one reads as 0, or as the bounds of the variable's type. A name that the program does
-/// not have or that is of another kind reads as one of which nothing is given, and a write to it, or at a tuple that has
-/// another length than the domain, changes nothing; a checked program has none of these. After want of memory the store
-/// is as it was, but for `declare_act` and `declare_alias`, which may have declared the first of their names.
+/// Names and labels are numbers in the two tables of the program. An alias denotes its set. Only
+/// entries that differ from an absent one are kept; an absent one reads as 0, or as the bounds of
+/// the variable's type. A name that the program does not have or that is of another kind reads as
+/// one with nothing given. A write to it, or at a tuple of another length than the domain, changes
+/// nothing; a checked program has none of these. If out of memory, the store is as it was, except
+/// that `declare_act` and `declare_alias` may have declared the first of their names.
 pub struct Store<F: ExactField> {
     pub(crate) symbols: Vec<Symbol<F>>,
     settings: Settings,
@@ -70,7 +72,7 @@ impl<F: ExactField> Store<F> {
         Ok(store)
     }
 
-    /// A state of so many names, of which none is declared.
+    /// A state with `names` names, of which none is declared.
     pub fn blank(alloc: Global, names: u32) -> Result<Store<F>, AllocError>
         ensures { IfOk result (λ store. store ≡ blank_state names) }
     {
@@ -96,7 +98,7 @@ impl<F: ExactField> Store<F> {
         }
     }
 
-    /// Whether a name is that of a variable whose type is free.
+    /// Whether a name is that of a variable of free type.
     pub fn is_free(&self, name: u32) -> bool
         ensures { result ≡ is_free (symbol_at self.now name).content }
     {
@@ -116,18 +118,19 @@ impl<F: ExactField> Store<F> {
         }
     }
 
-    /// The set of each declared position, `None` where there is none. An alias has the positions of its set.
+    /// The set of each declared position, `None` for any label. An alias has the positions of its
+    /// set.
     pub fn domain_of(&self, name: u32) -> &[Option<u32>]
         ensures { result.now ≡ (symbol_of self.now name).domain }
     {
         self.symbol(name).domain()
     }
 
-    /// The members of a set; the tuples of a parameter whose value is not 0; the tuples of a variable or an equation that
-    /// have another bound, level or marginal than an absent one.
+    /// The members of a set; the tuples of a parameter whose value is not 0; the tuples of a
+    /// variable or an equation whose bounds, level or marginal differ from those of an absent one.
     pub fn given(&self, name: u32) -> &TupleSet
         ensures value { result.now ≡ given_of self.now name }
-        // A tuple is there exactly where its entry differs from an absent one.
+        // A tuple is given exactly if its entry differs from an absent one.
         ensures differs { (t : List ℕ) → has result.now t ≡ differs_in (symbol_of self.now name).content t }
         ensures arity { (t : List ℕ) → has result.now t ≡ true → length t ≡ length (symbol_of self.now name).domain }
         ensures ordered { IsOrdered result.now }
@@ -143,7 +146,7 @@ impl<F: ExactField> Store<F> {
         }
     }
 
-    /// The number of the set behind an alias. Every other name stands for itself.
+    /// The number of the set of an alias. Every other name denotes itself.
     pub fn base(&self, name: u32) -> u32
         ensures { result ≡ base_of self.now name }
     {
@@ -153,7 +156,7 @@ impl<F: ExactField> Store<F> {
         }
     }
 
-    /// What a name stands for: an alias for its set.
+    /// What a name denotes: an alias its set.
     fn symbol(&self, name: u32) -> &Symbol<F>
         ensures { result.now ≡ symbol_of self.now name }
     {
@@ -184,7 +187,7 @@ impl<F: ExactField> Store<F> {
         self.members(set).contains(t)
     }
 
-    /// Puts a tuple into a set, or takes it out.
+    /// Puts a tuple into a set, or removes it.
     pub fn set_member(
         &mut self,
         alloc: Global,
@@ -203,15 +206,15 @@ impl<F: ExactField> Store<F> {
         Ok(())
     }
 
-    /// The value of a parameter at a tuple: 0 where none is given.
+    /// The value of a parameter at a tuple: 0 if none is given.
     pub fn value(&self, name: u32, t: &Tuple) -> Ext<F>
         ensures { extended F.value result ≡ value_of self.now name t.now }
     {
         self.symbol(name).value(t)
     }
 
-    /// The value of a parameter at a tuple: 0 where none is given. It is found sooner where the tuple has this place among those
-    /// that are given.
+    /// The value of a parameter at a tuple: 0 if none is given. It is found sooner if the tuple has
+    /// this place among the given ones.
     pub fn value_near(&self, name: u32, t: &Tuple, place: usize) -> Ext<F>
         ensures { extended F.value result ≡ value_of self.now name t.now }
     {
@@ -231,29 +234,29 @@ impl<F: ExactField> Store<F> {
         Ok(())
     }
 
-    /// The bounds, the level and the marginal of an element: those of its type where nothing is given.
+    /// The bounds, the level and the marginal of an element: those of its type if nothing is given.
     pub fn attributes(&self, name: u32, t: &Tuple) -> Attributes<F>
         ensures { attributes_shown F.value result ≡ attributes_of self.now name t.now }
     {
         self.symbol(name).attributes(t)
     }
 
-    /// The bounds, the level and the marginal of an element: those of its type where nothing is given. They are found sooner where
-    /// the element has this place among those that are given.
+    /// The bounds, the level and the marginal of an element: those of its type if nothing is given.
+    /// They are found sooner if the element has this place among the given ones.
     pub fn attributes_near(&self, name: u32, t: &Tuple, place: usize) -> Attributes<F>
         ensures { attributes_shown F.value result ≡ attributes_of self.now name t.now }
     {
         self.symbol(name).attributes_near(t, place)
     }
 
-    /// The lower bound of an element, `None` where there is no finite one.
+    /// The lower bound of an element, `None` if it is infinite.
     pub fn lower(&self, name: u32, t: &Tuple) -> Option<F>
         ensures { option_map F.value result ≡ (attributes_of self.now name t.now).lower }
     {
         self.attributes(name, t).lower
     }
 
-    /// The upper bound of an element, `None` where there is no finite one.
+    /// The upper bound of an element, `None` if it is infinite.
     pub fn upper(&self, name: u32, t: &Tuple) -> Option<F>
         ensures { option_map F.value result ≡ (attributes_of self.now name t.now).upper }
     {
@@ -274,7 +277,7 @@ impl<F: ExactField> Store<F> {
         self.attributes(name, t).marginal
     }
 
-    /// Puts the lower bound of an element, `None` for no finite one.
+    /// Puts the lower bound of an element, `None` for an infinite one.
     pub fn put_lower(
         &mut self,
         alloc: Global,
@@ -291,7 +294,7 @@ impl<F: ExactField> Store<F> {
         self.put_attributes(alloc, name, t, new)
     }
 
-    /// Puts the upper bound of an element, `None` for no finite one.
+    /// Puts the upper bound of an element, `None` for an infinite one.
     pub fn put_upper(
         &mut self,
         alloc: Global,
@@ -387,9 +390,10 @@ impl<F: ExactField> Store<F> {
         self.settings = s;
     }
 
-    /// Puts another state over this one: at each name that is declared there all that is given of it there, and its
-    /// settings. What it does not declare stays (GAMS User's Guide, "Save and Restart"). All of it is moved, and nothing copied,
-    /// so that no memory is asked for.
+    /// Puts another state over this one: each name that the other declares gets all that is given
+    /// of it there, and so do the settings. What the other does not declare stays (GAMS User's
+    /// Guide, "Save and Restart"). All of it is moved, and nothing copied, so that no memory is
+    /// requested.
     pub fn overlay(&mut self, other: Store<F>)
         ensures { self.new ≡ overlaid self.old other }
     {
@@ -399,7 +403,7 @@ impl<F: ExactField> Store<F> {
     }
 }
 
-/// Moves symbols to the places of others, where they are declared.
+/// Moves declared symbols to the places of others.
 fn overlay_symbols<F: ExactField>(symbols: &mut [Symbol<F>], others: &mut [Symbol<F>])
     ensures { symbols.new ≡ overlaid_symbols symbols.old others.old }
 {

@@ -1,4 +1,4 @@
-//! A name of the program: the sets of its positions, and what it stands for.
+//! A name of the program: the sets of its positions, and what it denotes.
 ghost use Rattle.std.specs.Prelude.{◌≡◌, ◌==◌, ℕ, List, [], true, length, option_map, OnOk, OnErr, IfOk, IfSome, IfNone};
 ghost use Rattle.gq_extended.specs.Meaning.{extended};
 ghost use Rattle.gms_tuple.specs.TupleOrder.{IsOrdered};
@@ -63,7 +63,8 @@ impl<F: ExactField> Symbol<F> {
         }
     }
 
-    /// A name that is declared, with nothing given. A set without a domain has one position, of any label.
+    /// A name that is declared, with nothing given. A set without a domain has one position, of any
+    /// label.
     pub fn new(
         alloc: Global,
         kind: DeclKind,
@@ -108,7 +109,7 @@ impl<F: ExactField> Symbol<F> {
         }
     }
 
-    /// Whether the name is that of a variable whose type is free.
+    /// Whether the name is that of a variable of free type.
     pub fn is_free(&self) -> bool
         ensures { result ≡ is_free self.now.content }
     {
@@ -139,8 +140,8 @@ impl<F: ExactField> Symbol<F> {
         }
     }
 
-    /// Declares the name once more: the first declaration counts, but for the type of a free variable. After want of memory the
-    /// name is as it was.
+    /// Declares the name once more: the first declaration counts, except for the type of a free
+    /// variable. If out of memory, the name is as it was.
     pub fn declare(
         &mut self,
         alloc: Global,
@@ -159,8 +160,8 @@ impl<F: ExactField> Symbol<F> {
         Ok(())
     }
 
-    /// Takes the type of a later declaration, where the name is a variable of free type and the later one too is of a
-    /// variable, and else changes nothing.
+    /// Takes the type of a later declaration if the name is a variable of free type and the later
+    /// one is of a variable too; else changes nothing.
     fn retype(&mut self, alloc: Global, kind: DeclKind)
         ensures { self.new ≡ with_content self.old (retyped self.old.content (content_of kind)) }
     {
@@ -173,7 +174,7 @@ impl<F: ExactField> Symbol<F> {
         }
     }
 
-    /// Becomes another symbol, where that is declared, and that one becomes this.
+    /// Exchanges this symbol for another, if that is declared.
     pub fn overlay(&mut self, other: &mut Symbol<F>)
         ensures { self.new ≡ chosen self.old other.old }
     {
@@ -197,7 +198,7 @@ impl<F: ExactField> Symbol<F> {
         }
     }
 
-    /// The number of the set behind an alias, and else `name`.
+    /// The number of the set of an alias, and else `name`.
     pub fn behind(&self, name: u32) -> u32
         ensures { result ≡ behind name self.now.content }
     {
@@ -207,14 +208,14 @@ impl<F: ExactField> Symbol<F> {
         }
     }
 
-    /// The set of each position, `None` where there is none.
+    /// The set of each position, `None` for any label.
     pub fn domain(&self) -> &[Option<u32>]
         ensures { result.now ≡ self.now.domain }
     {
         self.domain.as_slice()
     }
 
-    /// The tuples at which something is given, where the name has any.
+    /// The tuples at which something is given, if the name has any.
     pub fn given(&self) -> Option<&TupleSet>
         ensures some { IfSome result (λ set. set.now ≡ given_in self.now.content) }
         ensures none { IfNone result (given_in self.now.content ≡ []) }
@@ -234,7 +235,7 @@ impl<F: ExactField> Symbol<F> {
         }
     }
 
-    /// The members of a set. `None` where the name is none.
+    /// The members of a set. `None` if the name is no set.
     pub fn members(&self) -> Option<&TupleSet>
         ensures some { IfSome result (λ set. set.now ≡ members_in self.now.content) }
         ensures none { IfNone result (members_in self.now.content ≡ []) }
@@ -249,7 +250,7 @@ impl<F: ExactField> Symbol<F> {
         }
     }
 
-    /// The value of a parameter at a tuple: 0 where none is given.
+    /// The value of a parameter at a tuple: 0 if none is given.
     pub fn value(&self, t: &Tuple) -> Ext<F>
         ensures { extended F.value result ≡ value_in self.now.content t.now }
     {
@@ -260,7 +261,8 @@ impl<F: ExactField> Symbol<F> {
         }
     }
 
-    /// The same, found sooner where the tuple has this place among those that are given.
+    /// The value of a parameter at a tuple, found sooner if the tuple has this place among the
+    /// given ones.
     pub fn value_near(&self, t: &Tuple, place: usize) -> Ext<F>
         ensures { extended F.value result ≡ value_in self.now.content t.now }
     {
@@ -271,7 +273,7 @@ impl<F: ExactField> Symbol<F> {
         }
     }
 
-    /// The attributes of a variable or an equation at a tuple: those of its type where none are given.
+    /// The attributes of a variable or an equation at a tuple: those of its type if none are given.
     pub fn attributes(&self, t: &Tuple) -> Attributes<F>
         ensures { attributes_shown F.value result ≡ attributes_in self.now.content t.now }
     {
@@ -284,7 +286,8 @@ impl<F: ExactField> Symbol<F> {
         }
     }
 
-    /// The same, found sooner where the tuple has this place among those that are given.
+    /// The attributes of an element at a tuple, found sooner if the tuple has this place among the
+    /// given ones.
     pub fn attributes_near(&self, t: &Tuple, place: usize) -> Attributes<F>
         ensures { attributes_shown F.value result ≡ attributes_in self.now.content t.now }
     {
@@ -316,7 +319,7 @@ impl<F: ExactField> Symbol<F> {
         t.as_slice().len() == self.domain.len()
     }
 
-    /// Puts a tuple into a set or takes it out. After want of memory all is as it was.
+    /// Puts a tuple into a set or removes it. If out of memory, all is as it was.
     pub fn set_member(&mut self, alloc: Global, t: &Tuple, on: bool) -> Result<(), AllocError>
         ensures ok { OnOk result (self.new ≡ if_fits self.old t.now (with_membership self.old.content t.now on)) }
         ensures err { OnErr result (self.new ≡ self.old) }
@@ -336,7 +339,8 @@ impl<F: ExactField> Symbol<F> {
         Ok(())
     }
 
-    /// Puts the value of a parameter at a tuple, where it is kept if it is not 0. After want of memory all is as it was.
+    /// Puts the value of a parameter at a tuple, where it is kept if it is not 0. If out of memory,
+    /// all is as it was.
     pub fn put(&mut self, alloc: Global, t: &Tuple, value: Ext<F>) -> Result<(), AllocError>
         ensures ok { OnOk result (self.new ≡ if_fits self.old t.now (with_value self.old.content t.now (extended F.value value))) }
         ensures err { OnErr result (self.new ≡ self.old) }
@@ -351,8 +355,8 @@ impl<F: ExactField> Symbol<F> {
         Ok(())
     }
 
-    /// Puts the attributes of a variable or an equation at a tuple, where they are kept if they are not those of its type.
-    /// After want of memory all is as it was.
+    /// Puts the attributes of a variable or an equation at a tuple, where they are kept if they are
+    /// not those of its type. If out of memory, all is as it was.
     pub fn put_attributes(
         &mut self,
         alloc: Global,

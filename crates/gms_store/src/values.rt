@@ -11,8 +11,8 @@ use std::cmp::Ordering;
 use std::collections::BTreeMap;
 use std::marker::Model;
 
-/// Values at tuples. One that is put at a tuple behind all others is put there without a search, and counts before what the
-/// tree has; where it is taken out, its place stays.
+/// Values at tuples. A value at a tuple after all others is appended without a search, and takes
+/// precedence over the tree; if it is removed, its place stays.
 pub(crate) struct Values<X> {
     tree: BTreeMap<Tuple, X>,
     behind: Vec<(Tuple, Option<X>)>,
@@ -52,7 +52,7 @@ impl<X: Copy> Values<X> {
         }
     }
 
-    /// The value at a tuple, where there is one.
+    /// The value at a tuple, if any.
     pub fn get(&self, t: &Tuple) -> Option<X>
         ensures { result ≡ finite.get self.now t.now }
     {
@@ -62,7 +62,8 @@ impl<X: Copy> Values<X> {
         }
     }
 
-    /// The value at a tuple, where there is one: found at once where the tuple stands at this place of those behind the tree.
+    /// The value at a tuple, if any. It is found at once if the tuple has this place in the
+    /// appended part.
     pub fn get_near(&self, t: &Tuple, place: usize) -> Option<X>
         ensures { result ≡ finite.get self.now t.now }
     {
@@ -72,7 +73,7 @@ impl<X: Copy> Values<X> {
         self.get(t)
     }
 
-    /// Puts a value at a tuple. After want of memory the values are as they were.
+    /// Puts a value at a tuple. If out of memory, the values are as they were.
     pub fn insert(&mut self, alloc: Global, t: &Tuple, value: X) -> Result<(), AllocError>
         ensures ok { OnOk result (self.new ≡ finite.insert self.old t.now value) }
         ensures err { OnErr result (self.new ≡ self.old) }
@@ -91,7 +92,7 @@ impl<X: Copy> Values<X> {
         Ok(())
     }
 
-    /// Takes the value at a tuple out, where there is one.
+    /// Removes the value at a tuple, if any.
     pub fn remove(&mut self, t: &Tuple)
         ensures { self.new ≡ finite.remove self.old t.now }
     {
@@ -104,7 +105,7 @@ impl<X: Copy> Values<X> {
     }
 }
 
-/// Whether a tuple stands at a place.
+/// Whether a tuple is at a place.
 fn stands_at<X>(behind: &[(Tuple, Option<X>)], place: usize, t: &Tuple) -> bool
     ensures { IsTrue result → StandsAt behind.now place t.now }
 {
@@ -126,7 +127,7 @@ fn place_in<X>(behind: &[(Tuple, Option<X>)], t: &Tuple) -> Option<usize>
     }
 }
 
-/// Whether a tuple comes behind all tuples that are in order.
+/// Whether a tuple comes after all tuples that are in order.
 fn comes_last<X>(behind: &[(Tuple, Option<X>)], t: &Tuple) -> bool
     requires { IsOrdered (keys_of behind.now) }
     ensures { IsTrue result → IsOrdered (keys_of behind.now ++ t.now ∷ []) }

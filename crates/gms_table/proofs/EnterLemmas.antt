@@ -1,4 +1,4 @@
--- Labels that are entered one after another.
+-- Labels that are entered in order.
 use Rattle.std.proofs.Common.{◌≡◌, ℕ, suc, ◌+◌, ◌<◌, ◌≤◌, List, [], ◌∷◌, ◌++◌, length, get_or, take, drop, Some, Err, refl, sym, ap, ◌∙◌, subst, take-append-drop, drop-cons}
 use Rattle.std.specs.Borrow.{Bor}
 use Rattle.std.proofs.lemmas.List.{map_push, map-append, take_more}
@@ -21,7 +21,7 @@ AreEntered-more before table after texts numbers text n so_far is here few = rec
 pub read_all-more : (labels : List (Bor (List ℕ))) (i : ℕ) (d : Bor (List ℕ)) → i < length labels → read_all (take (i + 1) labels) ≡ read_all (take i labels) ++ (get_or labels i d).now ∷ []
 read_all-more labels i d l = ap read_all (take_more labels i d l) ∙ map_push (λ (b : Bor (List ℕ)). b.now) (take i labels) (get_or labels i d)
 
--- all labels, as those before one, that one, and those behind it
+-- all labels, as those before one, that one, and those after it
 pub read_all-split : (labels : List (Bor (List ℕ))) (i : ℕ) (d : Bor (List ℕ)) → i < length labels → read_all labels ≡ read_all (take i labels) ++ (get_or labels i d).now ∷ read_all (drop (suc i) labels)
 read_all-split labels i d l =
     ap read_all (sym (take-append-drop i labels) ∙ ap (λ ls. take i labels ++ ls) (drop-cons labels i d l)) ∙ map-append (λ (b : Bor (List ℕ)). b.now) (take i labels) (get_or labels i d ∷ drop (suc i) labels)
@@ -32,7 +32,7 @@ enter_stops before table after front numbers text others all label.Full so_far s
     subst (λ ts. most_labels < length (all_entered before ts)) (sym split) (full-all_entered before front text others (subst (λ t. IsFullFor t text) so_far.table (full refl)))
 enter_stops before table after front numbers text others all label.Memory so_far split full = tt
 
--- a table goes on with what was entered so far, and with one label more
+-- a table begins with what was entered so far, and is extended by one more label
 pub goes_on-so_far : (before table texts : List (List ℕ)) (numbers : List ℕ) → AreEntered before table texts numbers → GoesOn before table
 goes_on-so_far before table texts numbers so_far = subst (GoesOn before) (sym so_far.table) (GoesOn-all_entered before texts)
 

@@ -107,7 +107,7 @@ module _ {F : Type 0} (limit : ℕ) (value : F → Number) (table : List (List �
     | inr h ↦ Contains-append_right (map (key_of r) (met hs word)) (keys_of parts) _ (key-given parts entries is.1 (rw h at given))
   ]
 
-  -- and where there is one of the row and the heading, it has the numbers
+  -- and if the row and the heading have one, it has the numbers
   pub given-key : (parts : List Part) (entries : List (Entry F)) → AreEntries limit value table parts entries → Contains (keys_of parts) (key_of label heading) → is_given entries row column ≡ true
   given-key [] entries is has = absurd (Contains-nothing _ has)
   given-key (name word ∷ parts) entries is has = given-key parts entries is has

@@ -1,4 +1,4 @@
--- The headings that a number meets stand side by side.
+-- The headings that a number meets are adjacent.
 use Rattle.std.proofs.Common.{◌≡◌, ℕ, zero, suc, ◌-◌, ◌<◌, ◌≤◌, true, false, nat_le, List, [], ◌∷◌, ◌++◌, length, get_or, drop, refl, sym, ap, ◌∙◌, subst, add-one, add-zero, arith}
 use Rattle.std.proofs.lemmas.Bool.Decides.{nat_tests}
 use Rattle.std.proofs.lemmas.List.{length-drop, get_or-drop}
@@ -38,7 +38,7 @@ meet-behind number heading h = grind (arith, nat_tests)
 meet-both : (number heading : Word) → number.at.column < heading.end → heading.at.column < number.end → meet number heading ≡ true
 meet-both number heading h k = grind (arith, nat_tests)
 
--- headings behind the number are not met
+-- headings after the number are not met
 met-behind : (column : ℕ) (names : List Word) (number : Word) → AreSpacedFrom column names → number.end ≤ column → met names number ≡ []
 met-behind column [] number spaced h = refl
 met-behind column (name ∷ names) number spaced h =
@@ -67,7 +67,7 @@ pub finds_none : (table : List (List ℕ)) (rest : List Word) (number : Word) �
 finds_none table [] number are = refl
 finds_none table (name ∷ rest) number are = absurd are
 
--- the first heading that is left stands behind the number
+-- the first remaining heading comes after the number
 pub finds_behind : (table : List (List ℕ)) (column : ℕ) (rest : List Word) (number : Word) (heading : Heading) (headings : List Heading) → AreSpacedFrom column rest → AreHeadings table rest (heading ∷ headings) → number.end ≤ heading.column → met rest number ≡ []
 finds_behind table column [] number heading headings spaced are h = absurd (cc)
 finds_behind table column (name ∷ rest) number heading headings spaced are h =
@@ -79,7 +79,7 @@ pub record MeetsOne (table : List (List ℕ)) (rest : List Word) (number : Word)
   pub one : met rest number ≡ found ∷ []
   pub is : IsHeading table found heading
 
--- the first heading that is left begins before the number ends, and no other does
+-- the first remaining heading begins before the number ends, and no other does
 pub finds_one : (table : List (List ℕ)) (column : ℕ) (rest : List Word) (number : Word) (heading : Heading) (headings : List Heading) → AreSpacedFrom column rest → AreHeadings table rest (heading ∷ headings) → number.at.column < heading.end → heading.column < number.end → ((second : Heading) (others : List Heading) → headings ≡ second ∷ others → number.end ≤ second.column) → MeetsOne table rest number heading
 finds_one table column [] number heading headings spaced are h k last = absurd (cc)
 finds_one table column (name ∷ []) number heading headings spaced are h k last = record {
@@ -96,7 +96,7 @@ finds_one table column (name ∷ next ∷ rest) number heading (second ∷ headi
       is = are.0;
     }
 
--- the second heading that is left begins before the number ends
+-- the second remaining heading begins before the number ends
 pub finds_two : (table : List (List ℕ)) (column : ℕ) (rest : List Word) (number : Word) (heading second : Heading) (headings : List Heading) → AreSpacedFrom column rest → AreHeadings table rest (heading ∷ second ∷ headings) → number.at.column < heading.end → second.column < number.end → 1 < length (met rest number)
 finds_two table column [] number heading second headings spaced are h k = absurd (cc)
 finds_two table column (name ∷ []) number heading second headings spaced are h k = let e : second ∷ headings ≡ [] = are.1 in absurd (cc)
@@ -104,7 +104,7 @@ finds_two table column (name ∷ next ∷ rest) number heading second headings s
     rw (meet-both number name (omega (arith, are.0.end)) (omega (arith, are.1.0.column, spaced.1, spaced.2.0)))
     (rw (meet-both number next (omega (arith, are.0.end, spaced.2.0, spaced.2.1)) (omega (arith, are.1.0.column))) (omega arith))
 
--- ---- headings that end behind a column
+-- ---- headings that end after a column
 
 ends_rise : (table : List (List ℕ)) (column : ℕ) (names : List Word) (headings : List Heading) → AreSpacedFrom column names → AreHeadings table names headings → (k : ℕ) (d : Heading) → suc k < length headings → (get_or headings k d).end ≤ (get_or headings (suc k) d).end
 ends_rise table column names [] spaced are k d l = absurd (omega arith)
@@ -118,7 +118,7 @@ pub ends_partitioned : (table : List (List ℕ)) (column : ℕ) (names : List Wo
 ends_partitioned table column names headings behind spaced are =
     IsPartitionedBy-leb (λ (h : Heading). h.end) headings behind (IsNonDecreasingBy-from_all_adjacent (λ (h : Heading). h.end) headings (λ k d l. rw add-one (ends_rise table column names headings spaced are k d (omega arith))))
 
--- what stands from the first place on at which a heading ends behind the number's column
+-- the headings from the first that ends after the number's column
 pub left_over : (table : List (List ℕ)) (names : List Word) (headings : List Heading) (number : Word) (i : ℕ) (left : List Heading) → AreSpacedFrom 0 names → AreHeadings table names headings → IsPartitionPoint (λ (h : Heading). nat_le h.end number.at.column ≡ true) (λ (h : Heading). nat_le h.end number.at.column ≡ false) headings i → left ≡ drop i headings → AreLeft table names number left
 left_over table names headings number i left spaced are point is =
     let skipped = skips table 0 names headings number i spaced are (λ k d below within. let h = point.0 k d (omega arith) below in grind (arith, nat_tests)) in

@@ -45,7 +45,7 @@ pub length-all_entered : (table texts : List (List ℕ)) → length table ≤ le
 length-all_entered table [] = omega arith
 length-all_entered table (t ∷ texts) = omega (arith, length-entered table t, length-all_entered (entered table t) texts)
 
--- a table goes on with the labels that are entered
+-- a table is extended by the labels that are entered
 pub GoesOn-entered : (table : List (List ℕ)) (text : List ℕ) → GoesOn table (entered table text)
 GoesOn-entered table text = elim (true_or_false (is_some (place_of table text))) [
   | inl h ↦ ([], rw h (sym (append-nil table)))
@@ -84,16 +84,16 @@ label_length rest = stretch_bytes is_dot rest
 labels_from-stretch : (rest : List ℕ) → labels_from rest ≡ with_label (label_of (take (label_length rest) rest)) (labels_among (stretches_behind is_dot (drop (label_length rest) rest)))
 labels_from-stretch rest = ap labels_among (parted-stretch is_dot rest)
 
--- a stretch that is no label
+-- a field that is no label
 pub labels_from-none : (done : List (List ℕ)) (rest : List ℕ) → label_of (take (label_length rest) rest) ≡ None → joined done (labels_from rest) ≡ None
 labels_from-none done rest h = ap (joined done) (labels_from-stretch rest ∙ ap (λ o. with_label o (labels_among (stretches_behind is_dot (drop (label_length rest) rest)))) h)
 
--- a label with nothing behind it
+-- a label with nothing after it
 pub labels_from-last : (done : List (List ℕ)) (rest label : List ℕ) → label_of (take (label_length rest) rest) ≡ Some label → drop (label_length rest) rest ≡ [] → joined done (labels_from rest) ≡ Some (done ++ label ∷ [])
 labels_from-last done rest label h last =
     ap (joined done) (labels_from-stretch rest ∙ ap (λ o. with_label o (labels_among (stretches_behind is_dot (drop (label_length rest) rest)))) h ∙ ap (λ t. with_label (Some label) (labels_among (stretches_behind is_dot t))) last)
 
--- a label with more behind it
+-- a label with more after it
 pub labels_from-more : (done : List (List ℕ)) (rest label : List ℕ) (b : ℕ) (others : List ℕ) → label_of (take (label_length rest) rest) ≡ Some label → drop (label_length rest) rest ≡ b ∷ others → joined done (labels_from rest) ≡ joined (done ++ label ∷ []) (labels_from others)
 labels_from-more done rest label b others h more =
     ap (joined done) (labels_from-stretch rest ∙ ap (λ o. with_label o (labels_among (stretches_behind is_dot (drop (label_length rest) rest)))) h ∙ ap (λ t. with_label (Some label) (labels_among (stretches_behind is_dot t))) more) ∙ joined-with done label (labels_from others)

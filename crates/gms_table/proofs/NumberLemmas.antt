@@ -33,13 +33,13 @@ pub is_number : {F E : Type 0} (limit : ℕ) (value : F → Number) (text : List
 is_number limit value text (Ok v) read = read.0
 is_number limit value text (Err e) read = read.0
 
--- a number behind `-`
+-- a number after `-`
 pub value_negative : (limit : ℕ) (text rest : List ℕ) (x y : Number) → rest ≡ unsigned text → begins (λ b. b == 45) text ≡ true → MeansNumber rest x → FitsLiteral limit x → y ≡ neg_ℚ x → IsNumber text × IsValue limit text y
 value_negative limit text rest x y is minus means fits value =
     let there = subst (λ t. MeansNumber t x) is means in
     ((x, there), record { magnitude = x; means = there; fits = fits; value = rw minus value })
 
--- a number behind `+`, or without a sign
+-- a number after `+`, or without a sign
 pub value_plain : (limit : ℕ) (text rest : List ℕ) (x : Number) → rest ≡ unsigned text → begins (λ b. b == 45) text ≡ false → MeansNumber rest x → FitsLiteral limit x → IsNumber text × IsValue limit text x
 value_plain limit text rest x is plus means fits =
     let there = subst (λ t. MeansNumber t x) is means in

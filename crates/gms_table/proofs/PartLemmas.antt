@@ -1,4 +1,4 @@
--- Parts of a table, one after another.
+-- Parts of a table, in order.
 use Rattle.std.proofs.Common.{◌≡◌, ℕ, List, [], ◌∷◌, ◌++◌, map, refl, sym, ap, ◌∙◌, subst, append_assoc, append-nil}
 use Rattle.gq_number.specs.Number.{Number}
 use Rattle.gms_table.specs.declared.entry.Entry.{Entry}
@@ -58,7 +58,7 @@ module _ (limit : ℕ) (labels : List (List ℕ)) where
   AreSound-push before (p ∷ parts) part sound none =
       (sound.0, AreSound-push (before ++ p ∷ []) parts part sound.1 (λ error h. none error (subst (λ ps. Stands limit labels ps part error) (append_assoc before (p ∷ []) parts) h)))
 
-  -- a first fault stays that with more parts behind it
+  -- a first fault remains the first with more parts after it
   pub IsFirstFault-more : (parts others : List Part) (fault : TableFault) → IsFirstFault limit labels parts fault → IsFirstFault limit labels (parts ++ others) fault
   IsFirstFault-more parts others fault first = record {
     before = first.before;

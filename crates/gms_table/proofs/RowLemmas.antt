@@ -64,7 +64,7 @@ no_word = record { at = record { line = 0; column = 0 }; end = 0; text = record 
 pub seen_all-more : (words : List Kept) (i : ℕ) → i < length words → seen_all (take (i + 1) words) ≡ seen_all (take i words) ++ seen (get_or words i no_word) ∷ []
 seen_all-more words i l = ap seen_all (take_more words i no_word l) ∙ map_push seen (take i words) (get_or words i no_word)
 
--- all words, as those before one, that one, and those behind it
+-- all words, as those before one, that one, and those after it
 pub seen_all-split : (words : List Kept) (i : ℕ) → i < length words → seen_all words ≡ seen_all (take i words) ++ seen (get_or words i no_word) ∷ seen_all (drop (suc i) words)
 seen_all-split words i l =
     ap seen_all (sym (take-append-drop i words) ∙ ap (λ ws. take i words ++ ws) (drop-cons words i no_word l)) ∙ map-append seen (take i words) (get_or words i no_word ∷ drop (suc i) words)

@@ -79,7 +79,7 @@ AreSpacedFrom-weaker : (low high : ℕ) (words : List Word) → low ≤ high →
 AreSpacedFrom-weaker low high [] le spaced = tt
 AreSpacedFrom-weaker low high (word ∷ words) le spaced = (omega (arith, spaced.0), spaced.1, spaced.2)
 
--- the words behind the first stand in order too
+-- the words after the first are in order too
 pub AreSpaced-rest : (first : Word) (words : List Word) → AreSpaced (first ∷ words) → AreSpaced words
 AreSpaced-rest first words spaced = AreSpacedFrom-weaker 0 first.end words (omega arith) spaced.2
 

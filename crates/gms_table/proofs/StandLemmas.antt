@@ -1,4 +1,4 @@
--- What stands at a part of a table.
+-- The errors at a part of a table.
 use Rattle.std.proofs.Common.{◌≡◌, inl, inr, ℕ, ◌<◌, ◌≤◌, List, [], ◌∷◌, ◌++◌, length, None, refl, sym, ap, ◌∙◌, subst, append-nil, arith}
 use Rattle.std.specs.List.{Contains}
 use Rattle.gq_number.specs.Number.{Number}
@@ -26,7 +26,7 @@ some_code NoHeading = omega arith
 some_code Labels = omega arith
 
 module _ (limit : ℕ) (labels : List (List ℕ)) where
-  -- what stands at the part behind sound ones is the first fault
+  -- the least error at the part after sound ones is the first fault
   first_fault : (before : List Part) (part : Part) (fault : TableFault) (error : TableError) → AreSound limit labels [] before → fault.at ≡ place_of_part part → fault.error ≡ error → Stands limit labels before part error → ((other : TableError) → Stands limit labels before part other → error_code error ≤ error_code other) → IsFirstFault limit labels (before ++ part ∷ []) fault
   first_fault before part fault error sound at is stands least = record {
     before = before;

@@ -1,4 +1,4 @@
--- The words of a line, one after another.
+-- The words of a line, in order.
 use Rattle.std.proofs.Common.{◌≡◌, ℕ, ◌+◌, ◌-◌, ◌*◌, ◌<◌, ◌≤◌, List, [], ◌∷◌, ◌++◌, length, get_or, take, drop, fold, refl, sym, ap, ◌∙◌, subst, append_assoc, append-nil, add-one, arith, drop-cons}
 use Rattle.std.proofs.lemmas.List.Sums.{fold-append, fold_more}
 use Rattle.std.proofs.Math.Seq.{take-add}
@@ -15,18 +15,18 @@ use Rattle.gms_table.proofs.StretchLemmas.{stretch_bytes-le, stretches_behind, p
 pub column_of-add : (line : List ℕ) (n k : ℕ) → fold column_after (column_of line n) (take k (drop n line)) ≡ column_of line (n + k)
 column_of-add line n k = sym (fold-append column_after 1 (take n line) (take k (drop n line))) ∙ ap (fold column_after 1) (sym (take-add n k line))
 
--- the words of a line from a byte on, at which a stretch begins
+-- the words of a line from a byte on, at which a field begins
 abbrev pub words_from : ℕ → List ℕ → ℕ → List Word
 words_from number line start = words_among number line start (parted is_blank (drop start line))
 
--- how many bytes the stretch takes that begins there
+-- how many bytes the field takes that begins there
 abbrev pub length_from : List ℕ → ℕ → ℕ
 length_from line start = stretch_bytes is_blank (drop start line)
 
 words_from-stretch : (number : ℕ) (line : List ℕ) (start : ℕ) → words_from number line start ≡ word_at number line start (take (length_from line start) (drop start line)) ++ words_among number line (start + length (take (length_from line start) (drop start line)) + 1) (stretches_behind is_blank (drop (length_from line start) (drop start line)))
 words_from-stretch number line start = ap (words_among number line start) (parted-stretch is_blank (drop start line))
 
--- the column behind the last of words that stand behind a column
+-- the column after the last of some words, or the given column without words
 abbrev pub last_end : ℕ → List Word → ℕ
 last_end column [] = column
 last_end column (word ∷ words) = last_end word.end words
@@ -40,9 +40,9 @@ pub last_end-push : (column : ℕ) (words : List Word) (word : Word) → last_en
 last_end-push column [] word = refl
 last_end-push column (w ∷ words) word = last_end-push w.end words word
 
--- ---- one stretch more
+-- ---- one field more
 
--- What was found of a line before a byte at which a stretch begins.
+-- What was found of a line before a byte at which a field begins.
 pub record WordsSoFar (number : ℕ) (line : List ℕ) (words : List Word) (start column : ℕ) : Type 0 where
   pub within : start ≤ length line
   pub column_is : column ≡ column_of line start
@@ -51,7 +51,7 @@ pub record WordsSoFar (number : ℕ) (line : List ℕ) (words : List Word) (star
   pub spaced : AreSpacedFrom 0 words
   pub behind : last_end 0 words ≤ column
 
--- The stretch that begins there, with the words behind it.
+-- The field that begins there, with the words after it.
 pub record NextStretch (number : ℕ) (line : List ℕ) (words : List Word) (start column : ℕ) (text : List ℕ) (end : ℕ) (after : List Word) : Type 0 where
   pub text_is : text ≡ take (length_from line start) (drop start line)
   pub end_is : end ≡ fold column_after column text
@@ -63,20 +63,20 @@ module _ (number : ℕ) (line : List ℕ) (words : List Word) (start column : �
   long : length text ≡ length_from line start
   long = ap length next.text_is ∙ length-take-le (length_from line start) (drop start line) (stretch_bytes-le is_blank (drop start line))
 
-  -- the stretch ends within the line
+  -- the field ends within the line
   pub stretch_within : start + length text ≤ length line
   stretch_within = omega (arith, long, so_far.within, stretch_bytes-le is_blank (drop start line), length-drop start line)
 
-  -- the column behind the stretch
+  -- the column after the field
   end_column : end ≡ column_of line (start + length text)
   end_column =
       next.end_is ∙ ap (fold column_after column) (next.text_is ∙ ap (λ n. take n (drop start line)) (sym long)) ∙ ap (λ c. fold column_after c (take (length text) (drop start line))) so_far.column_is ∙ column_of-add line start (length text)
 
-  -- the word of the stretch
+  -- the word of the field
   word_here : word_of record { line = number; column = column } end text ≡ word_at number line start text
   word_here = ap (λ c. word_of record { line = number; column = c } end text) so_far.column_is ∙ ap (λ e. word_of record { line = number; column = column_of line start } e text) end_column
 
-  -- what stands behind the stretch
+  -- what follows the field
   rest_is : drop (length_from line start) (drop start line) ≡ drop (start + length text) line
   rest_is = drop-drop (length_from line start) start line ∙ ap (λ n. drop n line) (omega (arith, long))
 
@@ -98,12 +98,12 @@ module _ (number : ℕ) (line : List ℕ) (words : List Word) (start column : �
   pub words_spaced : AreSpacedFrom 0 after
   words_spaced = subst (AreSpacedFrom 0) (sym next.after_is) (spaced_after text next.grows)
 
-  -- the line ends behind the stretch
+  -- the line ends after the field
   pub words_last : start + length text ≡ length line → after ≡ words_of number line
   words_last ends =
       sym (append-nil after) ∙ ap (λ t. after ++ words_among number line (start + length text + 1) (stretches_behind is_blank t)) (sym (drop_all (start + length text) line (omega arith))) ∙ all_words
 
-  -- a blank stands behind the stretch
+  -- a blank follows the field
   pub words_more : (behind : ℕ) → ¬ (start + length text ≡ length line) → behind ≡ column_after end (get_or line (start + length text) 0) → WordsSoFar number line after (start + length text + 1) behind
   words_more behind goes_on is =
       let within = stretch_within in
@@ -118,7 +118,7 @@ module _ (number : ℕ) (line : List ℕ) (words : List Word) (start column : �
         behind = omega (arith, ap (last_end 0) next.after_is, last_after text next.grows, bounds.0);
       }
 
--- the next stretch, as it is read
+-- the next field, as it is read
 pub next_stretch : (number : ℕ) (line : List ℕ) (words : List Word) (start column n end : ℕ) (after : List Word) → n ≡ stretch_bytes is_blank (take (length line - start) (drop start line)) → end ≡ fold column_after column (take n (take (length line - start) (drop start line))) → column + length (take n (take (length line - start) (drop start line))) ≤ end → end ≤ column + 8 * length (take n (take (length line - start) (drop start line))) → after ≡ words ++ word_of record { line = number; column = column } end (take n (take (length line - start) (drop start line))) → NextStretch number line words start column (take n (take (length line - start) (drop start line))) end after
 next_stretch number line words start column n end after n_is end_is grows near after_is = record {
   text_is = ap (take n) (take_rest line start) ∙ ap (λ k. take k (drop start line)) (n_is ∙ ap (stretch_bytes is_blank) (take_rest line start));

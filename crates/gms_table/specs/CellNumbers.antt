@@ -1,4 +1,5 @@
--- The numbers in a row of a table: decimals, each with or without a sign (GAMS User's Guide, "Language Items", numbers).
+-- The numbers in a row of a table: decimals, each with or without a sign (GAMS User's Guide,
+-- "Language Items", numbers).
 use Rattle.std.specs.Prelude.{◌≡◌, ℕ, ◌==◌, if◌then◌else◌, List, drop}
 use Rattle.gms_lines.specs.Lines.{begins}
 use Rattle.gms_lexemes.specs.Numbers.{is_sign}
@@ -6,7 +7,7 @@ use Rattle.gq_number.specs.Number.{Number, neg_ℚ}
 use Rattle.gq_text.specs.Decimal.{MeansNumber}
 use Rattle.gq_text.specs.Literal.{FitsLiteral}
 
--- a text without the sign that it begins with, if it does
+-- a text without its sign, if it begins with one
 abbrev pub unsigned : List ℕ → List ℕ
 unsigned text = if begins is_sign text then drop 1 text else text
 

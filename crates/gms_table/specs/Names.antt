@@ -1,4 +1,4 @@
--- What reading and entering the labels of a word answers.
+-- The result of reading and entering the labels of a word.
 use Rattle.std.specs.Prelude.{◌≡◌, ◌⊎◌, ℕ, ◌≤◌, ◌<◌, List, length, map, Option, None, option_map, Result, Ok, Err, Vec}
 use Rattle.std.specs.declared.alloc.Global.{Global}
 use Rattle.std.specs.Borrow.{Bor}
@@ -12,7 +12,7 @@ use Rattle.gms_table.specs.Words.{Word}
 use Rattle.gms_labels.specs.Labels.{most_labels}
 use Rattle.gms_table.specs.WordLabels.{labels_of, names_of, all_entered, AreNumbers}
 
--- the labels that are kept
+-- the labels that were read
 abbrev pub read_all : List (Bor (List ℕ)) → List (List ℕ)
 read_all labels = map (λ label. label.now) labels
 
@@ -26,13 +26,15 @@ pub record AreEntered (before after texts : List (List ℕ)) (numbers : List ℕ
   pub numbers_are : AreNumbers after numbers texts
   pub few : 0 < length texts → length after ≤ most_labels
 
--- labels with their numbers in a table of labels in which they were entered; or one of them is one too many; or want of memory
+-- labels with their numbers in a table of labels in which they were entered; or one of them exceeds
+-- the table's limit; or out of memory
 abbrev pub IsEntering : List (List ℕ) → List (List ℕ) → List (List ℕ) → Result (Vec ℕ Global) LabelFault → Type 0
 IsEntering before after texts (Ok numbers) = AreEntered before after texts numbers.items
 IsEntering before after texts (Err label.Full) = most_labels < length (all_entered before texts)
 IsEntering before after texts (Err label.Memory) = Unit {0}
 
--- the error of a word that is no heading and no row label: it is not made of labels, or one of them is one too many
+-- the error of a word that is no heading and no row label: it is not made of labels, or one of them
+-- exceeds the limit of the table of labels
 abbrev pub IsNoName : List (List ℕ) → Word → TableFault → Type 0
 IsNoName table word fault =
     (fault.at ≡ word.at) × (((fault.error ≡ BadRow) × (labels_of word.text ≡ None)) ⊎ ((fault.error ≡ Labels) × (¬ (labels_of word.text ≡ None)) × (most_labels < length (all_entered table (names_of word)))))
@@ -44,7 +46,7 @@ pub record IsName (before after : List (List ℕ)) (word : Word) (numbers : List
   pub numbers_are : AreNumbers after numbers (names_of word)
   pub few : length after ≤ most_labels
 
--- a word with the numbers of its labels, or its error, or want of memory
+-- a word with the numbers of its labels, or its error, or out of memory
 abbrev pub Enters : List (List ℕ) → List (List ℕ) → Word → Result (Vec ℕ Global) TableFaultOrMemory → Type 0
 Enters before after word (Ok numbers) = IsName before after word numbers.items
 Enters before after word (Err (Fault fault)) = IsNoName before word fault

@@ -1,4 +1,4 @@
--- How far a table was read, and what reading more of it answers.
+-- How far a table was read, and the result of reading more of it.
 use Rattle.std.specs.Prelude.{◌≡◌, ℕ, ◌<◌, List, [], ◌∷◌, ◌++◌, length, map, Result, Ok, Err, Vec, string_bytes}
 use Rattle.std.specs.declared.alloc.Global.{Global}
 use Rattle.std.specs.Borrow.{Bor}
@@ -23,22 +23,22 @@ words_in line = words_of line.line (string_bytes line.text)
 abbrev pub lines_of : List TableLine → List (List Word)
 lines_of lines = map (λ line. words_of line.line (string_bytes line.text)) lines
 
--- Nothing is wrong in the parts so far, and their labels were entered.
+-- The parts so far have no fault, and their labels were entered.
 pub record Progress (limit : ℕ) (labels : List (List ℕ)) (before : List Part) (table : List (List ℕ)) : Type 0 where
   pub sound : AreSound limit labels [] before
   pub table_is : table ≡ all_entered labels (texts_of before)
 
--- an answer in place of reading these parts: their first fault, or want of memory
+-- an answer in place of reading these parts: their first fault, or out of memory
 abbrev pub Refuses : ℕ → List (List ℕ) → List Part → TableFaultOrMemory → Type 0
 Refuses limit labels parts (Fault fault) = IsFirstFault limit labels parts fault
 Refuses limit labels parts Memory = Unit {0}
 
--- what reading these words as headings answers
+-- the result of reading these words as headings
 abbrev pub ReadsHeadings : ℕ → List (List ℕ) → List Part → List Word → List (List ℕ) → Result (Vec Heading Global) TableFaultOrMemory → Type 0
 ReadsHeadings limit labels before words table (Ok headings) = Progress limit labels (before ++ map name words) table × AreHeadings table words headings.items
 ReadsHeadings limit labels before words table (Err error) = Refuses limit labels (before ++ map name words) error
 
--- These headings are left of all where those are left out that end before a number begins.
+-- The headings that remain without those that end before a number begins.
 pub record AreLeft (table : List (List ℕ)) (names : List Word) (number : Word) (left : List Heading) : Type 0 where
   pub column : ℕ
   pub rest : List Word
@@ -47,7 +47,7 @@ pub record AreLeft (table : List (List ℕ)) (names : List Word) (number : Word)
   pub met_are : met names number ≡ met rest number
   pub behind : (heading : Heading) (others : List Heading) → left ≡ heading ∷ others → number.at.column < heading.end
 
--- what looking for the heading of a number answers
+-- the result of looking for the heading of a number
 abbrev pub Finds : List (List ℕ) → List Word → Word → Result (Bor Heading) TableError → Type 0
 Finds table names word (Ok heading) = (found : Word) × (met names word ≡ found ∷ []) × IsHeading table found heading.now
 Finds table names word (Err NoColumn) = met names word ≡ []
@@ -57,7 +57,7 @@ Finds table names word (Err BadRow) = ⊥
 Finds table names word (Err NoHeading) = ⊥
 Finds table names word (Err Labels) = ⊥
 
--- These are the numbers of a row's labels, and the headings that hold there, in their order.
+-- These are the numbers of a row's labels, and the headings that apply to it, in order.
 pub record IsRow (table : List (List ℕ)) (label : Word) (names : List Word) (row : List ℕ) (headings : List Heading) : Type 0 where
   pub row_is : AreNumbers table row (names_of label)
   pub headings_are : AreHeadings table names headings
@@ -67,19 +67,19 @@ pub record IsRow (table : List (List ℕ)) (label : Word) (names : List Word) (r
 abbrev pub row_parts : Word → List Word → List Word → List Part
 row_parts label names words = name label ∷ map (cell label names) words
 
--- The first line with words of these lines: its words, and the lines behind it.
+-- The first line with words of these lines: its words, and the lines after it.
 pub record IsFirstLine (lines : List (List Word)) (words : List Word) (rest : List (List Word)) : Type 0 where
   pub some : ¬ (words ≡ [])
   pub spaced : AreSpaced words
   pub parts_are : table_of lines ≡ map name words ++ under words rest
 
 module _ {F : Type 0} (limit : ℕ) (value : F → Number) (labels : List (List ℕ)) where
-  -- Nothing is wrong in the parts so far, their labels were entered, and these are their entries.
+  -- The parts so far have no fault, their labels were entered, and these are their entries.
   pub record Keeps (before : List Part) (table : List (List ℕ)) (entries : List (Entry F)) : Type 0 where
     pub progress : Progress limit labels before table
     pub entries_are : AreEntries limit value table before entries
 
--- Of these lines, of which the first ones stand under these headings, all but the rest were read.
+-- Of these lines, of which the first ones are under these headings, all except the rest were read.
 pub record LinesSoFar {F : Type 0} (limit : ℕ) (value : F → Number) (labels : List (List ℕ)) (before : List Part) (begun : List Word) (all rest : List (List Word)) (table : List (List ℕ)) (entries : List (Entry F)) (headings : List Heading) : Type 0 where
   pub done : List Part
   pub names : List Word

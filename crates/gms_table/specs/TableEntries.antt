@@ -1,6 +1,6 @@
--- The entries of a table: each number stands under one heading, by the columns that they take, and in the row of a label; or the
--- first fault (GAMS User's Guide, "Data Entry: Parameters, Scalars and Tables"). Which faults there are, and which comes first, is
--- this project's own rule.
+-- The entries of a table: each number is under one heading, by the columns that they take, and in
+-- the row of a label; or the first fault (GAMS User's Guide, "Data Entry: Parameters, Scalars and
+-- Tables"). Which faults there are, and which comes first, is this project's rule.
 use Rattle.std.specs.Prelude.{◌≡◌, ◌⊎◌, ℕ, ◌≤◌, ◌<◌, Bool, ◌&&◌, ◌==◌, nat_lt, if◌then◌else◌, List, [], ◌∷◌, ◌++◌, length, map, filter, Contains, None, string_bytes}
 use Rattle.gms_labels.specs.declared.place.Place.{Place}
 use Rattle.gms_labels.specs.Labels.{folded, most_labels}
@@ -24,14 +24,15 @@ use Rattle.gms_table.specs.Faults.{error_code}
 pub data Part : Type 0 where
   -- a heading or a row label
   name : Word → Part
-  -- a later word of a row, where a number is due: with the row's label and the headings that hold there
+  -- a later word of a row, where a number is expected: with the row's label and the headings that
+  -- apply to it
   cell : Word → List Word → Word → Part
 
 -- the word `+`
 abbrev pub is_plus : Word → Bool
 is_plus word = begins (λ b. b == 43) word.text && length word.text == 1
 
--- the words of lines under these headings: behind a `+` stand new headings, and any other line is a row
+-- the words of lines under these headings: new headings follow a `+`, and any other line is a row
 abbrev pub under : List Word → List (List Word) → List Part
 under headings [] = []
 under headings ([] ∷ lines) = under headings lines
@@ -48,7 +49,7 @@ table_of ((first ∷ words) ∷ lines) = map name (first ∷ words) ++ under (fi
 abbrev pub parts_of : List TableLine → List Part
 parts_of lines = table_of (map (λ line. words_of line.line (string_bytes line.text)) lines)
 
--- where a word of a table stands
+-- the place of a word of a table
 abbrev pub place_of_part : Part → Place
 place_of_part (name word) = word.at
 place_of_part (cell row headings word) = word.at
@@ -59,7 +60,7 @@ texts_of [] = []
 texts_of (name word ∷ parts) = names_of word ++ texts_of parts
 texts_of (cell row headings word ∷ parts) = texts_of parts
 
--- ---- which heading a number stands under
+-- ---- which heading a number is under
 
 -- a number at columns p up to q and a heading at columns r up to s meet where p < s and r < q
 abbrev pub meet : Word → Word → Bool
@@ -77,7 +78,7 @@ Key = List (List ℕ) × List (List ℕ)
 abbrev pub key_of : Word → Word → Key
 key_of row heading = (map folded (names_of row), map folded (names_of heading))
 
--- the rows and headings at which numbers stand
+-- the rows and headings of the numbers
 abbrev pub keys_of : List Part → List Key
 keys_of [] = []
 keys_of (name word ∷ parts) = keys_of parts
@@ -86,8 +87,8 @@ keys_of (cell row headings word ∷ parts) = map (key_of row) (met headings word
 -- ---- entries
 
 module _ {F : Type 0} (limit : ℕ) (value : F → Number) (labels : List (List ℕ)) where
-  -- An entry is that of a number in a row under these headings: the one heading that it meets, its place and its value; the labels
-  -- have their numbers in the table of labels.
+  -- An entry is that of a number in a row under these headings: the one heading that it meets, its
+  -- place and its value; the labels have their numbers in the table of labels.
   pub record IsEntry (row : Word) (headings : List Word) (word : Word) (entry : Entry F) : Type 0 where
     pub heading : Word
     pub under_one : met headings word ≡ heading ∷ []
@@ -106,8 +107,9 @@ module _ {F : Type 0} (limit : ℕ) (value : F → Number) (labels : List (List 
 -- ---- faults
 
 module _ (limit : ℕ) (labels : List (List ℕ)) where
-  -- The error stands at a part of a table behind these others. A heading or a row label is not made of labels, or one of its labels
-  -- is one too many. Where a number is due, a number meets no heading, meets two or more, or is the second one of its row and
+  -- The error at a part of a table after these others. A heading or a row label is not made of
+  -- labels, or one of its labels exceeds the limit of the table of labels. Where a number is
+  -- expected, a number meets no heading, meets two or more, or is the second one of its row and
   -- heading; or there is no number within the limit.
   abbrev pub Stands : List Part → Part → TableError → Type 0
   Stands before (name word) BadRow = labels_of word.text ≡ None
@@ -124,12 +126,13 @@ module _ (limit : ℕ) (labels : List (List ℕ)) where
   Stands before (cell row headings word) NoHeading = ⊥
   Stands before (cell row headings word) Labels = ⊥
 
-  -- no error stands at any of these parts, which follow others
+  -- none of these parts, which follow others, has an error
   abbrev pub AreSound : List Part → List Part → Type 0
   AreSound before [] = Unit {0}
   AreSound before (part ∷ parts) = ((error : TableError) → ¬ Stands before part error) × AreSound (before ++ part ∷ []) parts
 
-  -- The first fault of a table: nothing stands before its part, and it is the least that stands there.
+  -- The first fault of a table: no part before its part has an error, and it is the least error
+  -- there.
   pub record IsFirstFault (parts : List Part) (fault : TableFault) : Type 0 where
     pub before : List Part
     pub part : Part
@@ -142,24 +145,24 @@ module _ (limit : ℕ) (labels : List (List ℕ)) where
 
 -- ---- the whole
 
--- a place that is none
+-- a default place
 abbrev pub nowhere : Place
 nowhere = record { line = 0; column = 0 }
 
--- These are the entries of a table, in which there are headings and nothing is wrong, and these are the labels after it, where
--- before it the others were.
+-- These are the entries of a table with headings and without faults; `before` and `after` are the
+-- labels before and after it.
 pub record IsTable {F : Type 0} (limit : ℕ) (value : F → Number) (lines : List TableLine) (before after : List (List ℕ)) (entries : List (Entry F)) : Type 0 where
   pub headed : ¬ (parts_of lines ≡ [])
   pub sound : AreSound limit before [] (parts_of lines)
   pub labels_are : after ≡ all_entered before (texts_of (parts_of lines))
   pub entries_are : AreEntries limit value after (parts_of lines) entries
 
--- the fault of a table: that no line has a heading, or the first in its lines
+-- the fault of a table: no line has a heading, or the first fault in its lines
 abbrev pub IsFault : ℕ → List TableLine → List (List ℕ) → TableFault → Type 0
 IsFault limit lines labels fault =
     ((parts_of lines ≡ []) × (fault ≡ record { error = NoHeading; at = nowhere })) ⊎ IsFirstFault limit labels (parts_of lines) fault
 
--- an answer in place of entries: the first fault of the table, or want of memory
+-- an answer in place of entries: the first fault of the table, or out of memory
 abbrev pub IsRefusal : ℕ → List TableLine → List (List ℕ) → TableFaultOrMemory → Type 0
 IsRefusal limit lines labels (Fault fault) = IsFault limit lines labels fault
 IsRefusal limit lines labels Memory = Unit {0}

@@ -1,5 +1,5 @@
--- The labels of a heading or a row label: labels joined by dots, each unquoted or in quotation marks (GAMS User's Guide, "Set
--- Definition" and "Data Entry: Parameters, Scalars and Tables").
+-- The labels of a heading or a row label: labels joined by dots, each unquoted or in quotation
+-- marks (GAMS User's Guide, "Set Definition" and "Data Entry: Parameters, Scalars and Tables").
 use Rattle.std.specs.Prelude.{◌≡◌, ℕ, ◌+◌, not, ◌&&◌, ◌==◌, nat_le, if◌then◌else◌, List, [], ◌∷◌, ◌++◌, length, take, Option, Some, None, unwrap_or, fold, map}
 use Rattle.std.specs.List.{list_all, prefix_len}
 use Rattle.std.specs.Char.{is_ascii_alphanumeric}
@@ -10,13 +10,15 @@ use Rattle.gms_lexemes.specs.Shapes.{longest_label}
 use Rattle.gms_lexemes.specs.Stretches.{is_dot}
 use Rattle.gms_table.specs.Words.{Word, parted}
 
--- the label that stands behind its first mark: the text before the mark comes again, with nothing behind that; it is of ASCII
+-- the label after its first mark: the text before the closing mark, which nothing follows; it is
+-- ASCII
 abbrev pub quoted_label : ℕ → List ℕ → Option (List ℕ)
 quoted_label mark rest =
     let inner = prefix_len (λ b. not (b == mark)) rest in
     if inner + 1 == length rest && (nat_le inner longest_label && list_all is_plain (take inner rest)) then Some (take inner rest) else None
 
--- the label that is written without marks: a letter or a digit, and then letters, digits, `+`, `-` and `_`
+-- the label that is written without marks: a letter or a digit, and then letters, digits, `+`, `-`
+-- and `_`
 abbrev pub plain_label : List ℕ → Option (List ℕ)
 plain_label text =
     if begins is_ascii_alphanumeric text && (prefix_len is_label_byte text == length text && nat_le (length text) longest_label) then Some text else None
@@ -26,26 +28,26 @@ abbrev pub label_of : List ℕ → Option (List ℕ)
 label_of [] = None
 label_of (b ∷ rest) = if is_quote b then quoted_label b rest else plain_label (b ∷ rest)
 
--- a label before others, where all are labels
+-- a label before others, if all are labels
 abbrev pub with_label : Option (List ℕ) → Option (List (List ℕ)) → Option (List (List ℕ))
 with_label (Some label) (Some others) = Some (label ∷ others)
 with_label (Some label) None = None
 with_label None others = None
 
--- the labels that texts write, where each writes one
+-- the labels that texts write, if each writes one
 abbrev pub labels_among : List (List ℕ) → Option (List (List ℕ))
 labels_among [] = Some []
 labels_among (text ∷ others) = with_label (label_of text) (labels_among others)
 
--- the labels that a text joins by dots, where it is made of labels
+-- the labels that a text joins by dots, if it is made of labels
 abbrev pub labels_of : List ℕ → Option (List (List ℕ))
 labels_of text = labels_among (parted is_dot text)
 
--- the labels of a word, and none where it is not made of labels
+-- the labels of a word, and none if it is not made of labels
 abbrev pub names_of : Word → List (List ℕ)
 names_of word = unwrap_or (labels_of word.text) []
 
--- a table of labels after these were entered, one after another
+-- a table of labels after these were entered in order
 abbrev pub all_entered : List (List ℕ) → List (List ℕ) → List (List ℕ)
 all_entered labels texts = fold entered labels texts
 
@@ -53,6 +55,6 @@ all_entered labels texts = fold entered labels texts
 abbrev pub AreNumbers : List (List ℕ) → List ℕ → List (List ℕ) → Type 0
 AreNumbers labels numbers texts = map Some numbers ≡ map (place_of labels) texts
 
--- a list goes on with others
+-- a list begins with another
 abbrev pub GoesOn : List (List ℕ) → List (List ℕ) → Type 0
 GoesOn before after = (more : List (List ℕ)) × (after ≡ before ++ more)

@@ -1,28 +1,30 @@
--- The words of a line of a table: what stands between its blanks, and the columns that it takes (GAMS User's Guide, "Data Entry:
--- Parameters, Scalars and Tables").
+-- The words of a line of a table: the fields between its blanks, and the columns that they take
+-- (GAMS User's Guide, "Data Entry: Parameters, Scalars and Tables").
 use Rattle.std.specs.Prelude.{ℕ, zero, suc, ◌+◌, Bool, List, [], ◌∷◌, ◌++◌, length, take, drop, fold}
 use Rattle.gms_labels.specs.declared.place.Place.{Place}
 use Rattle.gms_lines.specs.Lines.{is_blank}
 use Rattle.gms_lexemes.specs.Columns.{column_after}
 use Rattle.gms_lexemes.specs.Stretches.{stretch_bytes}
 
--- A word: its place, the column behind it, and its bytes.
+-- A word: its place, the column after it, and its bytes.
 pub record Word : Type 0 where
   pub at : Place
   pub end : ℕ
   pub text : List ℕ
 
--- the stretches behind the first of a text, by those of what stands behind the byte that parts it; none at the end of the text
+-- the fields after the first of a text, given those of what follows the byte that splits it; none
+-- at the end of the text
 abbrev pub others_by : (List ℕ → List (List ℕ)) → List ℕ → List (List ℕ)
 others_by stretches [] = []
 others_by stretches (b ∷ rest) = stretches rest
 
--- the first stretches of a text, no more than so many
+-- the first fields of a text, at most `most` of them
 abbrev pub first_stretches : (ℕ → Bool) → ℕ → List ℕ → List (List ℕ)
 first_stretches test zero text = []
 first_stretches test (suc most) text = take (stretch_bytes test text) text ∷ others_by (first_stretches test most) (drop (stretch_bytes test text) text)
 
--- the stretches between the bytes that part a text, which are no more than its bytes and one; a stretch may be empty
+-- the fields between the bytes that split a text, at most as many as its bytes plus one; a field
+-- may be empty
 abbrev pub parted : (ℕ → Bool) → List ℕ → List (List ℕ)
 parted test text = first_stretches test (suc (length text)) text
 
@@ -30,16 +32,16 @@ parted test text = first_stretches test (suc (length text)) text
 abbrev pub column_of : List ℕ → ℕ → ℕ
 column_of line n = fold column_after 1 (take n line)
 
--- the word of these bytes, which stands here and ends before this column; none where there are no bytes
+-- the word of these bytes, which has this place and ends before this column; none without bytes
 abbrev pub word_of : Place → ℕ → List ℕ → List Word
 word_of at end [] = []
 word_of at end (b ∷ text) = record { at = at; end = end; text = b ∷ text } ∷ []
 
--- the word that these bytes of a line are, of which the first has so many before it
+-- the word of these bytes of a line, which begin at byte `start`
 abbrev pub word_at : ℕ → List ℕ → ℕ → List ℕ → List Word
 word_at number line start text = word_of record { line = number; column = column_of line start } (column_of line (start + length text)) text
 
--- the words among the stretches between the blanks of a line, of which the first begins at this byte
+-- the words among the fields between the blanks of a line, of which the first begins at this byte
 abbrev pub words_among : ℕ → List ℕ → ℕ → List (List ℕ) → List Word
 words_among number line start [] = []
 words_among number line start (text ∷ others) = word_at number line start text ++ words_among number line (start + length text + 1) others

@@ -19,8 +19,8 @@ pub enum TableError {
     /// A second number for the same row label and the same heading.
     #[error("a second number for the same row and heading")]
     RepeatedEntry,
-    /// A malformed heading, row label or number: a heading or a row label that is not made of labels joined by dots, or a
-    /// later word of a row that is no number within the limit.
+    /// A malformed heading, row label or number: a heading or a row label that is not made of
+    /// labels joined by dots, or a later word of a row that is no number within the limit.
     #[error("malformed heading, row label or number")]
     BadRow,
     /// A table without a line of headings.
@@ -67,7 +67,7 @@ impl TableError {
 pub struct TableFault {
     /// The error.
     pub error: TableError,
-    /// Where the word is; line 0 and column 0 for a table without headings.
+    /// The place of the word; line 0 and column 0 for a table without headings.
     pub at: Place,
 }
 

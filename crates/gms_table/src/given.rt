@@ -1,4 +1,4 @@
-//! The entries of a table as they are found, and the rows and headings that they have.
+//! The entries of a table found so far, with their rows and headings.
 ghost use Rattle.std.specs.Prelude.{◌≡◌, ◌++◌, ◌∷◌, [], IfOk, OnOk};
 ghost use Rattle.gms_table.specs.Given.{is_given};
 
@@ -27,7 +27,7 @@ impl Cell {
     }
 }
 
-/// The entries that were found, seen as their list.
+/// The entries found so far. The view is their list.
 #[derive(Drop)]
 pub(crate) struct Entries<F> {
     entries: Vec<Entry<F>>,
@@ -65,7 +65,7 @@ impl<F: Drop> Entries<F> {
         Ok(self.cells.contains(&cell))
     }
 
-    /// Adds an entry at the end.
+    /// Appends an entry.
     pub(crate) fn push(&mut self, alloc: Global, entry: Entry<F>) -> Result<(), AllocError>
         ensures { OnOk result (self.new ≡ self.old ++ entry ∷ []) }
     {

@@ -1,4 +1,4 @@
-//! The headings of a table, and the one that a number stands under.
+//! The headings of a table, and the one above a number.
 ghost use Rattle.std.specs.Prelude.{◌≡◌, ℕ, List};
 ghost use Rattle.gms_table.specs.Words as words;
 ghost use Rattle.gms_table.specs.WordLabels.{GoesOn};
@@ -17,13 +17,13 @@ use std::alloc::Global;
 pub(crate) struct Heading {
     /// The column of its first byte.
     pub(crate) column: u32,
-    /// The column behind it.
+    /// The column after it.
     pub(crate) end: u32,
     /// Its labels.
     pub(crate) labels: Vec<u32>,
 }
 
-/// The headings that these words are, whose labels are entered in a table of labels.
+/// The headings of these words, whose labels are entered in a table of labels.
 pub(crate) fn read_headings(
     alloc: Global,
     table: &mut Labels,
@@ -45,7 +45,7 @@ pub(crate) fn read_headings(
     Ok(headings)
 }
 
-/// The headings that end behind a column.
+/// The headings that end after a column.
 fn ending_behind(headings: &[Heading], column: u32) -> &[Heading]
     ensures { (table : List (List ℕ)) (names : List words.Word) (number : words.Word) →
         AreHeadings table names headings.now → AreSpaced names → number.at.column ≡ column →
@@ -64,7 +64,7 @@ fn begin_before(headings: &[Heading], column: u32) -> bool
 
 /// The one heading that a number meets.
 ///
-/// `NoColumn` comes exactly where it meets none, and `TwoColumns` exactly where it meets two or more.
+/// `NoColumn` exactly if it meets none, and `TwoColumns` exactly if it meets two or more.
 pub(crate) fn heading_of<'a>(
     headings: &'a [Heading],
     word: Word<'_>,

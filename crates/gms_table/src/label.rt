@@ -15,14 +15,14 @@ use gms_labels::{LabelFault, Labels, MOST_BYTES};
 use gms_lexemes::{Separator, label_length, stretch_length};
 use std::alloc::{AllocError, Global};
 
-/// Whether all bytes are of ASCII.
+/// Whether all bytes are ASCII.
 fn are_plain(bytes: &[u8]) -> bool
     ensures { result ≡ list_all is_plain bytes.now }
 {
     bytes.iter().all(|byte| *byte <= 127)
 }
 
-/// The text of bytes that are all of ASCII.
+/// The text of bytes that are all ASCII.
 fn plain_text(bytes: &[u8]) -> Option<&str>
     requires { list_all is_plain bytes.now ≡ true }
     ensures { option_copied result ≡ Some bytes.now }
@@ -30,7 +30,7 @@ fn plain_text(bytes: &[u8]) -> Option<&str>
     str::from_utf8(bytes).ok()
 }
 
-/// How many bytes stand before a mark.
+/// How many bytes come before a mark.
 fn inner_length(mark: u8, rest: &[u8]) -> usize
     ensures value { result ≡ prefix_len (λ b. not (b == mark)) rest.now }
     ensures within { result ≤ length rest.now }
@@ -38,7 +38,7 @@ fn inner_length(mark: u8, rest: &[u8]) -> usize
     rest.iter().take_while(|byte| **byte != mark).count()
 }
 
-/// The label that stands between a mark and the next one, with nothing behind that.
+/// The label between a mark and the next one, which nothing follows.
 fn quoted_label(mark: u8, rest: &[u8]) -> Option<&str>
     ensures label { option_copied result ≡ quoted_label mark rest.now }
     ensures short { IfSome result (λ label. length label.now ≤ 63) }
@@ -59,7 +59,8 @@ fn begins_label(text: &[u8]) -> bool
     matches!(text, [byte, ..] if byte.is_ascii_alphanumeric())
 }
 
-/// The label that is written without marks: a letter or a digit, and then letters, digits, `+`, `-` and `_`.
+/// The label that is written without marks: a letter or a digit, and then letters, digits, `+`, `-`
+/// and `_`.
 fn plain_label(text: &[u8]) -> Option<&str>
     ensures label { option_copied result ≡ plain_label text.now }
     ensures short { IfSome result (λ label. length label.now ≤ 63) }
@@ -116,9 +117,11 @@ fn enter_all(alloc: Global, table: &mut Labels, labels: &[&str]) -> Result<Vec<u
     Ok(numbers)
 }
 
-/// The numbers of the labels of a heading or a row label, in a table of labels in which they are entered.
+/// The numbers of the labels of a heading or a row label, in a table of labels in which they are
+/// entered.
 ///
-/// `BadRow` comes exactly where the word is not made of labels, and `Labels` exactly where one of them is one too many.
+/// `BadRow` exactly if the word is not made of labels, and `Labels` exactly if one of them exceeds
+/// the limit of the table of labels.
 pub(crate) fn enter(
     alloc: Global,
     table: &mut Labels,

@@ -1,4 +1,5 @@
-//! Floor 2, source to tree. Tables of data: numbers under headings and behind row labels, each with its entry, or the first fault of the table.
+//! Layer 2, source to tree. Tables of data: numbers under headings and after row labels, each with
+//! its entry, or the first fault of the table.
 #![tactic(auto)]
 
 mod entry;

@@ -7,7 +7,7 @@ ghost use Rattle.gms_table.specs.ReadNumbers.{ReadsCell};
 use gq_field::{ExactField, Limit};
 use gq_text::{NumberFault, read_decimal};
 
-/// A text without the sign that it begins with, if it does.
+/// A text without its sign, if it begins with one.
 fn unsigned(text: &[u8]) -> &[u8]
     ensures { result.now ≡ unsigned text.now }
 {
@@ -24,7 +24,8 @@ fn is_negative(text: &[u8]) -> bool
     matches!(text, [b'-', ..])
 }
 
-/// The value of a number with or without a sign, or that it is not within the limit. `None` comes exactly where the text is no number.
+/// The value of a number with or without a sign, or that it is not within the limit. `None` exactly
+/// if the text is no number.
 pub(crate) fn read_number<F: ExactField>(text: &[u8]) -> Option<Result<F, Limit>>
     ensures { ReadsCell F.limit F.value text.now result }
 {

@@ -19,7 +19,7 @@ use gms_labels::{Labels, Place};
 use gq_field::ExactField;
 use std::alloc::{AllocError, Global};
 
-/// The first line of a table with words: its words, and the lines behind it.
+/// The first line of a table with words: its words, and the lines after it.
 fn first_line(
     alloc: Global,
     lines: &[TableLine],
@@ -42,8 +42,8 @@ fn first_line(
 
 /// Adds the entry of a number in a row of these labels.
 ///
-/// The fault is the word's least: that it meets no heading or two, that there is an entry with its labels, or that it is no number
-/// within the limit.
+/// The fault is the word's least: it meets no heading or two, there already is an entry with its
+/// labels, or it is no number within the limit.
 fn read_cell<F: ExactField>(
     alloc: Global,
     entries: &mut Entries<F>,
@@ -106,14 +106,14 @@ fn read_row<F: ExactField>(
     Ok(())
 }
 
-/// Whether a word is the `+` behind which new headings stand.
+/// Whether a word is the `+` that new headings follow.
 fn is_plus(word: Word<'_>) -> bool
     ensures { result ≡ is_plus (seen word.entry) }
 {
     matches!(word.text, [b'+'])
 }
 
-/// Reads one more line: new headings behind a `+`, or a row under the headings that hold.
+/// Reads one more line: new headings after a `+`, or a row under the present headings.
 fn read_line<F: ExactField>(
     alloc: Global,
     entries: &mut Entries<F>,
@@ -140,7 +140,7 @@ fn read_line<F: ExactField>(
     read_row(alloc, entries, table, headings.as_slice(), *first, others)
 }
 
-/// Adds the entries of rows, of which the first ones stand under these headings.
+/// Adds the entries of rows, of which the first ones are under these headings.
 fn read_rows<F: ExactField>(
     alloc: Global,
     entries: &mut Entries<F>,
@@ -162,19 +162,23 @@ fn read_rows<F: ExactField>(
     Ok(())
 }
 
-/// The entries of a table, in the order of its numbers (GAMS User's Guide, "Data Entry: Parameters, Scalars and Tables").
+/// The entries of a table, in the order of its numbers (GAMS User's Guide, "Data Entry: Parameters,
+/// Scalars and Tables").
 ///
-/// The first line with words has the headings. A line whose first word is `+` has new headings behind it, which hold for the rows
-/// below. Every other line is a row: a row label, and numbers. Headings and row labels are labels joined by dots; they are entered in
-/// `labels` in the order in which they stand. Each number belongs to the one heading with which it shares a column: its columns go
-/// from its first byte up to, and not with, the one behind it. Lines without words are passed over. A line has at most 32,768 bytes.
+/// The first line with words has the headings. A line whose first word is `+` has new headings
+/// after it, which apply to the rows below. Every other line is a row: a row label, and numbers.
+/// Headings and row labels are labels joined by dots; they are entered in `labels` in the order of
+/// their occurrence. Each number belongs to the one heading with which it shares a column: its
+/// columns go from its first byte up to the next byte after it, not included. Lines without words
+/// are skipped. A line has at most 32,768 bytes.
 ///
-/// A fault is the first in the lines, and at one word the least by number: `NoColumn` at a number that shares a column with no heading,
-/// `TwoColumns` at one that does with two or more, `RepeatedEntry` at the second number of a row label and a heading, `BadRow` at a
-/// heading or a row label that is not made of labels, and at any other word of a row that is no number within the limit, `Labels` at
-/// a heading or a row label of which a label is one too many. `NoHeading`, at line 0 and column 0, comes exactly where no line has a
-/// word. `Memory` comes where memory was wanting. After any of these `labels` may have more labels than before, behind those that it
-/// had.
+/// A fault is the first in the lines, and at one word the least by number: `NoColumn` at a number
+/// that shares a column with no heading, `TwoColumns` at one that does with two or more,
+/// `RepeatedEntry` at the second number of a row label and a heading, `BadRow` at a heading or a
+/// row label that is not made of labels, and at any other word of a row that is no number within
+/// the limit, `Labels` at a heading or a row label with a label beyond the limit of `labels`.
+/// `NoHeading`, at line 0 and column 0, exactly if no line has a word. `Memory` means out of
+/// memory. After any of these, `labels` may be extended by more labels.
 pub fn table<F: ExactField>(
     alloc: Global,
     lines: &[TableLine],

@@ -15,14 +15,14 @@ use std::alloc::{AllocError, Global};
 pub(crate) struct Word<'a> {
     /// The place of its first byte.
     pub(crate) at: Place,
-    /// The column behind it.
+    /// The column after it.
     pub(crate) end: u32,
     /// Its bytes.
     pub(crate) text: &'a [u8],
 }
 
 impl Word<'_> {
-    /// This error, at the place of the word.
+    /// A fault with this error, at the place of the word.
     pub(crate) fn fault(self, error: TableError) -> TableFaultOrMemory
         ensures { result ≡ TableFaultOrMemory.Fault (record { error = error; at = self.entry.at }) }
     {
@@ -30,7 +30,7 @@ impl Word<'_> {
     }
 }
 
-/// The column behind bytes of which the first stands in this column.
+/// The column after bytes of which the first is in this column.
 fn column_behind(mut column: u32, text: &[u8]) -> u32
     requires { column + 8 * length text.now < 2 ^ 32 }
     ensures value { result ≡ fold column_after column text.now }
@@ -43,7 +43,7 @@ fn column_behind(mut column: u32, text: &[u8]) -> u32
     column
 }
 
-/// Adds the word of these bytes, if there are any.
+/// Appends the word of these bytes, if there are any.
 fn push_word<'a>(
     words: &mut Vec<Word<'a>>,
     at: Place,
@@ -58,7 +58,7 @@ fn push_word<'a>(
     Ok(())
 }
 
-/// The words of a line, in order, each with its columns; no two of them meet.
+/// The words of a line, in order, each with its columns; no two of them share a column.
 pub(crate) fn words_of(alloc: Global, number: u32, line: &[u8]) -> Result<Vec<Word<'_>>, AllocError>
     requires { length line.now ≤ longest_line }
     ensures words { IfOk result (λ words. seen_all words.items ≡ words_of number line.now) }

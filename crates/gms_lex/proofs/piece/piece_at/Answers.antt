@@ -1,4 +1,4 @@
--- What stands first lies within the text.
+-- The first piece is within the text.
 use Rattle.gms_lex.proofs.PieceLemmas.{table_within, plain_within}
 use Rattle.gms_lex.proofs.piece.piece_at.Goals as goal
 

@@ -3,7 +3,7 @@ use Rattle.gms_lines.specs.Lines.{before}
 use Rattle.gms_lex.specs.Pieces.{begins_other}
 use Rattle.gms_lex.proofs.piece.space_length.Given as goal
 
--- so many bytes are blank, and those that are blank at the front of the rest
+-- `count` bytes are blank, and then those that are blank at the start of the rest
 abbrev pub invariant-loop-count : goal.invariant-loop-count
 invariant-loop-count l = (l.count ≤ length l.text) × (before begins_other l.text ≡ l.count + before begins_other (drop l.count l.text))
 

@@ -2,7 +2,7 @@ use Rattle.std.proofs.Common.{◌≡◌, ◌+◌, ◌-◌, ◌*◌, ◌≤◌, l
 use Rattle.gms_lex.specs.Places.{place_behind}
 use Rattle.gms_lex.proofs.place.place_behind.Given as goal
 
--- the place behind the bytes so far, which leaves room for the rest
+-- the place after the bytes so far, which stays within the bounds for the rest
 abbrev pub invariant-loop-byte : goal.invariant-loop-byte
 invariant-loop-byte l = record {
   at : l.at ≡ place_behind l.fn.at (take l.byte-index l.bytes);

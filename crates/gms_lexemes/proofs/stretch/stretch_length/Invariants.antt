@@ -3,7 +3,7 @@ use Rattle.gms_lexemes.specs.declared.stretch.Stand.TheVariants.{First}
 use Rattle.gms_lexemes.specs.Stretches.{is_separator, stretch_length}
 use Rattle.gms_lexemes.proofs.stretch.stretch_length.Given as goal
 
--- so many bytes belong to the stretch, and those of the rest
+-- `count` bytes belong to the field, and then those of the field in the rest
 abbrev pub invariant-loop-count : goal.invariant-loop-count
 invariant-loop-count l =
     (l.count ≤ length l.text) × (stretch_length (is_separator l.separator) First l.text ≡ l.count + stretch_length (is_separator l.separator) l.stand (drop l.count l.text))

@@ -2,7 +2,7 @@ use Rattle.std.proofs.Common.{◌≡◌, ◌+◌, ◌-◌, ◌≤◌, length, dr
 use Rattle.gms_lines.specs.Lines.{before, is_line_end}
 use Rattle.gms_lines.proofs.line.content_length.Given as goal
 
--- so many bytes stand before the first line end, and those that stand before it in the rest
+-- `count` bytes come before the first line end, and then those before it in the rest
 abbrev pub invariant-loop-count : goal.invariant-loop-count
 invariant-loop-count l = (l.count ≤ length l.text) × (before is_line_end l.text ≡ l.count + before is_line_end (drop l.count l.text))
 

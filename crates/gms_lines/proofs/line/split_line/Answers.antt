@@ -1,4 +1,4 @@
--- The first line is what stands up to the first line feed.
+-- The first line ends with the first line feed.
 use Rattle.gms_lines.proofs.LineLemmas.{first_line, length_some}
 use Rattle.std.proofs.Common.{◌∙◌, sym}
 use Rattle.gms_lines.proofs.line.split_line.Goals as goal

@@ -1,4 +1,4 @@
--- How a solve may end is told by its number and by its text.
+-- Its number and its text each determine how a solve may end.
 use Rattle.std.proofs.Common.{◌≡◌, ℕ, ◌≤◌, List, [], ◌∷◌, ◌==◌, if◌then◌else◌, get_or, length, refl, sym, ap, ◌∙◌, arith}
 use Rattle.gms_store.specs.declared.status.SolveStatus.{SolveStatus}
 use Rattle.gms_store.specs.declared.status.SolveStatus.TheVariants.{Unsolved, Optimal, Unbounded, Infeasible, Intermediate, Feasible, Unanswered}
@@ -20,7 +20,7 @@ number_back Intermediate = refl
 number_back Feasible = refl
 number_back Unanswered = refl
 
--- the status whose text is so long, with this first byte and this byte behind the first word
+-- the status whose text has this length, this first byte and this byte after the first word
 abbrev of_text : ℕ → ℕ → ℕ → SolveStatus
 of_text long first next =
     if long == 7 then Optimal else (if long == 9 then Unbounded else (if long == 17 then Unanswered else (if long == 10 then (if first == 78 then Unsolved else Infeasible) else (if next == 73 then Intermediate else Feasible))))

@@ -1,4 +1,4 @@
--- The headings that are left, the first of which the number may meet.
+-- The remaining headings, the first of which the number may meet.
 use Rattle.std.proofs.Common.{refl, sym, arith}
 use Rattle.gms_table.specs.Shown.{seen}
 use Rattle.gms_table.proofs.LabelLemmas.{nothing}

@@ -9,7 +9,7 @@ use Rattle.gms_table.proofs.LabelLemmas.{GoesOn-refl, GoesOn-trans}
 use Rattle.gms_table.proofs.RowSteps.{lines_begun, lines_read}
 use Rattle.gms_table.proofs.tables.read_rows.Goals as goal
 
--- the words of the lines that are left begin with those of the next line
+-- the words of the remaining lines begin with those of the next line
 lines_next : (lines : List TableLine) (i : ℕ) (line : TableLine) → i < length lines → line ≡ get_or lines i line → lines_of (drop i lines) ≡ words_in line ∷ lines_of (drop (i + 1) lines)
 lines_next lines i line l is = at_drop_more lines_of lines i line l ∙ ap (λ (next : TableLine). words_in next ∷ lines_of (drop (i + 1) lines)) (sym is)
 

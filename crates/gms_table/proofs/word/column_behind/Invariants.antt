@@ -2,7 +2,7 @@ use Rattle.std.proofs.Common.{◌≡◌, ◌+◌, ◌-◌, ◌*◌, ◌≤◌, l
 use Rattle.gms_lexemes.specs.Columns.{column_after}
 use Rattle.gms_table.proofs.word.column_behind.Given as goal
 
--- the column behind the bytes so far, which leaves room for the rest
+-- the column after the bytes so far, which stays within the bound for the rest
 abbrev pub invariant-loop-byte : goal.invariant-loop-byte
 invariant-loop-byte l = record {
   column : l.column ≡ fold column_after l.fn.column (take l.byte-index l.text);

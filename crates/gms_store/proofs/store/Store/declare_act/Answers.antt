@@ -2,7 +2,7 @@ use Rattle.std.proofs.Common.{◌≡◌, ◌⊎◌, inl, inr, ℕ, OnErr, Result
 use Rattle.gms_store.specs.Declarations.{declared_first}
 use Rattle.gms_store.proofs.store.Store.declare_act.Goals as goal
 
--- what is said after an error, said in other words
+-- a property of an error, restated
 on_err : {X E P Q : Type 0} (r : Result X E) → (P → Q) → OnErr r P → OnErr r Q
 on_err (Ok x) f h = tt
 on_err (Err e) f h = f h
